@@ -1,0 +1,60 @@
+-- Why each clause of *closed* is needed: a text that only this clause keeps from being closed, and a text that is lost or
+-- changed behind it. Then texts that are closed, so that the joining law speaks of something. Assumes nothing.
+use mathlib.Core.Path.{_≡_, refl}
+use mathlib.Core.Bool.{true}
+use Rattle.spec.specs.Bytes.{ascii}
+use Rattle.spec.specs.Closed.{isClosed}
+use Rattle.spec.specs.Table.{isLoss}
+use Rattle.spec.specs.Computed.{computed}
+
+last-byte-live : isLoss "elsi" "f" ≡ true
+unfolding computed
+last-byte-live = refl
+
+no-backslash : isLoss "'\\'';" "SELECT a INTO v;" ≡ true
+unfolding computed
+no-backslash = refl
+
+no-block-comment : isLoss "/*'*/;" "SELECT a INTO v;" ≡ true
+unfolding computed
+no-block-comment = refl
+
+no-line-comment : isLoss "v:=--\n;" "RAISE LOG" ≡ true
+unfolding computed
+no-line-comment = refl
+
+no-newline-in-literal : isLoss "\"\n\"SELECT a,b INTO v,w;" "RAISE LOG" ≡ true
+unfolding computed
+no-newline-in-literal = refl
+
+word-behind-raise : isLoss "a:=RAISE ;" "NOTICE" ≡ true
+unfolding computed
+word-behind-raise = refl
+
+space-behind-raise : isLoss "RAISE;" "NOTICE" ≡ true
+unfolding computed
+space-behind-raise = refl
+
+space-and-no-quote : isLoss "RAISE'NOTICE ';" "x" ≡ true
+unfolding computed
+space-and-no-quote = refl
+
+word-ends : isLoss "RAISE NOTICE$$ $$;" "x" ≡ true
+unfolding computed
+word-ends = refl
+
+dollar-does-not-excuse : isLoss "$$$$RAISE;" "NOTICE" ≡ true
+unfolding computed
+dollar-does-not-excuse = refl
+
+assignment-closed : isClosed (ascii "IF a THEN v := $$x;y$$; END IF;") ≡ true
+unfolding computed
+assignment-closed = refl
+
+select-closed : isClosed (ascii "\n  SELECT a, b INTO v, w FROM t WHERE n = 'it''s';") ≡ true
+unfolding computed
+select-closed = refl
+
+raise-closed : isClosed (ascii "RAISE EXCEPTION 'bus locked'; prefix_raise := 1;") ≡ true
+unfolding computed
+raise-closed = refl

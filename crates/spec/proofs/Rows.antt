@@ -1,0 +1,85 @@
+-- The starred rows of document 01, each by computation. A row that names no call is about a definition. Assumes nothing.
+use mathlib.Core.Path.{_≡_, refl}
+use mathlib.Core.Bool.{true, false}
+use mathlib.Core.List.{List, [], _∷_}
+use Prim.Native.Nat.{ℕ}
+use Rattle.spec.specs.Bytes.{ascii}
+use Rattle.spec.specs.Map.{mapOf}
+use Rattle.spec.specs.Requote.{requoted}
+use Rattle.spec.specs.Declarations.{requotedDefault}
+use Rattle.spec.specs.Closed.{isClosed}
+use Rattle.spec.specs.Table.{body, row}
+use Rattle.spec.specs.Computed.{computed}
+
+empty : body "" ≡ row 0 0 0 0 ""
+unfolding computed
+empty = refl
+
+dashes : mapOf (ascii "--") ≡ 1 ∷ 1 ∷ []
+unfolding computed
+dashes = refl
+
+line-comment : mapOf (ascii "--\na") ≡ 1 ∷ 1 ∷ 1 ∷ 0 ∷ []
+unfolding computed
+line-comment = refl
+
+digit-tag-map : mapOf (ascii "$1$a$1$") ≡ 0 ∷ 0 ∷ 1 ∷ 1 ∷ 1 ∷ 1 ∷ 1 ∷ []
+unfolding computed
+digit-tag-map = refl
+
+digit-tag-requoted : requoted (ascii "$1$a$1$") ≡ ascii "$1'1$'"
+unfolding computed
+digit-tag-requoted = refl
+
+digit-tag-default : requotedDefault (ascii "$1$a$1$") ≡ ascii "'a'"
+unfolding computed
+digit-tag-default = refl
+
+dollar-beside-name : body "a$$b$$" ≡ row 0 0 4 0 "a'b'"
+unfolding computed
+dollar-beside-name = refl
+
+elsif : body "elsif" ≡ row 0 0 6 0 "ELSEIF"
+unfolding computed
+elsif = refl
+
+preelsif : body "preelsif" ≡ row 0 0 8 0 "preelsif"
+unfolding computed
+preelsif = refl
+
+qualified-target : body "NEW.v := 1;" ≡ row 4 3 5 0 "NEW.v"
+unfolding computed
+qualified-target = refl
+
+case-comparison : body "CASE WHEN c THEN t.n = 1 ELSE 0 END" ≡ row 0 0 35 0 "CASE WHEN c THEN t.n = 1 ELSE 0 END"
+unfolding computed
+case-comparison = refl
+
+select-into : body "SELECT a INTO v;" ≡ row 0 0 27 0 "SET v = (SELECT a LIMIT 1);"
+unfolding computed
+select-into = refl
+
+two-spaces : body "RAISE  EXCEPTION 'a';" ≡ row 0 0 21 0 "RAISE  EXCEPTION 'a';"
+unfolding computed
+two-spaces = refl
+
+no-message : body "RAISE EXCEPTION;" ≡ row 0 0 22 0 "SELECT RAISE(ABORT, );"
+unfolding computed
+no-message = refl
+
+-- `v := raise ;` is not closed: rewritten it ends `raise;`, and a RAISE swallows what is joined to it
+raise-not-closed : isClosed (ascii "v := raise ;") ≡ false
+unfolding computed
+raise-not-closed = refl
+
+raise-alone : body "v := raise ;" ≡ row 0 0 14 0 "SET v = raise;"
+unfolding computed
+raise-alone = refl
+
+behind-alone : body "EXCEPTION 'a';" ≡ row 0 0 14 0 "EXCEPTION 'a';"
+unfolding computed
+behind-alone = refl
+
+raise-joined : body "v := raise ;EXCEPTION 'a';" ≡ row 0 0 33 0 "SET v = SELECT RAISE(ABORT, 'a');"
+unfolding computed
+raise-joined = refl

@@ -1,0 +1,16 @@
+pub mod Lists
+pub mod Bytes
+pub mod Spans
+pub mod Map
+pub mod Search
+pub mod Requote
+pub mod Elsif
+pub mod Assignments
+pub mod SelectInto
+pub mod Raise
+pub mod Body
+pub mod Declarations
+pub mod Closed
+pub mod Answers
+pub mod Table
+pub mod Computed

@@ -1,0 +1,177 @@
+-- Document 01, "The rewritten body", pass 5: RAISE, and refusal 5. First what becomes of each RAISE, then the text made of
+-- it. Assumes nothing.
+use Prim.Native.Nat.{ℕ, zero, suc, _+_, _-_}
+use mathlib.Core.Bool.{Bool, true, false, cond, not, _&&_, _||_}
+use mathlib.Core.List.{List, [], _∷_, _++_}
+use mathlib.Core.Option.{Option, none, some}
+use lib.Dec.{eqb}
+use lib.ListN.{length, take, drop}
+use Rattle.spec.specs.Bytes.{ascii, isWord, isW}
+use Rattle.spec.specs.Lists.{isEmpty, takeWhile, dropWhile}
+use Rattle.spec.specs.Map.{Marked, live, quoted, byte, bytes, lives, markedText, frontByte, ofByte, isLiveByte}
+use Rattle.spec.specs.Search.{wordHere, startsIgnoringCase}
+use Rattle.spec.specs.Assignments.{Outcome, done, qualified, clause, _⊕_, trim}
+
+-- behind an opening `'`: the length through the quote that closes the literal, 0 if none does; `''` stays inside,
+-- backslash is plain
+unfoldable pub closeLen : List Marked → ℕ
+closeLen [] = 0
+closeLen (x ∷ []) = cond (eqb (byte x) 39) 1 0
+closeLen (x ∷ y ∷ t) =
+    let pair = longer 2 (closeLen t) in
+    let one = longer 1 (closeLen (y ∷ t)) in
+    let quote = cond (eqb (byte y) 39) pair 1 in
+    cond (eqb (byte x) 39) quote one
+  where
+    longer : ℕ → ℕ → ℕ
+    longer k n = cond (eqb n 0) 0 (k + n)
+
+-- m: the leading closed `'` literal, else the trimmed text up to the first comma
+unfoldable pub message : List Marked → List Marked
+message t =
+    let n = closeLen (drop 1 t) in
+    let literal = take (1 + n) t in
+    let words = trim (takeWhile (ofByte (λ c. not (eqb c 44))) t) in
+    cond (eqb (frontByte t) 39 && not (eqb n 0)) literal words
+
+-- what becomes of a RAISE
+pub data Fate : Type 0 where
+  -- `SELECT RAISE(ABORT, m);` with this m
+  rewritten : List Marked → Fate
+  dropped : Fate
+  -- it passes, with its separator
+  passed : List Marked → Fate
+  -- refusal 5, with the clause from USING
+  refused : List ℕ → Fate
+
+-- the content behind USING: MESSAGE, `=`, then text starting with `'`, its m with only W behind; anything else is refused
+unfoldable pub usingFate : List Marked → List Marked → Fate
+usingFate content behind =
+    let a = dropWhile (ofByte isW) behind in
+    let b = dropWhile (ofByte isW) (drop 7 a) in
+    let c = dropWhile (ofByte isW) (drop 1 b) in
+    let m = message c in
+    let fits =
+    startsIgnoringCase (ascii "MESSAGE") a
+    && (eqb (frontByte b) 61
+    && (eqb (frontByte c) 39 && isEmpty (dropWhile (ofByte isW) (drop (length m) c)))) in
+    cond fits (rewritten m) (refused (bytes content))
+
+-- the trimmed content of a statement that aborts
+unfoldable pub abortFate : List Marked → Fate
+abortFate content =
+    let clauseFate = usingFate content (drop 5 content) in
+    let plainFate = rewritten (message content) in
+    cond (startsIgnoringCase (ascii "USING") content) clauseFate plainFate
+
+pub data Level : Type 0 where
+  exception notice warning debug log info : Level
+
+pub record LevelWord : Type 0 where
+  pub word : List ℕ
+  pub level : Level
+
+-- the levels are prefixes; INFO with a space, newline or `;`
+unfoldable pub levelWords : List LevelWord
+levelWords =
+    record { word = ascii "EXCEPTION"; level = exception }
+    ∷ record { word = ascii "NOTICE"; level = notice }
+    ∷ record { word = ascii "WARNING"; level = warning }
+    ∷ record { word = ascii "DEBUG"; level = debug }
+    ∷ record { word = ascii "LOG"; level = log }
+    ∷ record { word = ascii "INFO "; level = info }
+    ∷ record { word = ascii "INFO\n"; level = info }
+    ∷ record { word = ascii "INFO;"; level = info }
+    ∷ []
+
+-- the level that stands at the front, ignoring case
+unfoldable pub levelIn : List LevelWord → List Marked → Option Level
+levelIn [] t = none
+levelIn (w ∷ ws) t =
+    let more = levelIn ws t in
+    cond (startsIgnoringCase (w .word) t) (some (w .level)) more
+
+-- W or `;`
+unfoldable pub endsLevel : ℕ → Bool
+endsLevel c = isW c || eqb c 59
+
+abbrev pub isException : Level → Bool
+isException exception = true
+isException notice = false
+isException warning = false
+isException debug = false
+isException log = false
+isException info = false
+
+-- how long the level is: EXCEPTION its own letters, the others run to W or `;`
+unfoldable pub levelLen : Level → List Marked → ℕ
+levelLen l t =
+    let run = length (takeWhile (ofByte (λ c. not (endsLevel c))) t) in
+    cond (isException l) 9 run
+
+pub data Action : Type 0 where
+  abort drops : Action
+
+-- EXCEPTION aborts, the others vanish
+unfoldable pub actionOf : Level → Action
+actionOf exception = abort
+actionOf notice = drops
+actionOf warning = drops
+actionOf debug = drops
+actionOf log = drops
+actionOf info = drops
+
+-- the statement's content: read afresh behind the level, up to the next live `;` or the end
+unfoldable pub contentOf : List Marked → List Marked
+contentOf t = takeWhile (λ (x : Marked). not (isLiveByte 59 x)) (markedText (bytes t))
+
+unfoldable pub actionFate : Action → List Marked → Fate
+actionFate abort content = abortFate (trim content)
+actionFate drops content = dropped
+
+-- a RAISE: how many bytes it takes, up to where the search goes on, and its fate
+pub record Raised : Type 0 where
+  pub length : ℕ
+  pub fate : Fate
+
+-- t starts with RAISE, one separator byte follows, and then perhaps a level
+unfoldable pub raisedAt : Option Level → List Marked → Raised
+raisedAt none t = record { length = 6; fate = passed (take 6 t) }
+raisedAt (some l) t =
+    let n = levelLen l (drop 6 t) in
+    let content = contentOf (drop (6 + n) t) in
+    record { length = 6 + n + length content + 1; fate = actionFate (actionOf l) content }
+
+-- a byte that stays, or a RAISE
+pub data Part : Type 0 where
+  kept : Marked → Part
+  raised : Raised → Part
+
+-- the search for live RAISE in the map of the whole text; k bytes of the last one are still to pass, p is the byte before
+unfoldable pub raisesFrom : ℕ → ℕ → List Marked → List Part
+raisesFrom k p [] = []
+raisesFrom zero p (x ∷ t) =
+    let r = raisedAt (levelIn levelWords (drop 5 t)) (x ∷ t) in
+    let stays = kept x ∷ raisesFrom 0 (byte x) t in
+    let goes = raised r ∷ raisesFrom (r .length - 1) (byte x) t in
+    cond (wordHere isWord (ascii "RAISE") p (x ∷ t)) goes stays
+raisesFrom (suc k) p (x ∷ t) = raisesFrom k (byte x) t
+
+-- the text made of a fate
+unfoldable pub fateText : Fate → Outcome
+fateText (rewritten m) = done (lives (ascii "SELECT RAISE(ABORT, ") ++ (m ++ lives (ascii ");")))
+fateText dropped = done []
+fateText (passed t) = done t
+fateText (refused c) = clause c
+
+unfoldable pub partText : Part → Outcome
+partText (kept x) = done (x ∷ [])
+partText (raised r) = fateText (r .fate)
+
+unfoldable pub joinParts : List Part → Outcome
+joinParts [] = done []
+joinParts (p ∷ ps) = partText p ⊕ joinParts ps
+
+-- pass 5
+unfoldable pub raise : List Marked → Outcome
+raise t = joinParts (raisesFrom 0 0 t)

@@ -1,0 +1,82 @@
+// The types that document 01's definitions name. The definitions themselves stand in specs/.
+
+// A dollar literal: its length, where its inside starts and how long that is, and whether it is closed.
+pub struct DollarQuoted {
+    pub span: usize,
+    pub inner_start: usize,
+    pub inner_len: usize,
+    pub closed: bool,
+}
+
+// One span at the front of a text; each kind carries its length.
+pub enum Span {
+    // A comment or a quoted literal, kept as it stands.
+    Verbatim(usize),
+    // A dollar literal.
+    Dollar(DollarQuoted),
+    // Live text.
+    Code(usize),
+}
+
+// A place in a text, for a walk from span to span.
+pub struct Cursor {
+    pub at: usize,
+}
+
+// What a cursor's step finds: the span and the cursor behind it, or the text's end.
+pub enum Step {
+    Taken(Span, Cursor),
+    Done,
+}
+
+// Where something stands first.
+pub enum Found {
+    At(usize),
+    Nothing,
+}
+
+// The refusals that are checked before anything is written.
+pub enum Refusal {
+    // 1: the text is over the limit.
+    TextTooLong,
+    // 3: a lent buffer is too short.
+    BufferTooShort,
+    // 2: the offset of the first byte over 127, in the text or in the needle.
+    NotAscii(usize),
+}
+
+// Whether a call may begin.
+pub enum Check {
+    Passed,
+    Refused(Refusal),
+}
+
+// What a search answers.
+pub enum Search {
+    // Found, at this place; 0 for a yes/no search.
+    Found(usize),
+    NotFound,
+    Refused(Refusal),
+}
+
+// What a search that fills a buffer answers.
+pub enum Filled {
+    // How many pieces or bytes the result has; 0 for a map.
+    Count(usize),
+    Refused(Refusal),
+}
+
+// What a rewriting call answers.
+pub enum Rewritten {
+    Accepted { length: usize, records: usize },
+    // 1, 3, 2.
+    Refused(Refusal),
+    // 7: over 512 different names are declared.
+    TooManyNames,
+    // 4: the lengths of q and of `q.n`.
+    QualifiedTarget { qualifier: usize, length: usize },
+    // 5: the length of the clause from USING.
+    UsingClause { length: usize },
+    // 6: a pass's result exceeds the buffer size.
+    ResultTooLong,
+}
