@@ -1,2 +1,5 @@
 pub mod Rows
 pub mod ClosedRows
+pub mod Choice
+pub mod SpanLaws
+pub mod MapLaws

@@ -4,7 +4,7 @@ use mathlib.Core.Bool.{Bool, true, false, cond, not, _&&_, _||_}
 use mathlib.Core.List.{List, [], _∷_, _++_, map}
 use mathlib.Core.Option.{Option, none, some}
 use lib.Dec.{eqb, ltb, leb}
-use lib.ListN.{length, take, drop, replicate}
+use lib.ListN.{length, getD, take, drop, replicate}
 use Rattle.spec.specs.Bytes.{ascii, isIdent, isW, isPrefix, isSame, isBefore}
 use Rattle.spec.specs.Lists.{isEmpty, takeWhile, keep}
 use Rattle.spec.specs.Map.{Marked, byte, bytes, markedText, ofByte, frontByte}
@@ -170,3 +170,14 @@ recordsAt all at (d ∷ ds) = recordAt all at d ++ recordsAt all (at + length (p
 -- all numbers: record 0 is the head, its other numbers 0
 unfoldable pub numbersOf : List Declared → List ℕ
 numbersOf ds = headNext ds ∷ (replicate (recordWidth - 1) 0 ++ recordsAt ds 0 ds)
+
+-- the records that a chain of next numbers visits from record i on, at most n of them; zero ends it
+unfoldable pub chainFrom : ℕ → List ℕ → ℕ → List ℕ
+chainFrom zero numbers i = []
+chainFrom (suc n) numbers i =
+    let rest = i ∷ chainFrom n numbers (getD numbers (recordWidth * i) 0) in
+    cond (eqb i 0) [] rest
+
+-- the chain from the head
+unfoldable pub chain : List Declared → List ℕ
+chain ds = chainFrom (length ds) (numbersOf ds) (getD (numbersOf ds) 0 0)

@@ -1,11 +1,14 @@
 -- How a row of document 01's table is written down. Assumes nothing.
-use Prim.Native.Nat.{ℕ}
+use Prim.Native.Nat.{ℕ, _+_, _*_}
 use Prim.Native.String.{String}
-use mathlib.Core.Bool.{Bool, not, _&&_}
-use mathlib.Core.List.{List, _++_}
+use mathlib.Core.Bool.{Bool, cond, not, _&&_}
+use mathlib.Core.List.{List, [], _∷_, _++_}
+use lib.Dec.{eqb}
+use lib.ListN.{getD, take, drop}
 use Rattle.spec.specs.Bytes.{ascii, isSame}
 use Rattle.spec.specs.Closed.{isClosed}
-use Rattle.spec.specs.Answers.{CallNumbers, callNumbers, bodyResult}
+use Rattle.spec.specs.Declarations.{recordWidth, recordLimit, chainFrom}
+use Rattle.spec.specs.Answers.{CallNumbers, callNumbers, Result, bodyResult, functionResult}
 
 -- what a call whose checks pass gives: the four numbers and the output
 pub record Row : Type 0 where
@@ -19,6 +22,36 @@ body s = record { numbers = callNumbers (bodyResult (ascii s) .answer); output =
 -- number, place, output length and records, then the output
 abbrev pub row : ℕ → ℕ → ℕ → ℕ → String → Row
 row n p l r s = record { numbers = record { number = n; place = p; length = l; records = r }; output = ascii s }
+
+-- a declaration as its name, 256, its type, then 257 and the default or 258 for none, and 259; read off the numbers of
+-- record i and the packed text
+unfoldable pub unpacked : List ℕ → List ℕ → ℕ → List ℕ
+unpacked numbers text i =
+    let at : ℕ → ℕ = λ k. getD numbers (recordWidth * i + k) 0 in
+    let slice : ℕ → List ℕ = λ k. take (at (k + 1)) (drop (at k) text) in
+    let default : List ℕ = 257 ∷ slice 6 in
+    slice 1 ++ (256 ∷ (slice 3 ++ (cond (eqb (at 5) 1) default (258 ∷ []) ++ (259 ∷ []))))
+
+unfoldable pub unpackedAll : List ℕ → List ℕ → List ℕ → List ℕ
+unpackedAll numbers text [] = []
+unpackedAll numbers text (i ∷ is) = unpacked numbers text i ++ unpackedAll numbers text is
+
+-- what the function call gives: its row, and the declarations along the chain
+pub record FunctionRow : Type 0 where
+  pub row : Row
+  pub declared : List ℕ
+
+unfoldable pub rowOf : Result → FunctionRow
+rowOf r =
+    let declared = unpackedAll (r .records) (r .declared) (chainFrom recordLimit (r .records) (getD (r .records) 0 0)) in
+    record { row = record { numbers = callNumbers (r .answer); output = r .output }; declared = declared }
+
+-- the function call on this text
+unfoldable pub function : String → FunctionRow
+function s = rowOf (functionResult (ascii s))
+
+abbrev pub functionRow : ℕ → ℕ → ℕ → ℕ → String → List ℕ → FunctionRow
+functionRow n p l r s ds = record { row = row n p l r s; declared = ds }
 
 -- a is not closed, and rewriting a with x behind it is not the two rewritings joined
 unfoldable pub isLoss : String → String → Bool

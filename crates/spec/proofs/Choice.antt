@@ -1,0 +1,31 @@
+-- Choices by a Bool. Assumes nothing.
+use mathlib.Core.Path.{_≡_, refl}
+use mathlib.Core.Bool.{Bool, true, false, cond, not, _&&_, _||_, false≢true}
+use Prim.Native.Nat.{ℕ, _≤_}
+
+-- a proof by the two cases of a test, each with its equation
+pub by : {P : Type 0} (b : Bool) → (b ≡ true → P) → (b ≡ false → P) → P
+by true p q = p refl
+by false p q = q refl
+
+-- what holds of both arms, each under its test, holds of the choice
+pub cond-case : {A : Type 0} (P : A → Type 0) (b : Bool) (x y : A) → (b ≡ true → P x) → (b ≡ false → P y) → P (cond b x y)
+cond-case P true x y p q = p refl
+cond-case P false x y p q = q refl
+
+-- a choice is within a bound that both arms are within
+pub cond-le : (b : Bool) (x y n : ℕ) → x ≤ n → y ≤ n → cond b x y ≤ n
+cond-le true x y n p q = p
+cond-le false x y n p q = q
+
+pub and-left : (a b : Bool) → (a && b) ≡ true → a ≡ true
+and-left true b h = refl
+and-left false b h = absurd (false≢true h)
+
+pub and-right : (a b : Bool) → (a && b) ≡ true → b ≡ true
+and-right true b h = h
+and-right false b h = absurd (false≢true h)
+
+pub and-both : (a b : Bool) → a ≡ true → b ≡ true → (a && b) ≡ true
+and-both true b p q = q
+and-both false b p q = absurd (false≢true p)

@@ -1,0 +1,99 @@
+//! The answer of the reference to one question, in the line format.
+
+use reference::context::PlPgSqlContext;
+use reference::preprocessor::PlPgSqlPreprocessor;
+use reference::scanner::{Region, Scanner};
+use reference::Error;
+
+use crate::declarations;
+use crate::hex;
+use crate::question::Question;
+
+pub fn answer(question: &Question) -> Result<String, String> {
+    Ok(match question {
+        Question::Body(text) => return body(text),
+        Question::Function(text) => return function(text),
+        Question::Regions(text) => regions(text),
+        Question::FindKeyword(text, keyword, from) => {
+            place(Scanner::new(text).find_keyword(keyword, *from))
+        }
+        Question::FindInCode(text, byte) => place(Scanner::new(text).find_in_code(*byte)),
+        Question::FindStrInCode(text, needle) => place(Scanner::new(text).find_str_in_code(needle)),
+        Question::NextWordInCode(text, from) => next_word(text, *from),
+        Question::SplitInCode(text, byte) => split(text, *byte),
+        Question::Requote(text) => {
+            hex::encode(Scanner::new(text).requote_dollar_literals().as_bytes())
+        }
+        Question::Unterminated(text) => flag(Scanner::new(text).has_unterminated_dollar_quote()),
+        Question::Handler(text) => flag(PlPgSqlPreprocessor::has_exception_handler(text)),
+    })
+}
+
+fn body(text: &str) -> Result<String, String> {
+    match PlPgSqlPreprocessor::transform_body(text, &PlPgSqlContext::new()) {
+        Ok(output) => Ok(accepted(&output, 0)),
+        Err(error) => refused(&error),
+    }
+}
+
+fn function(text: &str) -> Result<String, String> {
+    match PlPgSqlPreprocessor::preprocess(text) {
+        Ok((output, context)) => {
+            let list = declarations::list(&context)?;
+            let fields: String = list.iter().map(|one| format!(" {}", one.fields())).collect();
+            Ok(accepted(&output, list.len()) + &fields)
+        }
+        Err(error) => refused(&error),
+    }
+}
+
+fn accepted(output: &str, count: usize) -> String {
+    format!("0 0 {} {count} {}", output.len(), hex::encode(output.as_bytes()))
+}
+
+/// The two refusals that a rewriting call can give.
+fn refused(error: &Error) -> Result<String, String> {
+    let (number, place, output) = match error {
+        Error::QualifiedAssignment { qualifier, name } => {
+            (4, qualifier.len(), format!("{qualifier}.{name}"))
+        }
+        Error::UnsupportedRaiseUsing { clause } => (5, 0, clause.clone()),
+        other => return Err(format!("an error that no rewriting gives: {other:?}")),
+    };
+    Ok(format!("{number} {place} {} 0 {}", output.len(), hex::encode(output.as_bytes())))
+}
+
+fn regions(text: &str) -> String {
+    let map = Scanner::new(text).regions();
+    let bytes: Vec<u8> = map.iter().map(|region| u8::from(*region == Region::Quoted)).collect();
+    hex::encode(&bytes)
+}
+
+fn next_word(text: &str, from: usize) -> String {
+    match Scanner::new(text).next_word_in_code(from) {
+        Some(word) => format!("1 {} {}", offset(text, word), word.len()),
+        None => "0 0 0".to_string(),
+    }
+}
+
+fn split(text: &str, byte: u8) -> String {
+    let pieces = Scanner::new(text).split_in_code(byte);
+    let starts: Vec<String> = pieces.iter().map(|piece| offset(text, piece).to_string()).collect();
+    starts.join(",")
+}
+
+/// Where a part stands in its text: a slice of the text keeps its address.
+fn offset(text: &str, part: &str) -> usize {
+    part.as_ptr() as usize - text.as_ptr() as usize
+}
+
+fn place(found: Option<usize>) -> String {
+    match found {
+        Some(place) => format!("1 {place}"),
+        None => "0 0".to_string(),
+    }
+}
+
+fn flag(holds: bool) -> String {
+    u8::from(holds).to_string()
+}
