@@ -3,3 +3,4 @@ pub mod ClosedRows
 pub mod Choice
 pub mod SpanLaws
 pub mod MapLaws
+pub mod AheadLaws

@@ -4,13 +4,15 @@ use mathlib.Core.Bool.{Bool, true, false, cond, not, _&&_, false≢true}
 use mathlib.Core.List.{List, [], _∷_, _++_, map}
 use Prim.Native.Nat.{ℕ, zero, suc, _+_, _-_, _≤_, _<_, zero-le, suc-le-suc}
 use native.Mathlib.Omega.{arith}
-use borrow.Author.Tests.{eqb-true}
+use borrow.Author.Tests.{eqb-true, eq-eqb, ne-eqb}
 use lib.Dec.{eqb}
 use lib.ListN.{length, take, drop, getD, length-drop, take-append-drop}
 use lib.Seq.{length-take-le, drop-nil}
-use Rattle.spec.proofs.Choice.{cond-case, cond-le, and-right}
+use Rattle.spec.proofs.AheadLaws.{rest-of}
+use Rattle.spec.proofs.Choice.{by, cond-case, cond-le, and-right}
 use Rattle.spec.specs.Bytes.{isDigit, isIdent, isPair, isPrefix}
 use Rattle.spec.specs.Lists.{concat}
+use Rattle.spec.specs.declared.Span.the-variants.{Verbatim, Dollar, Code}
 use Rattle.spec.specs.Spans.{lineLen, commentLen, blockLen, escapes, quoteLen, quotedLen, tagLen, seekLen, opensDollar, dollarOf, Kind, line, block, single, double, dollar, code, kindAt, spanOf, spanAt, spanLen, Lexeme, lexemeAt, lexemesFrom, lexemes}
 
 pub line-le : (xs : List ℕ) → lineLen xs ≤ length xs
@@ -170,3 +172,46 @@ tiles-from (suc k) (c ∷ cs) = tiles-from k cs
 pub tiles : (xs : List ℕ) → concat (map (λ (l : Lexeme). l .text) (lexemes xs)) ≡ xs
 unfolding lexemes
 tiles xs = tiles-from 0 xs
+
+-- what is found behind n bytes stands within the text
+pub seek-rest : (p xs : List ℕ) (n : ℕ) → n ≤ length xs → n + seekLen p (take (length xs - n) (drop n xs)) ≤ length xs
+seek-rest p xs n h = rw rest-of (omega (arith, seek-le p (drop n xs), length-drop n xs))
+
+-- the span in front by the tests on it, made one after the other
+module _ (xs : List ℕ) (c d : ℕ) (hc : c ≡ getD xs 0 0) (hd : d ≡ getD xs 1 0) where
+  pub at-line : isPair 45 45 c d ≡ true → spanAt xs ≡ Verbatim (2 + lineLen (drop 2 xs))
+  unfolding spanAt spanOf kindAt
+  at-line e = simp (← hc, ← hd, e)
+
+  module _ (e : isPair 45 45 c d ≡ false) where
+    pub at-block : isPair 47 42 c d ≡ true → spanAt xs ≡ Verbatim (blockLen xs)
+    unfolding spanAt spanOf kindAt
+    at-block f = simp (← hc, ← hd, e, f)
+
+    module _ (f : isPair 47 42 c d ≡ false) where
+      pub at-single : c ≡ 39 → spanAt xs ≡ Verbatim (quotedLen true 39 xs)
+      unfolding spanAt spanOf kindAt
+      at-single s = simp (← hc, ← hd, e, f, eq-eqb c 39 s)
+
+      module _ (s : c ≡ 39 → ⊥) where
+        pub at-double : c ≡ 34 → spanAt xs ≡ Verbatim (quotedLen false 34 xs)
+        unfolding spanAt spanOf kindAt
+        at-double t = simp (← hc, ← hd, e, f, ne-eqb c 39 s, eq-eqb c 34 t)
+
+        module _ (t : c ≡ 34 → ⊥) where
+          pub at-opened : spanAt xs ≡ cond (opensDollar xs) (Dollar (dollarOf (2 + tagLen (drop 1 xs)) xs)) (Code 1)
+          unfolding spanAt spanOf kindAt
+          at-opened =
+              by (opensDollar xs)
+              (λ o. simp (← hc, ← hd, e, f, ne-eqb c 39 s, ne-eqb c 34 t, o))
+              (λ o. simp (← hc, ← hd, e, f, ne-eqb c 39 s, ne-eqb c 34 t, o))
+
+          pub at-code : (c ≡ 36 → ⊥) → spanAt xs ≡ Code 1
+          unfolding opensDollar
+          at-code o = at-opened ∙ simp (← hc, ne-eqb c 36 o)
+
+-- nothing opens in the empty text
+pub opens-nil : (xs : List ℕ) → length xs ≡ 0 → opensDollar xs ≡ false
+unfolding opensDollar
+opens-nil [] h = refl
+opens-nil (x ∷ xs) h = absurd (omega arith)

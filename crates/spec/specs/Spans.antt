@@ -2,15 +2,12 @@
 use Prim.Native.Nat.{ℕ, zero, suc, _+_, _-_}
 use mathlib.Core.Bool.{Bool, true, false, cond, not, _&&_, _||_}
 use mathlib.Core.List.{List, [], _∷_}
-use lib.Dec.{eqb, ltb}
-use lib.ListN.{length, getD, take, drop}
+use lib.Dec.{eqb}
+use lib.ListN.{getD, take, drop}
 use Rattle.spec.specs.Bytes.{isDigit, isIdent, isPair, isPrefix}
 use Rattle.spec.specs.declared.DollarQuoted.{DollarQuoted}
 use Rattle.spec.specs.declared.Span.{Span}
 use Rattle.spec.specs.declared.Span.the-variants.{Verbatim, Dollar, Code}
-use Rattle.spec.specs.declared.Cursor.{Cursor}
-use Rattle.spec.specs.declared.Step.{Step}
-use Rattle.spec.specs.declared.Step.the-variants.{Taken, Done}
 
 -- `--` through its newline; from behind the two dashes
 unfoldable pub lineLen : List ℕ → ℕ
@@ -135,11 +132,3 @@ lexemesFrom (suc k) (c ∷ cs) = lexemesFrom k cs
 -- a text as its row of spans
 unfoldable pub lexemes : List ℕ → List Lexeme
 lexemes xs = lexemesFrom 0 xs
-
--- "a cursor by value that comes back advanced": one step of that walk from an offset
-unfoldable pub stepAt : List ℕ → ℕ → Step
-stepAt xs at =
-    let s = spanAt (drop at xs) in
-    let next : Cursor = record { at = at + spanLen s } in
-    let taken = Taken s next in
-    cond (ltb at (length xs)) taken Done

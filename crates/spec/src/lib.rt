@@ -18,17 +18,6 @@ pub enum Span {
     Code(usize),
 }
 
-// A place in a text, for a walk from span to span.
-pub struct Cursor {
-    pub at: usize,
-}
-
-// What a cursor's step finds: the span and the cursor behind it, or the text's end.
-pub enum Step {
-    Taken(Span, Cursor),
-    Done,
-}
-
 // Where something stands first.
 pub enum Found {
     At(usize),

@@ -1,0 +1,3 @@
+pub mod QuoteLaws
+pub mod CommentLaws
+pub mod RunLaws

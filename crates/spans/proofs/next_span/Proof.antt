@@ -1,0 +1,104 @@
+use native.Mathlib.Omega.{arith}
+use mathlib.Core.Path.{_≡_, sym, ap, _∙_}
+use Prim.Native.Nat.{ℕ, _+_, _-_, _<_}
+use lib.ListN.{length, take, drop, length-drop}
+use Rattle.spec.specs.Spans.{lineLen}
+use Rattle.spec.proofs.AheadLaws.{rest-of}
+use Rattle.spec.proofs.SpanLaws.{line-le, pair-two, at-line, at-block, at-single, at-double, at-opened, at-code}
+use borrow.Author.Needs.{needs}
+use Rattle.spans.proofs.next_span.Statement.{statement}
+use Rattle.spans.proofs.next_span.Tie as tie
+
+-- behind `--` stand two bytes
+two : (c : tie.Then1) → 1 < length (c .before .before .before .before .before .args .rest .now)
+two c =
+    let xs = c .before .before .before .before .before .args .rest .now in
+    pair-two xs 45 44 (c .before .before .before .byte-at .result) (rw (← c .before .before .byte-at2 .ensures) (sym (c .before .is-pair .ensures) ∙ c .if1 .taken))
+
+-- the comment's length
+behind : (c : tie.After-line-len) → c .line-len .result ≡ lineLen (drop 2 (c .before .before .before .before .before .before .before .args .rest .now))
+behind c =
+    let xs = c .before .before .before .before .before .before .before .args .rest .now in
+    let h : c .line-len .result ≡ lineLen (take (length xs - 2) (drop 2 xs)) = c .line-len .ensures in
+    rw rest-of at h
+
+byte-at-requires : tie.Need-byte-at-requires
+byte-at-requires c κs = search needs
+
+byte-at-requires-2 : tie.Need-byte-at-requires-2
+byte-at-requires-2 c κs = search needs
+
+is-pair-requires : tie.Need-is-pair-requires
+is-pair-requires c κs = search needs
+
+sub-line-len : tie.Need-sub-line-len
+sub-line-len c = two c
+
+part-line-len-start : tie.Need-part-line-len-start
+part-line-len-start c = two c
+
+part-line-len-end : tie.Need-part-line-len-end
+part-line-len-end c = search needs
+
+line-len-requires : tie.Need-line-len-requires
+line-len-requires c κs = search needs
+
+add-t10 : tie.Need-add-t10
+add-t10 c = omega (arith, behind c, line-le (drop 2 (c .before .before .before .before .before .before .before .args .rest .now)), length-drop 2 (c .before .before .before .before .before .before .before .args .rest .now))
+
+returns : tie.Need-returns
+returns c = rw (at-line (c .before .before .before .before .before .before .before .args .rest .now) _ _ (c .before .before .before .before .before .byte-at .ensures) (c .before .before .before .before .byte-at2 .ensures) (sym (c .before .before .before .is-pair .ensures) ∙ c .before .before .if1 .taken), behind c)
+
+is-pair-requires-2 : tie.Need-is-pair-requires-2
+is-pair-requires-2 c κs = search needs
+
+block-comment-len-requires : tie.Need-block-comment-len-requires
+block-comment-len-requires c κs = search needs
+
+returns-2 : tie.Need-returns-2
+returns-2 c = rw (at-block (c .before .before .before .before .before .before .before .before .args .rest .now) _ _ (c .before .before .before .before .before .before .byte-at .ensures) (c .before .before .before .before .before .byte-at2 .ensures) (sym (c .before .before .before .before .is-pair .ensures) ∙ c .before .before .before .if1 .left) (sym (c .before .before .is-pair2 .ensures) ∙ c .before .if2 .taken), c .block-comment-len .ensures)
+
+quoted-len-requires : tie.Need-quoted-len-requires
+quoted-len-requires c κs = search needs
+
+returns-3 : tie.Need-returns-3
+returns-3 c = rw (at-single (c .before .before .before .before .before .before .before .before .before .args .rest .now) _ _ (c .before .before .before .before .before .before .before .byte-at .ensures) (c .before .before .before .before .before .before .byte-at2 .ensures) (sym (c .before .before .before .before .before .is-pair .ensures) ∙ c .before .before .before .before .if1 .left) (sym (c .before .before .before .is-pair2 .ensures) ∙ c .before .before .if2 .left) (c .before .if3 .taken), c .quoted-len .ensures)
+
+quoted-len-requires-2 : tie.Need-quoted-len-requires-2
+quoted-len-requires-2 c κs = search needs
+
+returns-4 : tie.Need-returns-4
+returns-4 c = rw (at-double (c .before .before .before .before .before .before .before .before .before .before .args .rest .now) _ _ (c .before .before .before .before .before .before .before .before .byte-at .ensures) (c .before .before .before .before .before .before .before .byte-at2 .ensures) (sym (c .before .before .before .before .before .before .is-pair .ensures) ∙ c .before .before .before .before .before .if1 .left) (sym (c .before .before .before .before .is-pair2 .ensures) ∙ c .before .before .before .if2 .left) (c .before .before .if3 .left) (c .before .if4 .taken), c .quoted-len2 .ensures)
+
+dollar-quoted-requires : tie.Need-dollar-quoted-requires
+dollar-quoted-requires c κs = search needs
+
+returns-5 : tie.Need-returns-5
+returns-5 c = c .dollar-quoted .ensures ∙ sym (at-opened (c .before .before .before .before .before .before .before .before .before .before .before .args .rest .now) _ _ (c .before .before .before .before .before .before .before .before .before .byte-at .ensures) (c .before .before .before .before .before .before .before .before .byte-at2 .ensures) (sym (c .before .before .before .before .before .before .before .is-pair .ensures) ∙ c .before .before .before .before .before .before .if1 .left) (sym (c .before .before .before .before .before .is-pair2 .ensures) ∙ c .before .before .before .before .if2 .left) (c .before .before .before .if3 .left) (c .before .before .if4 .left))
+
+returns-6 : tie.Need-returns-6
+returns-6 c = sym (at-code (c .before .before .before .before .before .before .before .before .before .before .args .rest .now) _ _ (c .before .before .before .before .before .before .before .before .byte-at .ensures) (c .before .before .before .before .before .before .before .byte-at2 .ensures) (sym (c .before .before .before .before .before .before .is-pair .ensures) ∙ c .before .before .before .before .before .if1 .left) (sym (c .before .before .before .before .is-pair2 .ensures) ∙ c .before .before .before .if2 .left) (c .before .before .if3 .left) (c .before .if4 .left) (c .if5 .left))
+
+pub next-span-spec : {M : Type 1} → statement M
+next-span-spec =
+    tie.close
+    (tie.spec
+    byte-at-requires
+    byte-at-requires-2
+    is-pair-requires
+    sub-line-len
+    part-line-len-start
+    part-line-len-end
+    line-len-requires
+    add-t10
+    returns
+    is-pair-requires-2
+    block-comment-len-requires
+    returns-2
+    quoted-len-requires
+    returns-3
+    quoted-len-requires-2
+    returns-4
+    dollar-quoted-requires
+    returns-5
+    returns-6)

@@ -1,0 +1,74 @@
+use lib.ListN.{take}
+use Rattle.spec.proofs.AheadLaws.{rest-of}
+use mathlib.Core.Bool.{true, false}
+use mathlib.Core.Path.{_≡_, sym, _∙_, refl}
+use Prim.Native.Nat.{_+_, _-_, _≤_}
+use native.Mathlib.Omega.{arith}
+use borrow.Author.Needs.{needs}
+use lib.ListN.{length, drop}
+use Rattle.spec.specs.Bytes.{isPrefix}
+use Rattle.spec.specs.Spans.{seekLen}
+use Rattle.spans.proofs.RunLaws.{at-found, at-missed, seek-over}
+use Rattle.spans.proofs.seek.Statement.{statement}
+use Rattle.spans.proofs.seek.Tie as tie
+
+abbrev Inv-loop : tie.InvT-loop
+Inv-loop text pat i₀ i = (i ≤ length text) × (seekLen pat text ≡ i + seekLen pat (drop i text))
+
+abbrev μ-loop : tie.MeasureT-loop
+μ-loop text pat i₀ i = length text - i
+
+loop-holds : tie.Need-loop-holds Inv-loop μ-loop
+loop-holds c = search needs
+
+sub-starts-with : tie.Need-sub-starts-with Inv-loop μ-loop
+sub-starts-with c = search needs
+
+part-starts-with-start : tie.Need-part-starts-with-start Inv-loop μ-loop
+part-starts-with-start c = search needs
+
+part-starts-with-end : tie.Need-part-starts-with-end Inv-loop μ-loop
+part-starts-with-end c = search needs
+
+starts-with-requires : tie.Need-starts-with-requires Inv-loop μ-loop
+starts-with-requires c κs = search needs
+
+returns : tie.Need-returns Inv-loop μ-loop
+returns c =
+    let s = c .before .before .before .before .before .before .before .args in
+    let i = c .before .before .before .before .loop .i in
+    let h : isPrefix (s .pat .now) (take (length (s .text .now) - i) (drop i (s .text .now))) ≡ true = sym (c .before .starts-with .ensures) ∙ c .if1 .taken in
+    omega (arith, at-found (s .text .now) i (omega arith) (s .pat .now) (rw rest-of at h))
+
+add-i : tie.Need-add-i Inv-loop μ-loop
+add-i c = search needs
+
+loop-less : tie.Need-loop-less Inv-loop μ-loop
+loop-less c = search needs
+
+loop-again : tie.Need-loop-again Inv-loop μ-loop
+loop-again c =
+    let s = c .before .before .before .before .before .before .before .args in
+    let i = c .before .before .before .before .loop .i in
+    let h : isPrefix (s .pat .now) (take (length (s .text .now) - i) (drop i (s .text .now))) ≡ false = sym (c .before .starts-with .ensures) ∙ c .if1 .left in
+    omega (arith, at-missed (s .text .now) i (omega arith) (s .pat .now) (rw rest-of at h))
+
+returns-2 : tie.Need-returns-2 Inv-loop μ-loop
+returns-2 c = omega (arith, seek-over (c .before .before .before .before .args .text .now) (c .before .loop .i) (omega arith) (c .before .before .before .before .args .pat .now))
+
+pub seek-spec : {M : Type 1} → statement M
+seek-spec =
+    tie.close
+    (tie.spec
+    Inv-loop
+    μ-loop
+    loop-holds
+    sub-starts-with
+    part-starts-with-start
+    part-starts-with-end
+    starts-with-requires
+    returns
+    add-i
+    loop-less
+    loop-again
+    returns-2)
