@@ -4,3 +4,5 @@ pub mod Choice
 pub mod SpanLaws
 pub mod MapLaws
 pub mod AheadLaws
+pub mod ListLaws
+pub mod LengthLaws
