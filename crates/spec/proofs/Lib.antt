@@ -6,3 +6,6 @@ pub mod MapLaws
 pub mod AheadLaws
 pub mod ListLaws
 pub mod LengthLaws
+pub mod NameOrder
+pub mod RecordLaws
+pub mod ChainLaws
