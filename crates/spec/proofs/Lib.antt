@@ -9,3 +9,14 @@ pub mod LengthLaws
 pub mod NameOrder
 pub mod RecordLaws
 pub mod ChainLaws
+pub mod FirstLaws
+pub mod WalkLaws
+pub mod Apart
+pub mod FirstFound
+pub mod JoinedPieces
+pub mod UnchangedLaws
+pub mod UnchangedPasses
+pub mod RefusalOutcomes
+pub mod RefusalLaws
+pub mod RefusalCalls
+pub mod RefusalBounds

@@ -1,0 +1,312 @@
+-- What a call leaves in its output is never longer than the buffer size: not the text, not `q.n` of refusal 4 and not the
+-- clause of refusal 5. Assumes nothing.
+use mathlib.Core.Path.{_≡_, refl, ap, subst}
+use mathlib.Core.Bool.{Bool, not, _&&_}
+use mathlib.Core.List.{List, [], _∷_, _++_}
+use mathlib.Core.Option.{Option, none, some}
+use Prim.Native.Nat.{ℕ, zero, suc, _+_, _-_, _≤_, zero-le, suc-le-suc}
+use native.Mathlib.Omega.{arith}
+use borrow.Author.Tests.{eqb-true}
+use lib.Dec.{eqb, ltb}
+use lib.ListN.{length, drop, length-append, length-drop, length-map, length-reverse}
+use Rattle.spec.proofs.Choice.{by, cond-case, and-left, and-right}
+use Rattle.spec.proofs.MapLaws.{text-length}
+use Rattle.spec.proofs.JoinedPieces.{joined, pieces-joined}
+use Rattle.spec.proofs.FirstFound.{eitherOf, firstSome}
+use Rattle.spec.proofs.RefusalOutcomes.{firstTarget, fateClause, firstClause}
+use Rattle.spec.proofs.RefusalLaws.{after2, after4, targetIn, clauseIn, accepted-fits, qualified-exactly, using-exactly}
+use Rattle.spec.specs.Bytes.{ascii, isW, isN, isIdent, isWord}
+use Rattle.spec.specs.Lists.{isEmpty, takeWhile, dropWhile, dropEnd}
+use Rattle.spec.specs.Map.{Marked, live, byte, bytes, markedText, frontByte, ofByte, isLiveByte}
+use Rattle.spec.specs.Search.{byteHere, piecesFrom, pieces, startsIgnoringCase, wordHere}
+use Rattle.spec.specs.Assignments.{Target, orElse, trimEnd, trim, assignHere, targetBefore, assignTarget, loneEquals, equalsTarget, Mark, opensCase, closesCase, opensStatement, Marking, markings, markingHere, casesBehind, targetPast, targetBehind, markedTarget, statementTarget}
+use Rattle.spec.specs.Raise.{Fate, rewritten, refused, message, usingFate, abortFate, Level, levelIn, levelWords, levelLen, actionOf, Action, abort, drops, contentOf, actionFate, raisedAt, Part, raisesFrom}
+use Rattle.spec.specs.Body.{bufferSize, Rewriting, accepted, qualifiedTarget, usingClause, resultTooLong, rewriting}
+use Rattle.spec.specs.Declarations.{recordLimit, Declared, recordsOf, bodyOf}
+use Rattle.spec.specs.Answers.{Result, resultOf, bodyResult, functionResult}
+
+-- ---- lists
+
+module _ {A : Type 0} where
+  -- the longest front that passes a test and what stands behind it are the whole
+  pub while-length : (f : A → Bool) (t : List A) → length (takeWhile f t) + length (dropWhile f t) ≡ length t
+  unfolding takeWhile dropWhile
+  while-length f [] = omega arith
+  while-length f (x ∷ t) =
+      by (f x)
+      (λ e. rw e (omega (arith, while-length f t)))
+      (λ e. rw e (omega arith))
+
+  pub take-while-le : (f : A → Bool) (t : List A) → length (takeWhile f t) ≤ length t
+  take-while-le f t = omega (arith, while-length f t)
+
+  pub drop-while-le : (f : A → Bool) (t : List A) → length (dropWhile f t) ≤ length t
+  drop-while-le f t = omega (arith, while-length f t)
+
+  pub drop-end-le : (f : A → Bool) (t : List A) → length (dropEnd f t) ≤ length t
+  unfolding dropEnd
+  drop-end-le f [] = zero-le
+  drop-end-le f (x ∷ t) =
+      cond-case (λ (l : List A). length l ≤ suc (length t)) (f x && isEmpty (dropEnd f t)) _ _
+      (λ _. zero-le)
+      (λ _. suc-le-suc (drop-end-le f t))
+
+pub trim-le : (t : List Marked) → length (trim t) ≤ length t
+unfolding trim trimEnd
+trim-le t =
+    omega (arith, drop-end-le (ofByte isW) (dropWhile (ofByte isW) t), drop-while-le (ofByte isW) t)
+
+pub bytes-length : (t : List Marked) → length (bytes t) ≡ length t
+unfolding bytes
+bytes-length t = length-map t byte
+
+-- a text whose first byte is not 0 has a first byte
+front-seen : (t : List Marked) (v : ℕ) → frontByte t ≡ suc v → 1 ≤ length t
+unfolding frontByte
+front-seen [] v h = absurd (omega arith)
+front-seen (x ∷ t) v h = suc-le-suc zero-le
+
+-- ---- a target is no longer than its statement
+
+-- what is found, if anything is, has at most this size
+abbrev pub Within : {A : Type 0} → (A → ℕ) → Option A → ℕ → Type 0
+Within size none n = Unit {0}
+Within size (some a) n = size a ≤ n
+
+pub within-le : {A : Type 0} (size : A → ℕ) (o : Option A) (m n : ℕ) → m ≤ n → Within size o m → Within size o n
+within-le size none m n h w = tt
+within-le size (some a) m n h w = omega arith
+
+-- the length of `q.n`
+abbrev pub targetSize : Target → ℕ
+targetSize r = length (r .qualifier) + suc (length (r .name))
+
+either-within : {A : Type 0} (size : A → ℕ) (o p : Option A) (n : ℕ)
+    → Within size o n
+    → Within size p n
+    → Within size (eitherOf o p) n
+either-within size none p n v w = w
+either-within size (some r) p n v w = v
+
+else-within : (o p : Option Target) (n : ℕ) → Within targetSize o n → Within targetSize p n → Within targetSize (orElse o p) n
+unfolding orElse
+else-within none p n v w = w
+else-within (some r) p n v w = v
+
+before-within : (back : List Marked) → Within targetSize (targetBefore back) (length back)
+unfolding targetBefore
+before-within back =
+    let b = dropWhile (ofByte isW) back in
+    let n = takeWhile (ofByte isIdent) b in
+    let r = dropWhile (ofByte isIdent) b in
+    let q = takeWhile (ofByte isIdent) (drop 1 r) in
+    cond-case (λ (o : Option Target). Within targetSize o (length back)) (not (isEmpty n) && (eqb (frontByte r) 46 && not (isEmpty q))) _ _
+    (λ e. omega (
+      arith,
+      length-reverse q,
+      length-reverse n,
+      drop-while-le (ofByte isW) back,
+      while-length (ofByte isIdent) b,
+      take-while-le (ofByte isIdent) (drop 1 r),
+      length-drop 1 r,
+      front-seen r 45 (eqb-true (frontByte r) 46 (and-left (eqb (frontByte r) 46) (not (isEmpty q)) (and-right (not (isEmpty n)) _ e))),
+    ))
+    (λ _. tt)
+
+assign-within : (back t : List Marked) → Within targetSize (assignTarget back t) (length back + length t)
+unfolding assignTarget
+assign-within back [] = tt
+assign-within back (x ∷ t) =
+    let n = length back + suc (length t) in
+    let more : Within targetSize (assignTarget (x ∷ back) t) n =
+    within-le targetSize (assignTarget (x ∷ back) t) _ n (omega arith) (assign-within (x ∷ back) t) in
+    cond-case (λ (o : Option Target). Within targetSize o n) (assignHere back (x ∷ t)) _ _
+    (λ _. else-within (targetBefore back) _ n (within-le targetSize (targetBefore back) _ n (omega arith) (before-within back)) more)
+    (λ _. more)
+
+equals-within : (t : List Marked) → Within targetSize (equalsTarget t) (length t)
+unfolding equalsTarget
+equals-within t =
+    let a = dropWhile (ofByte isN) t in
+    let q = takeWhile (ofByte isIdent) a in
+    let r = dropWhile (ofByte isIdent) a in
+    let n = takeWhile (ofByte isIdent) (drop 1 r) in
+    let e = dropWhile (ofByte isN) (dropWhile (ofByte isIdent) (drop 1 r)) in
+    let lone = not (isEmpty n) && loneEquals e in
+    cond-case (λ (o : Option Target). Within targetSize o (length t)) (not (isEmpty q) && (eqb (frontByte r) 46 && lone)) _ _
+    (λ e. omega (
+      arith,
+      drop-while-le (ofByte isN) t,
+      while-length (ofByte isIdent) a,
+      take-while-le (ofByte isIdent) (drop 1 r),
+      length-drop 1 r,
+      front-seen r 45 (eqb-true (frontByte r) 46 (and-left (eqb (frontByte r) 46) lone (and-right (not (isEmpty q)) _ e))),
+    ))
+    (λ _. tt)
+
+past-within : (m : Mark) (n d : ℕ) (t : List Marked) → Within targetSize (targetPast m n d t) (length t)
+unfolding targetPast
+past-within opensCase n d t = tt
+past-within closesCase n d t = tt
+past-within opensStatement n d t =
+    cond-case (λ (o : Option Target). Within targetSize o (length t)) (eqb d 0) _ _
+    (λ _. within-le targetSize (equalsTarget (drop n t)) _ _ (omega (arith, length-drop n t)) (equals-within (drop n t)))
+    (λ _. tt)
+
+behind-within : (m : Option Marking) (d : ℕ) (t : List Marked) → Within targetSize (targetBehind m d t) (length t)
+unfolding targetBehind
+behind-within none d t = tt
+behind-within (some m) d t = past-within (m .mark) (length (m .word)) d t
+
+marked-within : (d p : ℕ) (t : List Marked) → Within targetSize (markedTarget d p t) (length t)
+unfolding markedTarget
+marked-within d p [] = tt
+marked-within d p (x ∷ t) =
+    let m = markingHere markings p (x ∷ t) in
+    let more = markedTarget (casesBehind m d) (byte x) t in
+    else-within (targetBehind m d (x ∷ t)) more (suc (length t)) (behind-within m d (x ∷ t))
+    (within-le targetSize more _ _ (omega arith) (marked-within (casesBehind m d) (byte x) t))
+
+pub statement-within : (t : List Marked) → Within targetSize (statementTarget t) (length t)
+unfolding statementTarget
+statement-within t =
+    let rest = else-within (equalsTarget t) (markedTarget 0 0 t) (length t) (equals-within t) (marked-within 0 0 t) in
+    let whole = within-le targetSize (assignTarget [] t) _ (length t) (omega arith) (assign-within [] t) in
+    else-within (assignTarget [] t) _ (length t) whole rest
+
+first-within : (b : ℕ) (ss : List (List Marked)) → Within targetSize (firstTarget ss) (length (joined b ss))
+unfolding firstSome joined
+first-within b [] = tt
+first-within b (s ∷ []) = either-within targetSize (statementTarget s) none (length s) (statement-within s) tt
+first-within b (s ∷ r ∷ ss) =
+    let rest = live b ∷ joined b (r ∷ ss) in
+    let n = length (s ++ rest) in
+    let e = length-append s rest in
+    either-within targetSize (statementTarget s) _ n
+    (within-le targetSize (statementTarget s) _ n (omega arith) (statement-within s))
+    (within-le targetSize (firstTarget (r ∷ ss)) _ n (omega arith) (first-within b (r ∷ ss)))
+
+-- a target of pass 3 is no longer than the text that pass 3 reads
+pub target-within : (ys : List ℕ) → Within targetSize (targetIn ys) (length ys)
+unfolding targetIn pieces
+target-within ys =
+    let w = first-within 59 (piecesFrom (byteHere 59) [] (markedText ys)) in
+    rw (pieces-joined 59 [] (markedText ys), text-length ys) at w
+
+-- `q.n` of refusal 4 is within the buffer size
+pub qualified-fits : (xs q n : List ℕ) → rewriting xs ≡ qualifiedTarget q n → length (q ++ (46 ∷ n)) ≤ bufferSize
+qualified-fits xs q n h =
+    let t = qualified-exactly xs q n .0 h in
+    let w : targetSize (t .target) ≤ length (after2 xs) =
+    subst (λ (o : Option Target). Within targetSize o (length (after2 xs))) (t .first) (target-within (after2 xs)) in
+    omega (
+      arith,
+      t .before .fits2,
+      length-append q (46 ∷ n),
+      ap length (t .qualifier),
+      ap length (t .name),
+      bytes-length (t .target .qualifier),
+      bytes-length (t .target .name),
+    )
+
+-- ---- a clause is no longer than the text that pass 5 reads
+
+using-within : (content behind : List Marked) → Within length (fateClause (usingFate content behind)) (length content)
+unfolding usingFate
+using-within content behind =
+    let a = dropWhile (ofByte isW) behind in
+    let b = dropWhile (ofByte isW) (drop 7 a) in
+    let c = dropWhile (ofByte isW) (drop 1 b) in
+    let m = message c in
+    let fits =
+    startsIgnoringCase (ascii "MESSAGE") a
+    && (eqb (frontByte b) 61
+    && (eqb (frontByte c) 39 && isEmpty (dropWhile (ofByte isW) (drop (length m) c)))) in
+    cond-case (λ (f : Fate). Within length (fateClause f) (length content)) fits (rewritten m) (refused (bytes content))
+    (λ _. tt)
+    (λ _. omega (arith, bytes-length content))
+
+abort-within : (content : List Marked) → Within length (fateClause (abortFate content)) (length content)
+unfolding abortFate
+abort-within content =
+    cond-case (λ (f : Fate). Within length (fateClause f) (length content)) (startsIgnoringCase (ascii "USING") content) _ _
+    (λ _. using-within content (drop 5 content))
+    (λ _. tt)
+
+action-within : (a : Action) (content : List Marked) → Within length (fateClause (actionFate a content)) (length content)
+unfolding actionFate
+action-within abort content = within-le length (fateClause (abortFate (trim content))) _ _ (trim-le content) (abort-within (trim content))
+action-within drops content = tt
+
+content-le : (t : List Marked) → length (contentOf t) ≤ length t
+unfolding contentOf
+content-le t =
+    omega (
+      arith,
+      take-while-le (λ (x : Marked). not (isLiveByte 59 x)) (markedText (bytes t)),
+      text-length (bytes t),
+      bytes-length t,
+    )
+
+raised-within : (l : Option Level) (t : List Marked) → Within length (fateClause (raisedAt l t .fate)) (length t)
+unfolding raisedAt
+raised-within none t = tt
+raised-within (some l) t =
+    let n = 6 + levelLen l (drop 6 t) in
+    let content = contentOf (drop n t) in
+    within-le length (fateClause (actionFate (actionOf l) content)) _ _
+    (omega (arith, content-le (drop n t), length-drop n t))
+    (action-within (actionOf l) content)
+
+parts-within : (k p : ℕ) (t : List Marked) → Within length (firstClause (raisesFrom k p t)) (length t)
+unfolding firstSome raisesFrom
+parts-within k p [] = tt
+parts-within zero p (x ∷ t) =
+    let r = raisedAt (levelIn levelWords (drop 5 t)) (x ∷ t) in
+    let n = suc (length t) in
+    let later : (k : ℕ) → Within length (firstClause (raisesFrom k (byte x) t)) n =
+    λ k. within-le length (firstClause (raisesFrom k (byte x) t)) _ n (omega arith) (parts-within k (byte x) t) in
+    cond-case (λ (ps : List Part). Within length (firstClause ps) n) (wordHere isWord (ascii "RAISE") p (x ∷ t)) _ _
+    (λ _. either-within length (fateClause (r .fate)) _ n (raised-within (levelIn levelWords (drop 5 t)) (x ∷ t)) (later (r .length - 1)))
+    (λ _. later 0)
+parts-within (suc k) p (x ∷ t) =
+    within-le length (firstClause (raisesFrom k (byte x) t)) _ _ (omega arith) (parts-within k (byte x) t)
+
+-- a clause of pass 5 is no longer than the text that pass 5 reads
+pub clause-within : (ys : List ℕ) → Within length (clauseIn ys) (length ys)
+unfolding clauseIn
+clause-within ys =
+    let w = parts-within 0 0 (markedText ys) in
+    rw (text-length ys) at w
+
+-- the clause of refusal 5 is within the buffer size
+pub using-fits : (xs c : List ℕ) → rewriting xs ≡ usingClause c → length c ≤ bufferSize
+using-fits xs c h =
+    let t = using-exactly xs c .0 h in
+    let w : length c ≤ length (after4 xs) =
+    subst (λ (o : Option (List ℕ)). Within length o (length (after4 xs))) (t .first) (clause-within (after4 xs)) in
+    omega (arith, t .before .fits4)
+
+-- ---- the calls
+
+result-fits : (ds : List Declared) (xs : List ℕ) → length (resultOf ds (rewriting xs) .output) ≤ bufferSize
+unfolding resultOf
+result-fits ds xs = go (rewriting xs) refl
+  where
+    go : (r : Rewriting) → rewriting xs ≡ r → length (resultOf ds r .output) ≤ bufferSize
+    go (accepted zs) e = accepted-fits xs zs e
+    go (qualifiedTarget q n) e = qualified-fits xs q n e
+    go (usingClause c) e = using-fits xs c e
+    go resultTooLong e = zero-le
+
+-- the output of the body call, and of the function call, is within the buffer size, refusals included
+pub body-output-fits : (xs : List ℕ) → length (bodyResult xs .output) ≤ bufferSize
+unfolding bodyResult
+body-output-fits xs = result-fits [] xs
+
+pub function-output-fits : (xs : List ℕ) → length (functionResult xs .output) ≤ bufferSize
+unfolding functionResult
+function-output-fits xs =
+    cond-case (λ (r : Result). length (r .output) ≤ bufferSize) (ltb recordLimit (length (recordsOf xs))) _ _
+    (λ _. zero-le)
+    (λ _. result-fits (recordsOf xs) (bodyOf xs))

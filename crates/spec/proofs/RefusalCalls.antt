@@ -1,0 +1,198 @@
+-- What the two calls answer, by what the passes give: 7 exactly if too many names are declared, the body call never 7 and
+-- with no records, and each other answer exactly if the passes give it. Assumes nothing.
+use mathlib.Core.Path.{_≡_, refl, sym}
+use mathlib.Core.Logic.{_↔_}
+use mathlib.Core.List.{List, [], _∷_, _++_}
+use Prim.Native.Nat.{ℕ, _≤_, _<_}
+use native.Mathlib.Omega.{arith}
+use borrow.Author.Tests.{ltb-true, lt-ltb, le-ltb}
+use lib.Dec.{ltb}
+use lib.ListN.{length}
+use Rattle.spec.proofs.Apart.{apart}
+use Rattle.spec.proofs.Choice.{by}
+use Rattle.spec.proofs.RefusalLaws.{Accepts, Qualifies, Uses, Exceeds, accepted-exactly, qualified-exactly, using-exactly, too-long-exactly}
+use Rattle.spec.specs.Body.{Rewriting, accepted, qualifiedTarget, usingClause, resultTooLong, rewriting}
+use Rattle.spec.specs.Declarations.{recordLimit, Declared, recordsOf, bodyOf}
+use Rattle.spec.specs.Answers.{callNumbers, resultOf, bodyResult, functionResult, callAnswer, bodyCheck, bodyAnswer}
+use Rattle.spec.specs.declared.Refusal.{Refusal}
+use Rattle.spec.specs.declared.Refusal.the-variants.{TextTooLong, BufferTooShort, NotAscii}
+use Rattle.spec.specs.declared.Check.{Check}
+use Rattle.spec.specs.declared.Check.the-variants as check
+use Rattle.spec.specs.declared.Rewritten.the-variants as rewritten
+
+-- ---- what is answered for what the passes give
+
+-- accepted, with the length of the text and the count of the records
+pub result-accepted : (ds : List Declared) (r : Rewriting) (n c : ℕ)
+    → (resultOf ds r .answer ≡ rewritten.Accepted n c)
+    ↔ ((zs : List ℕ) × (r ≡ accepted zs) × (length zs ≡ n) × (length ds ≡ c))
+unfolding resultOf
+result-accepted ds r n c = (to r, (λ w. rw (w .1, w .2, w .3)))
+  where
+    to : (r : Rewriting) → resultOf ds r .answer ≡ rewritten.Accepted n c
+        → (zs : List ℕ) × (r ≡ accepted zs) × (length zs ≡ n) × (length ds ≡ c)
+    to (accepted zs) h = (zs, refl, (cc), (cc))
+    to (qualifiedTarget q m) h = absurd (apart (cc))
+    to (usingClause u) h = absurd (apart (cc))
+    to resultTooLong h = absurd (apart (cc))
+
+-- 4, with the lengths of q and of `q.n`
+pub result-qualified : (ds : List Declared) (r : Rewriting) (k l : ℕ)
+    → (resultOf ds r .answer ≡ rewritten.QualifiedTarget k l)
+    ↔ ((q : List ℕ) × (n : List ℕ) × (r ≡ qualifiedTarget q n) × (length q ≡ k) × (length (q ++ (46 ∷ n)) ≡ l))
+unfolding resultOf
+result-qualified ds r k l = (to r, (λ w. rw (w .2, w .3, w .4)))
+  where
+    to : (r : Rewriting) → resultOf ds r .answer ≡ rewritten.QualifiedTarget k l
+        → (q : List ℕ) × (n : List ℕ) × (r ≡ qualifiedTarget q n) × (length q ≡ k) × (length (q ++ (46 ∷ n)) ≡ l)
+    to (accepted zs) h = absurd (apart (cc))
+    to (qualifiedTarget q m) h = (q, m, refl, (cc), (cc))
+    to (usingClause u) h = absurd (apart (cc))
+    to resultTooLong h = absurd (apart (cc))
+
+-- 5, with the length of the clause
+pub result-using : (ds : List Declared) (r : Rewriting) (l : ℕ)
+    → (resultOf ds r .answer ≡ rewritten.UsingClause l) ↔ ((c : List ℕ) × (r ≡ usingClause c) × (length c ≡ l))
+unfolding resultOf
+result-using ds r l = (to r, (λ w. rw (w .1, w .2)))
+  where
+    to : (r : Rewriting) → resultOf ds r .answer ≡ rewritten.UsingClause l → (c : List ℕ) × (r ≡ usingClause c) × (length c ≡ l)
+    to (accepted zs) h = absurd (apart (cc))
+    to (qualifiedTarget q m) h = absurd (apart (cc))
+    to (usingClause u) h = (u, refl, (cc))
+    to resultTooLong h = absurd (apart (cc))
+
+-- 6
+pub result-too-long : (ds : List Declared) (r : Rewriting) → (resultOf ds r .answer ≡ rewritten.ResultTooLong) ↔ (r ≡ resultTooLong)
+unfolding resultOf
+result-too-long ds r = (to r, (λ w. rw w))
+  where
+    to : (r : Rewriting) → resultOf ds r .answer ≡ rewritten.ResultTooLong → r ≡ resultTooLong
+    to (accepted zs) h = absurd (apart (cc))
+    to (qualifiedTarget q m) h = absurd (apart (cc))
+    to (usingClause u) h = absurd (apart (cc))
+    to resultTooLong h = refl
+
+-- the passes themselves give no 7, and none of 1, 3, 2
+pub result-not-many : (ds : List Declared) (r : Rewriting) → resultOf ds r .answer ≡ rewritten.TooManyNames → ⊥
+unfolding resultOf
+result-not-many ds (accepted zs) h = absurd (apart (cc))
+result-not-many ds (qualifiedTarget q m) h = absurd (apart (cc))
+result-not-many ds (usingClause u) h = absurd (apart (cc))
+result-not-many ds resultTooLong h = absurd (apart (cc))
+
+pub result-not-refused : (ds : List Declared) (r : Rewriting) (f : Refusal) → resultOf ds r .answer ≡ rewritten.Refused f → ⊥
+unfolding resultOf
+result-not-refused ds (accepted zs) f h = absurd (apart (cc))
+result-not-refused ds (qualifiedTarget q m) f h = absurd (apart (cc))
+result-not-refused ds (usingClause u) f h = absurd (apart (cc))
+result-not-refused ds resultTooLong f h = absurd (apart (cc))
+
+-- ---- the number of each answer, by the condition on the text
+
+module _ (ds : List Declared) (xs : List ℕ) where
+  -- accepted
+  pub number-zero : (callNumbers (resultOf ds (rewriting xs) .answer) .number ≡ 0) ↔ ((zs : List ℕ) × Accepts xs zs)
+  unfolding resultOf
+  number-zero = (to (rewriting xs) refl, (λ w. rw (accepted-exactly xs (w .0) .1 (w .1))))
+    where
+      to : (r : Rewriting) → rewriting xs ≡ r → callNumbers (resultOf ds r .answer) .number ≡ 0 → (zs : List ℕ) × Accepts xs zs
+      to (accepted zs) e h = (zs, accepted-exactly xs zs .0 e)
+      to (qualifiedTarget q n) e h = absurd (omega arith)
+      to (usingClause c) e h = absurd (omega arith)
+      to resultTooLong e h = absurd (omega arith)
+
+  -- a qualified target
+  pub number-four : (callNumbers (resultOf ds (rewriting xs) .answer) .number ≡ 4)
+      ↔ ((q : List ℕ) × (n : List ℕ) × Qualifies xs q n)
+  unfolding resultOf
+  number-four = (to (rewriting xs) refl, (λ w. rw (qualified-exactly xs (w .0) (w .1) .1 (w .2))))
+    where
+      to : (r : Rewriting) → rewriting xs ≡ r → callNumbers (resultOf ds r .answer) .number ≡ 4
+          → (q : List ℕ) × (n : List ℕ) × Qualifies xs q n
+      to (accepted zs) e h = absurd (omega arith)
+      to (qualifiedTarget q n) e h = (q, n, qualified-exactly xs q n .0 e)
+      to (usingClause c) e h = absurd (omega arith)
+      to resultTooLong e h = absurd (omega arith)
+
+  -- a USING clause
+  pub number-five : (callNumbers (resultOf ds (rewriting xs) .answer) .number ≡ 5) ↔ ((c : List ℕ) × Uses xs c)
+  unfolding resultOf
+  number-five = (to (rewriting xs) refl, (λ w. rw (using-exactly xs (w .0) .1 (w .1))))
+    where
+      to : (r : Rewriting) → rewriting xs ≡ r → callNumbers (resultOf ds r .answer) .number ≡ 5 → (c : List ℕ) × Uses xs c
+      to (accepted zs) e h = absurd (omega arith)
+      to (qualifiedTarget q n) e h = absurd (omega arith)
+      to (usingClause c) e h = (c, using-exactly xs c .0 e)
+      to resultTooLong e h = absurd (omega arith)
+
+  -- a pass's result exceeds the buffer size
+  pub number-six : (callNumbers (resultOf ds (rewriting xs) .answer) .number ≡ 6) ↔ Exceeds xs
+  unfolding resultOf
+  number-six = (to (rewriting xs) refl, (λ w. rw (too-long-exactly xs .1 w)))
+    where
+      to : (r : Rewriting) → rewriting xs ≡ r → callNumbers (resultOf ds r .answer) .number ≡ 6 → Exceeds xs
+      to (accepted zs) e h = absurd (omega arith)
+      to (qualifiedTarget q n) e h = absurd (omega arith)
+      to (usingClause c) e h = absurd (omega arith)
+      to resultTooLong e h = too-long-exactly xs .0 e
+
+-- ---- the body call
+
+-- it is never answered that too many names are declared, and the passes give none of 1, 3, 2
+pub body-not-many : (xs : List ℕ) → bodyResult xs .answer ≡ rewritten.TooManyNames → ⊥
+unfolding bodyResult
+body-not-many xs h = result-not-many [] (rewriting xs) h
+
+pub body-not-refused : (xs : List ℕ) (f : Refusal) → bodyResult xs .answer ≡ rewritten.Refused f → ⊥
+unfolding bodyResult
+body-not-refused xs f h = result-not-refused [] (rewriting xs) f h
+
+-- its count is 0
+pub body-count : (xs : List ℕ) (n c : ℕ) → bodyResult xs .answer ≡ rewritten.Accepted n c → c ≡ 0
+unfolding bodyResult
+body-count xs n c h = sym (result-accepted [] (rewriting xs) n c .0 h .3)
+
+-- "never gives 7, and its count is 0": of the numbers that the body call hands back, its checks included
+pub body-no-seven : (xs out a b : List ℕ) → callNumbers (bodyAnswer xs out a b) .number ≡ 7 → ⊥
+unfolding bodyAnswer bodyResult resultOf
+body-no-seven xs out a b h = go (bodyCheck xs out a b) (rewriting xs) h
+  where
+    go : (k : Check) (r : Rewriting) → callNumbers (callAnswer k (resultOf [] r .answer)) .number ≡ 7 → ⊥
+    go check.Passed (accepted zs) h = omega arith
+    go check.Passed (qualifiedTarget q m) h = omega arith
+    go check.Passed (usingClause u) h = omega arith
+    go check.Passed resultTooLong h = omega arith
+    go (check.Refused TextTooLong) r h = omega arith
+    go (check.Refused BufferTooShort) r h = omega arith
+    go (check.Refused (NotAscii i)) r h = omega arith
+
+pub body-no-records : (xs out a b : List ℕ) → callNumbers (bodyAnswer xs out a b) .records ≡ 0
+unfolding bodyAnswer bodyResult resultOf
+body-no-records xs out a b = go (bodyCheck xs out a b) (rewriting xs)
+  where
+    go : (k : Check) (r : Rewriting) → callNumbers (callAnswer k (resultOf [] r .answer)) .records ≡ 0
+    go check.Passed (accepted zs) = refl
+    go check.Passed (qualifiedTarget q m) = refl
+    go check.Passed (usingClause u) = refl
+    go check.Passed resultTooLong = refl
+    go (check.Refused f) r = refl
+
+-- ---- the function call
+
+-- 7 exactly if over 512 different names are declared
+pub too-many-names : (xs : List ℕ) → (functionResult xs .answer ≡ rewritten.TooManyNames) ↔ (recordLimit < length (recordsOf xs))
+unfolding functionResult
+too-many-names xs = (
+  (λ h. by (ltb recordLimit (length (recordsOf xs)))
+      (λ e. ltb-true _ _ e)
+      (λ e. absurd (result-not-many (recordsOf xs) (rewriting (bodyOf xs)) (rw e at h)))),
+  (λ h. rw (lt-ltb recordLimit (length (recordsOf xs)) h)),
+)
+
+-- else it answers what the passes over its body give
+pub function-passes : (xs : List ℕ)
+    → length (recordsOf xs) ≤ recordLimit
+    → functionResult xs ≡ resultOf (recordsOf xs) (rewriting (bodyOf xs))
+unfolding functionResult
+function-passes xs h = rw (le-ltb recordLimit (length (recordsOf xs)) h)
