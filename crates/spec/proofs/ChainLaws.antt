@@ -9,7 +9,7 @@ use native.Mathlib.Omega.{arith}
 use borrow.Author.Tests.{not-true, eqb-true, eqb-false, eq-eqb, ne-eqb, le-leb}
 use lib.Dec.{eqb}
 use lib.ListN.{length, getD, getElem?}
-use Rattle.spec.proofs.Choice.{by, and-left, and-right, and-both}
+use Rattle.spec.proofs.Choice.{by, and-left, and-right, and-both, or-left, or-right}
 use Rattle.spec.proofs.NameOrder.{same-sym, before-irrefl, before-trans, by-order}
 use Rattle.spec.proofs.RecordLaws.{named, distinct, names, length-names, numberAt, number-next}
 use Rattle.spec.specs.Bytes.{isSame, isBefore, within}
@@ -57,15 +57,7 @@ not-named : (n : List ℕ) (ds : List Declared) (k : ℕ) → any (named n) ds �
 unfolding any names
 not-named n [] k h b = absurd (not-suc-le-zero b)
 not-named n (d ∷ ds) zero h b = or-left (isSame n (d .name)) (any (named n) ds) h
-  where
-    or-left : (a b : Bool) → (a || b) ≡ false → a ≡ false
-    or-left true b h = h
-    or-left false b h = refl
 not-named n (d ∷ ds) (suc k) h b = not-named n ds k (or-right (isSame n (d .name)) (any (named n) ds) h) (le-of-suc-le-suc b)
-  where
-    or-right : (a b : Bool) → (a || b) ≡ false → b ≡ false
-    or-right true b h = absurd (false≢true (sym h))
-    or-right false b h = h
 
 -- where names are different, the same name is at the same place
 pub distinct-place : (ds : List Declared) (j k : ℕ) → distinct ds ≡ true → j < length ds → k < length ds

@@ -1,5 +1,5 @@
 -- Choices by a Bool. Assumes nothing.
-use mathlib.Core.Path.{_≡_, refl}
+use mathlib.Core.Path.{_≡_, refl, sym}
 use mathlib.Core.Bool.{Bool, true, false, cond, not, _&&_, _||_, false≢true}
 use Prim.Native.Nat.{ℕ, _≤_}
 
@@ -29,3 +29,12 @@ and-right false b h = absurd (false≢true h)
 pub and-both : (a b : Bool) → a ≡ true → b ≡ true → (a && b) ≡ true
 and-both true b p q = q
 and-both false b p q = absurd (false≢true p)
+
+-- where `or` fails, both sides fail
+pub or-left : (a b : Bool) → (a || b) ≡ false → a ≡ false
+or-left true b h = absurd (false≢true (sym h))
+or-left false b h = refl
+
+pub or-right : (a b : Bool) → (a || b) ≡ false → b ≡ false
+or-right true b h = absurd (false≢true (sym h))
+or-right false b h = h

@@ -11,7 +11,7 @@ use borrow.Author.Tests.{eqb-true, eqb-false, eq-eqb, le-ltb}
 use lib.Dec.{eqb}
 use lib.ListN.{length, take, drop, length-append, length-map, length-reverse}
 use lib.Seq.{length-take-le, drop-drop}
-use Rattle.spec.proofs.Choice.{by, cond-case, cond-le, and-left, and-right, and-both}
+use Rattle.spec.proofs.Choice.{by, cond-case, cond-le, and-left, and-right, and-both, or-left, or-right}
 use Rattle.spec.proofs.ListLaws.{while-all, total, total-append, total-reverse, total-cut, total-while, total-le, total-map, total-const, drop-end-le, drop-while-le}
 use Rattle.spec.proofs.SpanLaws.{by-kind, span-pos, dollar-le, opens-in}
 use Rattle.spec.proofs.MapLaws.{text-bytes, text-length}
@@ -161,14 +161,6 @@ word-weight n (a ∷ w) (x ∷ t) h q =
     let o = or-left (eqb (upper a) 39) (any (λ a. eqb (upper a) 39) w) q in
     let r = or-right (eqb (upper a) 39) (any (λ a. eqb (upper a) 39) w) q in
     omega (arith, weight-other n (byte x) (upper-other (byte x) a e o), word-weight n w t m r)
-  where
-    or-left : (a b : Bool) → (a || b) ≡ false → a ≡ false
-    or-left true b h = h
-    or-left false b h = refl
-
-    or-right : (a b : Bool) → (a || b) ≡ false → b ≡ false
-    or-right true b h = absurd (false≢true (sym h))
-    or-right false b h = h
 
 -- what stands in front exactly also stands there ignoring case
 pub starts-any-case : (w : List ℕ) (t : List Marked) → starts w t ≡ true → startsIgnoringCase w t ≡ true

@@ -20,3 +20,4 @@ pub mod RefusalOutcomes
 pub mod RefusalLaws
 pub mod RefusalCalls
 pub mod RefusalBounds
+pub mod SearchLaws

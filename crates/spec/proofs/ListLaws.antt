@@ -5,7 +5,7 @@ use mathlib.Core.List.{List, [], _∷_, _++_, map, reverse, reverseAux, append-a
 use Prim.Native.Nat.{ℕ, suc, _+_, _*_, _≤_, zero-le, suc-le-suc}
 use native.Mathlib.Nat.{mul-zero, mul-suc, add-comm}
 use native.Mathlib.Omega.{arith}
-use lib.ListN.{length, take, drop, take-append-drop}
+use lib.ListN.{length, take, drop, length-append, take-append-drop}
 use Rattle.spec.proofs.Choice.{by, cond-case}
 use Rattle.spec.specs.Lists.{isEmpty, takeWhile, dropWhile, dropEnd, any, all, keep, concat}
 
@@ -16,6 +16,9 @@ module _ {A : Type 0} where
   while-split f [] = refl
   while-split f (x ∷ t) =
       by (f x) (λ e. simp e (ap (λ l. x ∷ l) (while-split f t))) (λ e. simp e)
+
+  pub while-sum : (f : A → Bool) (t : List A) → length (takeWhile f t) + length (dropWhile f t) ≡ length t
+  while-sum f t = sym (length-append (takeWhile f t) (dropWhile f t)) ∙ ap length (while-split f t)
 
   -- all elements of that front pass the test
   pub while-all : (f : A → Bool) (t : List A) → all f (takeWhile f t) ≡ true

@@ -80,7 +80,7 @@ map-step c cs =
     (map-replicate flag (length (take n xs)) (regionOf (kindAt xs))
     ∙ (ap (λ m. replicate m (flag (regionOf (kindAt xs)))) e ∙ ap (λ b. replicate n b) (flag-of-kind (kindAt xs) xs))))
 
-mark-byte : (m c : ℕ) → byte (mark m c) ≡ c
+pub mark-byte : (m c : ℕ) → byte (mark m c) ≡ c
 mark-byte zero c = refl
 mark-byte (suc m) c = refl
 

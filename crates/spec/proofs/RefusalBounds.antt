@@ -9,6 +9,9 @@ use native.Mathlib.Omega.{arith}
 use borrow.Author.Tests.{eqb-true}
 use lib.Dec.{eqb, ltb}
 use lib.ListN.{length, drop, length-append, length-drop, length-map, length-reverse}
+use Rattle.spec.proofs.WalkLaws.{while-length}
+use Rattle.spec.proofs.LengthLaws.{trim-le}
+use Rattle.spec.proofs.ListLaws.{while-sum, drop-while-le, drop-end-le}
 use Rattle.spec.proofs.Choice.{by, cond-case, and-left, and-right}
 use Rattle.spec.proofs.MapLaws.{text-length}
 use Rattle.spec.proofs.JoinedPieces.{joined, pieces-joined}
@@ -24,37 +27,6 @@ use Rattle.spec.specs.Raise.{Fate, rewritten, refused, message, usingFat
 use Rattle.spec.specs.Body.{bufferSize, Rewriting, accepted, qualifiedTarget, usingClause, resultTooLong, rewriting}
 use Rattle.spec.specs.Declarations.{recordLimit, Declared, recordsOf, bodyOf}
 use Rattle.spec.specs.Answers.{Result, resultOf, bodyResult, functionResult}
-
--- ---- lists
-
-module _ {A : Type 0} where
-  -- the longest front that passes a test and what stands behind it are the whole
-  pub while-length : (f : A → Bool) (t : List A) → length (takeWhile f t) + length (dropWhile f t) ≡ length t
-  unfolding takeWhile dropWhile
-  while-length f [] = omega arith
-  while-length f (x ∷ t) =
-      by (f x)
-      (λ e. rw e (omega (arith, while-length f t)))
-      (λ e. rw e (omega arith))
-
-  pub take-while-le : (f : A → Bool) (t : List A) → length (takeWhile f t) ≤ length t
-  take-while-le f t = omega (arith, while-length f t)
-
-  pub drop-while-le : (f : A → Bool) (t : List A) → length (dropWhile f t) ≤ length t
-  drop-while-le f t = omega (arith, while-length f t)
-
-  pub drop-end-le : (f : A → Bool) (t : List A) → length (dropEnd f t) ≤ length t
-  unfolding dropEnd
-  drop-end-le f [] = zero-le
-  drop-end-le f (x ∷ t) =
-      cond-case (λ (l : List A). length l ≤ suc (length t)) (f x && isEmpty (dropEnd f t)) _ _
-      (λ _. zero-le)
-      (λ _. suc-le-suc (drop-end-le f t))
-
-pub trim-le : (t : List Marked) → length (trim t) ≤ length t
-unfolding trim trimEnd
-trim-le t =
-    omega (arith, drop-end-le (ofByte isW) (dropWhile (ofByte isW) t), drop-while-le (ofByte isW) t)
 
 pub bytes-length : (t : List Marked) → length (bytes t) ≡ length t
 unfolding bytes
@@ -106,8 +78,8 @@ before-within back =
       length-reverse q,
       length-reverse n,
       drop-while-le (ofByte isW) back,
-      while-length (ofByte isIdent) b,
-      take-while-le (ofByte isIdent) (drop 1 r),
+      while-sum (ofByte isIdent) b,
+      while-sum (ofByte isIdent) (drop 1 r),
       length-drop 1 r,
       front-seen r 45 (eqb-true (frontByte r) 46 (and-left (eqb (frontByte r) 46) (not (isEmpty q)) (and-right (not (isEmpty n)) _ e))),
     ))
@@ -137,8 +109,8 @@ equals-within t =
     (λ e. omega (
       arith,
       drop-while-le (ofByte isN) t,
-      while-length (ofByte isIdent) a,
-      take-while-le (ofByte isIdent) (drop 1 r),
+      while-sum (ofByte isIdent) a,
+      while-sum (ofByte isIdent) (drop 1 r),
       length-drop 1 r,
       front-seen r 45 (eqb-true (frontByte r) 46 (and-left (eqb (frontByte r) 46) lone (and-right (not (isEmpty q)) _ e))),
     ))
@@ -243,7 +215,7 @@ unfolding contentOf
 content-le t =
     omega (
       arith,
-      take-while-le (λ (x : Marked). not (isLiveByte 59 x)) (markedText (bytes t)),
+      while-length (λ (x : Marked). not (isLiveByte 59 x)) (markedText (bytes t)),
       text-length (bytes t),
       bytes-length t,
     )

@@ -5,7 +5,7 @@ use mathlib.Core.List.{List, [], _∷_, map}
 use Prim.Native.Nat.{ℕ}
 use lib.ListN.{length}
 use Rattle.spec.proofs.Apart.{apart}
-use Rattle.spec.proofs.Choice.{by}
+use Rattle.spec.proofs.Choice.{by, or-left, or-right}
 use Rattle.spec.proofs.SpanLaws.{tiles}
 use Rattle.spec.proofs.MapLaws.{text-bytes}
 use Rattle.spec.specs.Bytes.{ascii}
@@ -31,15 +31,6 @@ isDollar (Code n) = false
 -- some span of the text is a dollar literal
 unfoldable pub hasDollar : List ℕ → Bool
 hasDollar xs = any (λ (l : Lexeme). isDollar (l .span)) (lexemes xs)
-
--- where `or` fails, both sides fail
-pub or-left : (a b : Bool) → (a || b) ≡ false → a ≡ false
-or-left true b h = absurd (false≢true (sym h))
-or-left false b h = refl
-
-pub or-right : (a b : Bool) → (a || b) ≡ false → b ≡ false
-or-right true b h = absurd (false≢true (sym h))
-or-right false b h = h
 
 -- a span that is no dollar literal stays as it is
 pub span-kept : (s : Span) (xs : List ℕ) → isDollar s ≡ false → requoteSpan s xs ≡ xs

@@ -8,11 +8,11 @@ use Prim.Native.Nat.{ℕ, _≤_}
 use native.Mathlib.Omega.{arith}
 use lib.Dec.{eqb}
 use lib.ListN.{length}
-use Rattle.spec.proofs.Choice.{by, cond-case, and-left, and-right, and-both}
+use Rattle.spec.proofs.Choice.{by, cond-case, and-left, and-right, and-both, or-left, or-right}
 use Rattle.spec.proofs.MapLaws.{text-bytes}
 use Rattle.spec.proofs.FirstFound.{firstSome}
 use Rattle.spec.proofs.JoinedPieces.{joined, pieces-joined}
-use Rattle.spec.proofs.UnchangedLaws.{hasDollar, or-left, or-right, none-here, none-behind, requote-unchanged, elsif-unchanged, raise-unchanged}
+use Rattle.spec.proofs.UnchangedLaws.{hasDollar, none-here, none-behind, requote-unchanged, elsif-unchanged, raise-unchanged}
 use Rattle.spec.proofs.RefusalOutcomes.{assignedText}
 use Rattle.spec.proofs.RefusalLaws.{then-accepted, targetIn, assigned, assign-done}
 use Rattle.spec.specs.Bytes.{ascii, isQuote}

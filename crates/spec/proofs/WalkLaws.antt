@@ -1,23 +1,22 @@
 -- A text read from an index on: what stands there, one step of each search, of `takeWhile` and `dropWhile`, and the pieces
 -- up to a separator, for every test. Assumes nothing.
 use mathlib.Core.Path.{_≡_, refl, sym, ap, _∙_}
-use mathlib.Core.Bool.{Bool, true, false, cond, _&&_}
+use mathlib.Core.Bool.{Bool, true, false, cond, not, _&&_}
 use mathlib.Core.List.{List, [], _∷_, _++_, map, reverse, reverse-append}
 use Prim.Native.Nat.{ℕ, zero, suc, _+_, _-_, _≤_, _<_, zero-le, suc-le-suc}
 use native.Mathlib.Nat.{le-of-suc-le-suc}
 use native.Mathlib.Numerals.{add-one}
 use native.Mathlib.Omega.{arith}
-use borrow.Author.Tests.{lt-ltb, le-ltb, ltb-true, ltb-false}
+use borrow.Author.Tests.{ltb-true, ltb-false, eq-eqb, ne-eqb}
 use lib.Dec.{eqb, ltb, eqb·suc-zero}
-use lib.ListN.{length, take, drop, getD, length-reverse, length-drop, drop-of-length-le}
-use lib.Seq.{length-take-le, take-suc, drop-cons, drop-nil, getD-drop}
+use lib.ListN.{length, take, drop, getD, length-reverse, length-drop, drop-of-length-le, List·getD-eq-default}
+use lib.Seq.{length-take-le, take-suc, drop-cons, drop-nil, getD-drop, drop-drop}
 use Rattle.spec.proofs.Choice.{by}
-use Rattle.spec.proofs.MapLaws.{marked-length, marked-bytes}
-use Rattle.spec.specs.Bytes.{upper}
-use Rattle.spec.specs.Lists.{takeWhile, dropWhile, all}
-use Rattle.spec.specs.Map.{Marked, live, quoted, byte, isLive, mark, marked, bytes, frontByte, frontLive}
-use Rattle.spec.specs.Search.{Test, firstFrom, first, startsIgnoringCase, starts, ontoFirst, piecesFrom, startsFrom}
-use Rattle.spec.specs.declared.Found.{Found}
+use Rattle.spec.proofs.MapLaws.{mark-byte, marked-length, marked-bytes}
+use Rattle.spec.specs.Bytes.{upper, isWord, isN}
+use Rattle.spec.specs.Lists.{takeWhile, dropWhile}
+use Rattle.spec.specs.Map.{Marked, live, quoted, byte, isLive, mark, marked, bytes, frontByte, frontLive, isLiveByte}
+use Rattle.spec.specs.Search.{Test, firstFrom, first, startsIgnoringCase, starts, wordHere, byteHere, needleHere, isSkipped, isWordMark, ontoFirst, piecesFrom, startsFrom}
 use Rattle.spec.specs.declared.Found.the-variants.{At, Nothing}
 
 -- ---- lists
@@ -39,25 +38,54 @@ module _ {A : Type 0} (t : List A) (i : ℕ) (d : A) (h : i < length t) where
   pub back-step : reverse (take (i + 1) t) ≡ getD t i d ∷ reverse (take i t)
   back-step = rw (add-one, take-suc t i d h, reverse-append) refl
 
+-- before i stand i elements
 pub back-length : {A : Type 0} (t : List A) (i : ℕ) → i ≤ length t → length (reverse (take i t)) ≡ i
 back-length t i h = length-reverse (take i t) ∙ length-take-le i t h
 
+-- within a list the default does not matter
+pub any-default : {A : Type 0} (l : List A) (i : ℕ) (d e : A) → i < length l → getD l i d ≡ getD l i e
+any-default [] i d e h = absurd (omega arith)
+any-default (x ∷ l) zero d e h = refl
+any-default (x ∷ l) (suc i) d e h = any-default l i d e (le-of-suc-le-suc h)
+
+pub map-take : {A B : Type 0} (f : A → B) (n : ℕ) (l : List A) → map f (take n l) ≡ take n (map f l)
+map-take f zero l = refl
+map-take f (suc n) [] = refl
+map-take f (suc n) (x ∷ l) = ap (λ m. f x ∷ m) (map-take f n l)
+
 -- ---- a text beside a map
 
-pub mark-byte : (m c : ℕ) → byte (mark m c) ≡ c
-mark-byte zero c = refl
-mark-byte (suc m) c = refl
-
+-- a byte beside its map byte: its byte, and what each test of marked bytes says of it
 pub mark-live : (m c : ℕ) → isLive (mark m c) ≡ eqb m 0
 mark-live zero c = refl
 mark-live (suc m) c = sym (eqb·suc-zero m)
 
+pub mark-skipped : (m c : ℕ) → isSkipped (mark m c) ≡ cond (eqb m 0) (isN c) true
+mark-skipped zero c = refl
+mark-skipped (suc m) c = rw eqb·suc-zero refl
+
+pub mark-word : (m c : ℕ) → isWordMark (mark m c) ≡ (eqb m 0 && isWord c)
+mark-word zero c = refl
+mark-word (suc m) c = rw eqb·suc-zero refl
+
+pub mark-live-byte : (b m c : ℕ) → isLiveByte b (mark m c) ≡ (eqb m 0 && eqb c b)
+mark-live-byte b zero c = refl
+mark-live-byte b (suc m) c = rw eqb·suc-zero refl
+
+-- dropping from a text beside its map drops from both
 pub marked-drop : (i : ℕ) (xs ms : List ℕ) → drop i (marked xs ms) ≡ marked (drop i xs) (drop i ms)
 unfolding marked
 marked-drop zero xs ms = refl
 marked-drop (suc i) [] ms = refl
 marked-drop (suc i) (c ∷ cs) [] = marked-drop i cs [] ∙ ap (λ (l : List ℕ). marked (drop i cs) l) (drop-nil i)
 marked-drop (suc i) (c ∷ cs) (m ∷ ms) = marked-drop i cs ms
+
+-- what stands in the map past the text's length does not matter
+pub marked-behind : (xs ms r : List ℕ) → length xs ≤ length ms → marked xs (ms ++ r) ≡ marked xs ms
+unfolding marked
+marked-behind [] ms r h = refl
+marked-behind (c ∷ cs) [] r h = absurd (omega arith)
+marked-behind (c ∷ cs) (m ∷ ms) r h = ap (λ (t : List Marked). mark m c ∷ t) (marked-behind cs ms r (le-of-suc-le-suc h))
 
 -- the element at i is the byte at i with the map byte at i; past the map's end a byte is live
 pub marked-at : (xs ms : List ℕ) (i : ℕ) (d : Marked) → i < length xs → getD (marked xs ms) i d ≡ mark (getD ms i 0) (getD xs i 0)
@@ -72,6 +100,7 @@ module _ (xs ms : List ℕ) (i : ℕ) (h : i < length xs) where
   within-marked : i < length (marked xs ms)
   within-marked = rw marked-length h
 
+  -- what stands from i on, and what stands before i + 1 read backwards, by the byte at i
   pub marked-step : drop i (marked xs ms) ≡ mark (getD ms i 0) (getD xs i 0) ∷ drop (i + 1) (marked xs ms)
   marked-step =
       drop-step (marked xs ms) i (live 0) within-marked
@@ -98,6 +127,25 @@ unfolding frontLive
 front-dead xs ms i h =
     let k : length (marked xs ms) ≤ i = rw marked-length h in
     rw (drop-of-length-le (marked xs ms) k) refl
+
+-- a map byte that is 0, where past the end stands 1, stands within the map
+pub live-inside : (ms : List ℕ) (j : ℕ) → getD ms j 1 ≡ 0 → j < length ms
+live-inside ms j e =
+    by (ltb j (length ms)) (λ q. ltb-true j (length ms) q)
+    (λ q. absurd (omega (arith, List·getD-eq-default ms 1 (ltb-false j (length ms) q))))
+
+-- a byte is live exactly if its map byte is 0, past the end none
+pub live-at : (xs ms : List ℕ) → length ms ≡ length xs → (j : ℕ) → frontLive (drop j (marked xs ms)) ≡ eqb (getD ms j 1) 0
+live-at xs ms e j =
+    by (ltb j (length xs))
+    (λ q.
+    let h = ltb-true j (length xs) q in
+    let k : j < length ms = omega arith in
+    front-live xs ms j h ∙ ap (λ (m : ℕ). eqb m 0) (any-default ms j 0 1 k))
+    (λ q.
+    let h = ltb-false j (length xs) q in
+    let k : length ms ≤ j = omega arith in
+    front-dead xs ms j h ∙ sym (ap (λ (m : ℕ). eqb m 0) (List·getD-eq-default ms 1 k)))
 
 -- the byte at i; past the end both are 0
 pub front-byte : (xs ms : List ℕ) (i : ℕ) → frontByte (drop i (marked xs ms)) ≡ getD xs i 0
@@ -129,6 +177,27 @@ prefixBy f (a ∷ w) (x ∷ xs) =
     let more = prefixBy f w xs in
     eqb (f x) (f a) && more
 
+-- the comparison from an index of w and an index of xs on: all of w is compared, xs is at its end, the bytes agree, or not
+module _ (f : ℕ → ℕ) (w xs : List ℕ) (k i : ℕ) where
+  pub prefix-whole : length w ≤ k → prefixBy f (drop k w) (drop i xs) ≡ true
+  unfolding prefixBy
+  prefix-whole h = rw (drop-of-length-le w h) refl
+
+  module _ (h : k < length w) where
+    pub prefix-short : length xs ≤ i → prefixBy f (drop k w) (drop i xs) ≡ false
+    unfolding prefixBy
+    prefix-short m = rw (drop-of-length-le xs m, drop-step w k 0 h) refl
+
+    pub prefix-step : i < length xs → prefixBy f (drop k w) (drop i xs) ≡ (eqb (f (getD xs i 0)) (f (getD w k 0)) && prefixBy f (drop (k + 1) w) (drop (i + 1) xs))
+    unfolding prefixBy
+    prefix-step m = rw (drop-step w k 0 h, drop-step xs i 0 m) refl
+
+    pub prefix-hit : i < length xs → f (getD xs i 0) ≡ f (getD w k 0) → prefixBy f (drop k w) (drop i xs) ≡ prefixBy f (drop (k + 1) w) (drop (i + 1) xs)
+    prefix-hit m e = prefix-step m ∙ rw (eq-eqb (f (getD xs i 0)) (f (getD w k 0)) e) refl
+
+    pub prefix-miss : i < length xs → (f (getD xs i 0) ≡ f (getD w k 0) → ⊥) → prefixBy f (drop k w) (drop i xs) ≡ false
+    prefix-miss m e = prefix-step m ∙ rw (ne-eqb (f (getD xs i 0)) (f (getD w k 0)) e) refl
+
 -- both comparisons read bytes only
 pub starts-case : (w : List ℕ) (t : List Marked) → startsIgnoringCase w t ≡ prefixBy upper w (bytes t)
 unfolding startsIgnoringCase prefixBy bytes
@@ -146,6 +215,7 @@ starts-exact (a ∷ w) (x ∷ t) = ap (λ (b : Bool). eqb (byte x) a && b) (star
 pub bytes-drop : (xs ms : List ℕ) (i : ℕ) → bytes (drop i (marked xs ms)) ≡ drop i xs
 bytes-drop xs ms i = ap bytes (marked-drop i xs ms) ∙ marked-bytes (drop i xs) (drop i ms)
 
+-- so both comparisons at an index are of the text's bytes
 pub starts-case-at : (w xs ms : List ℕ) (i : ℕ) → startsIgnoringCase w (drop i (marked xs ms)) ≡ prefixBy upper w (drop i xs)
 starts-case-at w xs ms i = starts-case w (drop i (marked xs ms)) ∙ ap (λ (l : List ℕ). prefixBy upper w l) (bytes-drop xs ms i)
 
@@ -153,9 +223,37 @@ pub starts-exact-at : (w xs ms : List ℕ) (i : ℕ) → starts w (drop i (marke
 starts-exact-at w xs ms i =
     starts-exact w (drop i (marked xs ms)) ∙ ap (λ (l : List ℕ). prefixBy (λ (b : ℕ). b) w l) (bytes-drop xs ms i)
 
--- so another map gives the same
+-- and another map gives the same
 pub starts-any-map : (w xs ms ns : List ℕ) → startsIgnoringCase w (marked xs ms) ≡ startsIgnoringCase w (marked xs ns)
 starts-any-map w xs ms ns = starts-case-at w xs ms 0 ∙ sym (starts-case-at w xs ns 0)
+
+-- ---- the tests at an index, on the bytes and the map, for every set of word bytes
+
+pub word-at : (set : ℕ → Bool) (w xs ms : List ℕ) → length ms ≡ length xs → (j : ℕ)
+    → wordHere set w (frontByte (reverse (take j (marked xs ms)))) (drop j (marked xs ms))
+    ≡ (eqb (getD ms j 1) 0
+    && (prefixBy upper w (drop j xs)
+    && (not (set (frontByte (reverse (take j (marked xs ms))))) && not (set (getD xs (j + length w) 0)))))
+unfolding wordHere
+word-at set w xs ms e j =
+    rw (live-at xs ms e j, starts-case-at w xs ms j, drop-drop (length w) j (marked xs ms), front-byte xs ms (j + length w)) refl
+
+pub needle-at : (w xs ms : List ℕ) → length ms ≡ length xs → (j : ℕ)
+    → needleHere w (reverse (take j (marked xs ms))) (drop j (marked xs ms))
+    ≡ (eqb (getD ms j 1) 0 && prefixBy (λ (b : ℕ). b) w (drop j xs))
+unfolding needleHere
+needle-at w xs ms e j = rw (live-at xs ms e j, starts-exact-at w xs ms j) refl
+
+byte-test : (b : ℕ) (back u : List Marked) → byteHere b back u ≡ (frontLive u && eqb (frontByte u) b)
+unfolding byteHere frontLive frontByte
+byte-test b back [] = refl
+byte-test b back (live c ∷ u) = refl
+byte-test b back (quoted c ∷ u) = refl
+
+pub byte-at : (b : ℕ) (xs ms : List ℕ) → length ms ≡ length xs → (j : ℕ)
+    → byteHere b (reverse (take j (marked xs ms))) (drop j (marked xs ms)) ≡ (eqb (getD ms j 1) 0 && eqb (getD xs j 0) b)
+byte-at b xs ms e j =
+    byte-test b (reverse (take j (marked xs ms))) (drop j (marked xs ms)) ∙ rw (live-at xs ms e j, front-byte xs ms j) refl
 
 -- ---- the first place that passes a test, at an index
 
@@ -172,6 +270,7 @@ front-miss : (p : Test) (back u v : List Marked) (x : Marked) → u ≡ x ∷ v 
 unfolding firstFrom
 front-miss p back u v x q e = rw q (simp (rw q at e))
 
+-- past the end none is found; a place that passes is found; one that fails is passed over
 module _ (p : Test) (t : List Marked) (i : ℕ) where
   pub first-end : length t ≤ i → first p i t ≡ Nothing
   unfolding first firstFrom
@@ -197,9 +296,9 @@ first-within p t i j =
     climb (λ (k : ℕ). first p k t ≡ At j → (k ≤ j) × (j < length t)) (length t)
     (λ k h e. let n = first-end p t k h in let z : _≡_ {A = ℕ} 0 1 = cc in absurd (omega arith))
     (λ k h more e.
-        by (passesAt p t k)
-        (λ q. let f = first-hit p t k h q in let same : k ≡ j = cc in (omega arith, omega arith))
-        (λ q. let r = more (sym (first-miss p t k h q) ∙ e) in (omega arith, r .1)))
+    by (passesAt p t k)
+    (λ q. let f = first-hit p t k h q in let same : k ≡ j = cc in (omega arith, omega arith))
+    (λ q. let r = more (sym (first-miss p t k h q) ∙ e) in (omega arith, r .1)))
     i
 
 -- ---- `takeWhile` and `dropWhile`, at an index
@@ -265,6 +364,7 @@ module _ {A : Type 0} (f : A → Bool) where
       ap length (take-front x t (g 0 (omega arith)))
       ∙ ap suc (while-least t d n (le-of-suc-le-suc h) (λ k j. g (suc k) (suc-le-suc j)) e)
 
+  -- one step from i on: past the end, at an element that passes, at one that fails
   module _ (t : List A) (i : ℕ) where
     pub while-end : length t ≤ i → takeWhile f (drop i t) ≡ []
     unfolding takeWhile
@@ -331,6 +431,8 @@ onto-front : (p : Test) (back u v : List Marked) (x : Marked) → u ≡ x ∷ v 
 unfolding piecesFrom
 onto-front p back u v x q e = rw q (simp (rw q at e))
 
+-- one step from i on: past the end there is one empty piece; a place that passes ends a piece; else the byte joins the first
+-- piece behind it
 module _ (p : Test) (t : List Marked) (i : ℕ) where
   pub pieces-end : length t ≤ i → piecesAt p t i ≡ [] ∷ []
   unfolding piecesFrom
@@ -354,20 +456,20 @@ pieces-cut p t i j =
     climb (λ (k : ℕ). first p k t ≡ At j → piecesAt p t k ≡ take (j - k) (drop k t) ∷ piecesAt p t (j + 1)) (length t)
     (λ k h e. let n = first-end p t k h in let z : _≡_ {A = ℕ} 0 1 = cc in absurd (omega arith))
     (λ k h more e.
-        by (passesAt p t k)
-        (λ q.
-            let f = first-hit p t k h q in
-            let same : k ≡ j = cc in
-            let none : j - k ≡ 0 = omega arith in
-            rw none (pieces-hit p t k h q ∙ ap (λ (n : ℕ). [] ∷ piecesAt p t (n + 1)) same))
-        (λ q.
-            let r : first p (k + 1) t ≡ At j = sym (first-miss p t k h q) ∙ e in
-            let b = first-within p t (k + 1) j r in
-            let one : j - k ≡ suc (j - (k + 1)) = omega arith in
-            rw one
-            (pieces-miss p t k h q
-            ∙ (ap (λ (ps : List (List Marked)). ontoFirst (getD t k (live 0)) ps) (more r)
-            ∙ ap (λ (l : List Marked). take (suc (j - (k + 1))) l ∷ piecesAt p t (j + 1)) (sym (drop-step t k (live 0) h))))))
+    by (passesAt p t k)
+    (λ q.
+    let f = first-hit p t k h q in
+    let same : k ≡ j = cc in
+    let none : j - k ≡ 0 = omega arith in
+    rw none (pieces-hit p t k h q ∙ ap (λ (n : ℕ). [] ∷ piecesAt p t (n + 1)) same))
+    (λ q.
+    let r : first p (k + 1) t ≡ At j = sym (first-miss p t k h q) ∙ e in
+    let b = first-within p t (k + 1) j r in
+    let one : j - k ≡ suc (j - (k + 1)) = omega arith in
+    rw one
+    (pieces-miss p t k h q
+    ∙ (ap (λ (ps : List (List Marked)). ontoFirst (getD t k (live 0)) ps) (more r)
+    ∙ ap (λ (l : List Marked). take (suc (j - (k + 1))) l ∷ piecesAt p t (j + 1)) (sym (drop-step t k (live 0) h))))))
     i
 
 -- where none passes, there is one piece
@@ -377,12 +479,12 @@ pieces-last p t i =
     climb (λ (k : ℕ). first p k t ≡ Nothing → piecesAt p t k ≡ drop k t ∷ []) (length t)
     (λ k h e. pieces-end p t k h ∙ ap (λ (l : List Marked). l ∷ []) (sym (drop-of-length-le t h)))
     (λ k h more e.
-        by (passesAt p t k)
-        (λ q. let f = first-hit p t k h q in let z : _≡_ {A = ℕ} 0 1 = cc in absurd (omega arith))
-        (λ q.
-            pieces-miss p t k h q
-            ∙ (ap (λ (ps : List (List Marked)). ontoFirst (getD t k (live 0)) ps) (more (sym (first-miss p t k h q) ∙ e))
-            ∙ ap (λ (l : List Marked). l ∷ []) (sym (drop-step t k (live 0) h)))))
+    by (passesAt p t k)
+    (λ q. let f = first-hit p t k h q in let z : _≡_ {A = ℕ} 0 1 = cc in absurd (omega arith))
+    (λ q.
+    pieces-miss p t k h q
+    ∙ (ap (λ (ps : List (List Marked)). ontoFirst (getD t k (live 0)) ps) (more (sym (first-miss p t k h q) ∙ e))
+    ∙ ap (λ (l : List Marked). l ∷ []) (sym (drop-step t k (live 0) h)))))
     i
 
 -- ---- where the pieces start, at an index
@@ -395,6 +497,7 @@ cutsFrom p back (x ∷ t) =
     let cut = suc (length back) ∷ more in
     cond (p back (x ∷ t)) cut more
 
+-- those from i on
 abbrev pub cutsAt : Test → List Marked → ℕ → List ℕ
 cutsAt p t i = cutsFrom p (reverse (take i t)) (drop i t)
 
@@ -415,8 +518,8 @@ starts-cuts p back (x ∷ u) =
     let more = starts-cuts p (x ∷ back) u in
     by (p back (x ∷ u))
     (λ e.
-        let n : suc (length back + 0) ≡ suc (length back) = omega arith in
-        rw e (ap (λ (k : ℕ). length back ∷ startsFrom k (piecesFrom p (x ∷ back) u)) n ∙ ap (λ (l : List ℕ). length back ∷ l) more))
+    let n : suc (length back + 0) ≡ suc (length back) = omega arith in
+    rw e (ap (λ (k : ℕ). length back ∷ startsFrom k (piecesFrom p (x ∷ back) u)) n ∙ ap (λ (l : List ℕ). length back ∷ l) more))
     (λ e. rw e (starts-onto x (length back) (piecesFrom p (x ∷ back) u) (cutsFrom p (x ∷ back) u) more))
 
 cuts-front : (p : Test) (back u v : List Marked) (x : Marked) → u ≡ x ∷ v → p back u ≡ true → cutsFrom p back u ≡ suc (length back) ∷ cutsFrom p (x ∷ back) v
@@ -427,6 +530,7 @@ cuts-past : (p : Test) (back u v : List Marked) (x : Marked) → u ≡ x ∷ v �
 unfolding cutsFrom
 cuts-past p back u v x q e = rw q (simp (rw q at e))
 
+-- one step from i on: past the end no cut, behind a place that passes one, else none here
 module _ (p : Test) (t : List Marked) (i : ℕ) where
   pub cuts-end : length t ≤ i → cutsAt p t i ≡ []
   unfolding cutsFrom
