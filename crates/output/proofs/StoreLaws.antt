@@ -20,6 +20,10 @@ sets-append (a ∷ u) v d i =
     let k : i + suc (length u) ≡ suc i + length u = omega arith in
     rw k (sets-append u v (set d i a) (suc i))
 
+-- a turn of a loop that stores u, the front of what is left to store
+pub sets-more : {A : Type 0} (d d′ r u v : List A) (o o′ : ℕ) → r ≡ u ++ v → d′ ≡ sets d o u → o′ ≡ o + length u → sets d o r ≡ sets d′ o′ v
+sets-more d d′ r u v o o′ e p k = rw (e, p, k) (sets-append u v d o)
+
 -- stores past the end do nothing
 pub sets-out : {A : Type 0} (vs d : List A) (i : ℕ) → length d ≤ i → sets d i vs ≡ d
 sets-out [] d i h = refl

@@ -1,3 +1,4 @@
 pub mod QuoteLaws
 pub mod CommentLaws
 pub mod RunLaws
+pub mod StepLaws

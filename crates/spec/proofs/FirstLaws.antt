@@ -154,10 +154,16 @@ unfolding isEmpty
 some-word [] f j e = apart Nothing j e refl
 some-word (a ∷ w) f j e = e
 
-nonempty-word : (w : List ℕ) (f : Found) → 0 < length w → cond (isEmpty w) Nothing f ≡ f
+pub nonempty-word : (w : List ℕ) (f : Found) → 0 < length w → cond (isEmpty w) Nothing f ≡ f
 unfolding isEmpty
 nonempty-word [] f h = absurd (omega arith)
 nonempty-word (a ∷ w) f h = refl
+
+-- and an empty one is not
+pub empty-word : (w : List ℕ) (f : Found) → length w ≡ 0 → cond (isEmpty w) Nothing f ≡ Nothing
+unfolding isEmpty
+empty-word [] f h = refl
+empty-word (a ∷ w) f h = absurd (omega arith)
 
 module _ (p : Test) (t : List Marked) (Q : ℕ → Type 0) (s : Says p t Q) (w : List ℕ) (i : ℕ) where
   -- the least offset that has the property

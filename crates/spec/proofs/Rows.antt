@@ -83,3 +83,23 @@ behind-alone = refl
 raise-joined : body "v := raise ;EXCEPTION 'a';" ≡ row 0 0 33 0 "SET v = SELECT RAISE(ABORT, 'a');"
 unfolding computed
 raise-joined = refl
+
+-- ---- the traps that document 01 names
+
+-- W and N are two sets: byte 11 may stand between a name and `:=`, and not before a name that a lone `=` follows
+eleven-is-w : body "v\u{b}:= 1;" ≡ row 0 0 10 0 "SET v = 1;"
+unfolding computed
+eleven-is-w = refl
+
+space-is-n : body "BEGIN t.n = 1;" ≡ row 4 1 3 0 "t.n"
+unfolding computed
+space-is-n = refl
+
+eleven-is-not-n : body "BEGIN\u{b}t.n = 1;" ≡ row 0 0 14 0 "BEGIN\u{b}t.n = 1;"
+unfolding computed
+eleven-is-not-n = refl
+
+-- pass 4 reads quotes by itself: in a comment too a quote opens, and the `;` behind it ends no statement
+own-quotes : body "/*'*/ SELECT a INTO v;" ≡ row 0 0 22 0 "/*'*/ SELECT a INTO v;"
+unfolding computed
+own-quotes = refl

@@ -166,6 +166,10 @@ searchNumbers (search.Found i) = record { number = 0; found = 1; place = i }
 searchNumbers search.NotFound = record { number = 0; found = 0; place = 0 }
 searchNumbers (search.Refused r) = record { number = refusalNumber r; found = 0; place = refusalPlace r }
 
+-- the three in this order, as a function hands them back that returns a part of the text
+abbrev pub searchList : SearchNumbers → List ℕ
+searchList n = n .number ∷ n .found ∷ n .place ∷ []
+
 -- a search that fills a buffer seeks nothing
 abbrev pub filledNumbers : Filled → SearchNumbers
 filledNumbers (filled.Count n) = record { number = 0; found = 0; place = 0 }

@@ -1,0 +1,50 @@
+// The checks that come before anything is written: 1 the text's length, 3 the lent buffers, 2 bytes over 127.
+use spec::Check;
+use spec::Found;
+use spec::Refusal;
+ghost use mathlib.Core.Path.{_≡_};
+ghost use Rattle.spec.specs.Answers.{firstHigh, asciiCheck, checkOf};
+ghost use Rattle.spec.specs.declared.Check.the-variants.{Passed};
+
+// The offset of the first byte over 127.
+fn first_high(text: &[u8]) -> Found
+    ensures { λ r. ⌜ r ≡ firstHigh (now (text .entry)) ⌝ }
+{
+    let mut i: usize = 0;
+    while i < text.len() {
+        if 127 < text[i] {
+            return Found::At(i);
+        }
+        i += 1;
+    }
+    Found::Nothing
+}
+
+// Whether a call may begin: `enough` says that every lent buffer is long enough. The text's bytes come before the needle's.
+pub fn check_texts(limit: usize, enough: bool, text: &[u8], needle: &[u8]) -> Check
+    ensures { λ r. ⌜ r ≡ checkOf limit enough (now (text .entry)) (now (needle .entry)) ⌝ }
+{
+    if limit < text.len() {
+        return Check::Refused(Refusal::TextTooLong);
+    }
+    if enough {
+        let high = first_high(text);
+        match high {
+            Found::At(i) => Check::Refused(Refusal::NotAscii(i)),
+            Found::Nothing => check_needle(needle),
+        }
+    } else {
+        Check::Refused(Refusal::BufferTooShort)
+    }
+}
+
+// The last check: the needle's bytes.
+fn check_needle(needle: &[u8]) -> Check
+    ensures { λ r. ⌜ r ≡ asciiCheck (firstHigh (now (needle .entry))) Passed ⌝ }
+{
+    let high = first_high(needle);
+    match high {
+        Found::At(i) => Check::Refused(Refusal::NotAscii(i)),
+        Found::Nothing => Check::Passed,
+    }
+}

@@ -1,0 +1,147 @@
+use native.Mathlib.Omega.{arith}
+use borrow.Author.Needs.{needs}
+use mathlib.Core.Path.{_≡_, refl, sym, ap, _∙_}
+use mathlib.Core.Bool.{true, false, cond}
+use mathlib.Core.List.{List}
+use Prim.Native.Nat.{ℕ, _+_, _-_, _≤_, _<_}
+use native.Mathlib.Nat.{add-zero}
+use lib.ListN.{length, drop, getD}
+use Rattle.spec.specs.Bytes.{upper}
+use Rattle.spec.specs.Lists.{isEmpty}
+use Rattle.spec.specs.Map.{marked}
+use Rattle.spec.specs.Search.{first, keywordHere}
+use Rattle.spec.specs.declared.Found.the-variants.{Nothing}
+use Rattle.spec.proofs.WalkLaws.{prefixBy, prefix-miss, prefix-whole}
+use Rattle.spec.proofs.FirstLaws.{empty-word, nonempty-word}
+use Rattle.scanner.proofs.KeywordLaws.{next-byte, key-edge, key-off, key-hit, key-end}
+use Rattle.scanner.proofs.find_keyword_in.Statement.{statement}
+use Rattle.scanner.proofs.find_keyword_in.Tie as tie
+
+abbrev Inv-loop : tie.InvT-loop
+Inv-loop text map word from n last i at j₀ j = (j ≤ n) × (prefixBy upper word (drop at text) ≡ prefixBy upper (drop j word) (drop (at + j) text))
+
+abbrev μ-loop : tie.MeasureT-loop
+μ-loop text map word from n last i at j₀ j = n - j
+
+abbrev Inv-offsets : tie.InvT-offsets
+Inv-offsets text map word from n last i₀ i = cond (isEmpty word) Nothing (first (keywordHere word) from (marked text map)) ≡ first (keywordHere word) i (marked text map)
+
+abbrev μ-offsets : tie.MeasureT-offsets
+μ-offsets text map word from n last i₀ i = last + 1 - i
+
+returns : tie.Need-returns Inv-loop μ-loop Inv-offsets μ-offsets
+returns c = sym (empty-word (c .before .before .before .before .args .word .now) _ (c .if1 .taken))
+
+returns-2 : tie.Need-returns-2 Inv-loop μ-loop Inv-offsets μ-offsets
+returns-2 c =
+    let s = c .before .before .before .before .before .args in
+    sym (nonempty-word (s .word .now) _ (omega (arith, c .before .if1 .left)) ∙ key-end (s .text .now) (s .map .now) (s .word .now) (s .from) (omega arith))
+
+sub-last : tie.Need-sub-last Inv-loop μ-loop Inv-offsets μ-offsets
+sub-last c = search needs
+
+offsets-holds : tie.Need-offsets-holds Inv-loop μ-loop Inv-offsets μ-offsets
+offsets-holds c = nonempty-word (c .before .before .before .before .before .args .word .now) _ (omega (arith, c .before .if1 .left))
+
+returns-3 : tie.Need-returns-3 Inv-loop μ-loop Inv-offsets μ-offsets
+returns-3 c =
+    let s = c .before .before .before .before .before .before .before .args in
+    sym (c .before .offsets .inv ∙ key-end (s .text .now) (s .map .now) (s .word .now) (c .before .offsets .i) (omega arith))
+
+add-i : tie.Need-add-i Inv-loop μ-loop Inv-offsets μ-offsets
+add-i c = search needs
+
+edges-at-requires : tie.Need-edges-at-requires Inv-loop μ-loop Inv-offsets μ-offsets
+edges-at-requires c κs = search needs
+
+loop-holds : tie.Need-loop-holds Inv-loop μ-loop Inv-offsets μ-offsets
+loop-holds c = (omega arith, rw add-zero refl)
+
+add-upper-of : tie.Need-add-upper-of Inv-loop μ-loop Inv-offsets μ-offsets
+add-upper-of c = search needs
+
+shared-slice-read-upper-of :
+    tie.Need-shared-slice-read-upper-of Inv-loop μ-loop Inv-offsets μ-offsets
+shared-slice-read-upper-of c = search needs
+
+upper-of-requires : tie.Need-upper-of-requires Inv-loop μ-loop Inv-offsets μ-offsets
+upper-of-requires c κs = search needs
+
+shared-slice-read-upper-of-2 :
+    tie.Need-shared-slice-read-upper-of-2 Inv-loop μ-loop Inv-offsets μ-offsets
+shared-slice-read-upper-of-2 c = search needs
+
+upper-of-requires-2 : tie.Need-upper-of-requires-2 Inv-loop μ-loop Inv-offsets μ-offsets
+upper-of-requires-2 c κs = search needs
+
+add-j : tie.Need-add-j Inv-loop μ-loop Inv-offsets μ-offsets
+add-j c = search needs
+
+loop-less : tie.Need-loop-less Inv-loop μ-loop Inv-offsets μ-offsets
+loop-less c = search needs
+
+loop-again : tie.Need-loop-again Inv-loop μ-loop Inv-offsets μ-offsets
+loop-again c =
+    let s = c .before .before .before .before .before .before .before .before .before .before .before .before .before .before .before .before .args in
+    let l = c .before .before .before .before .before .before .loop in
+    let at = c .before .before .before .before .before .before .before .before .before .before .offsets .i in
+    let e : upper (getD (s .text .now) (at + l .j) 0) ≡ upper (getD (s .word .now) (l .j) 0) = sym (c .before .before .before .upper-of .ensures) ∙ (c .if5 .taken ∙ c .before .upper-of2 .ensures) in
+    (omega arith, l .inv .1 ∙ next-byte upper (s .word .now) (s .text .now) at (l .j) (omega arith) (omega arith) e)
+
+offsets-less : tie.Need-offsets-less Inv-loop μ-loop Inv-offsets μ-offsets
+offsets-less c = search needs
+
+offsets-again : tie.Need-offsets-again Inv-loop μ-loop Inv-offsets μ-offsets
+offsets-again c =
+    let s = c .before .before .before .before .before .before .before .before .before .before .before .before .before .before .before .before .args in
+    let l = c .before .before .before .before .before .before .loop in
+    let at = c .before .before .before .before .before .before .before .before .before .before .offsets .i in
+    let n : upper (getD (s .text .now) (at + l .j) 0) ≡ upper (getD (s .word .now) (l .j) 0) → ⊥ = λ e. c .if5 .left (c .before .before .before .upper-of .ensures ∙ (e ∙ sym (c .before .upper-of2 .ensures))) in
+    c .before .before .before .before .before .before .before .before .before .before .offsets .inv ∙ key-off (s .text .now) (s .map .now) (s .word .now) at (omega arith)
+    (l .inv .1 ∙ prefix-miss upper (s .word .now) (s .text .now) (l .j) (at + l .j) (omega arith) (omega arith) n)
+
+offsets-less-2 : tie.Need-offsets-less-2 Inv-loop μ-loop Inv-offsets μ-offsets
+offsets-less-2 c = search needs
+
+offsets-again-2 : tie.Need-offsets-again-2 Inv-loop μ-loop Inv-offsets μ-offsets
+offsets-again-2 c =
+    let s = c .before .before .before .before .before .before .before .before .before .args in
+    c .before .before .before .offsets .inv ∙ key-edge (s .text .now) (s .map .now) (s .word .now) (c .before .before .before .offsets .i) (omega arith) (sym (c .before .edges-at .ensures) ∙ c .if4 .left)
+
+returns-4 : tie.Need-returns-4 Inv-loop μ-loop Inv-offsets μ-offsets
+returns-4 c =
+    let s = c .before .before .before .before .before .before .before .before .before .before .before .args in
+    let l = c .before .loop in
+    let at = c .before .before .before .before .before .offsets .i in
+    sym (c .before .before .before .before .before .offsets .inv ∙ key-hit (s .text .now) (s .map .now) (s .word .now) at (omega arith) (sym (c .before .before .before .edges-at .ensures) ∙ c .before .before .if4 .taken)
+    (l .inv .1 ∙ prefix-whole upper (s .word .now) (s .text .now) (l .j) (at + l .j) (omega arith)))
+
+pub find-keyword-in-spec : {M : Type 1} → statement M
+find-keyword-in-spec =
+    tie.close
+    (tie.spec
+    Inv-loop
+    μ-loop
+    Inv-offsets
+    μ-offsets
+    returns
+    returns-2
+    sub-last
+    offsets-holds
+    returns-3
+    add-i
+    edges-at-requires
+    loop-holds
+    add-upper-of
+    shared-slice-read-upper-of
+    upper-of-requires
+    shared-slice-read-upper-of-2
+    upper-of-requires-2
+    add-j
+    loop-less
+    loop-again
+    offsets-less
+    offsets-again
+    offsets-less-2
+    offsets-again-2
+    returns-4)
