@@ -6,6 +6,16 @@ ghost use lib.ListN.{length, set, replicate};
 ghost use lib.Seq.{sets};
 ghost use Rattle.spec.specs.Requote.{doubled, singleQuoted};
 
+// What a pass that may refuse answers.
+pub enum Pass {
+    // The length of its result.
+    Done(usize),
+    // Refusal 4: the lengths of q and of `q.n`, which the output holds.
+    Qualified(usize, usize),
+    // Refusal 5: the length of the clause from USING, which the output holds.
+    Clause(usize),
+}
+
 // One byte.
 pub fn put(out: &mut [u8], n: usize, b: u8) -> usize
     requires { ⌜ n < 2 ^ 63 ⌝ }
