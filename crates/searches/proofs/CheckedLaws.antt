@@ -1,0 +1,112 @@
+-- The checks of a search and what the lent map holds behind them. Assumes nothing.
+use mathlib.Core.Path.{_≡_, refl, sym, ap, _∙_}
+use mathlib.Core.Bool.{Bool, true, false, cond}
+use mathlib.Core.List.{List, [], _∷_, _++_}
+use Prim.Native.Nat.{ℕ, _+_, _*_, _≤_, _<_}
+use native.Mathlib.Omega.{arith}
+use native.Mathlib.Nat.{not-suc-le-zero}
+use mathlib.Core.Logic.{⊎-elim}
+use borrow.Author.Tests.{le-leb, lt-leb, lt-ltb, le-ltb}
+use lib.Dec.{leb, ltb}
+use lib.ListN.{length, drop}
+use lib.Seq.{sets, sets-eq}
+use Rattle.spec.proofs.Choice.{by}
+use Rattle.spec.proofs.MapLaws.{map-length}
+use Rattle.spec.proofs.WalkLaws.{marked-behind}
+use Rattle.spec.proofs.SearchLaws.{check-only}
+use Rattle.spec.specs.Map.{mapOf, marked, markedText}
+use Rattle.spec.specs.Answers.{searchLimit, checkOf, exitOf, keptBehind, filledAnswer, mapCheck, mapExit, splitCheck, requoteCheck, refusalPlace}
+use Rattle.spec.specs.declared.Check.{Check}
+use Rattle.spec.specs.declared.Check.the-variants.{Passed, Refused}
+use Rattle.spec.specs.declared.Refusal.{Refusal}
+use Rattle.spec.specs.declared.Refusal.the-variants.{TextTooLong, BufferTooShort, NotAscii}
+
+-- the text beside a lent map that has the text's map in front
+pub marked-kept : (xs lent : List ℕ) → marked xs (keptBehind (mapOf xs) lent) ≡ markedText xs
+unfolding keptBehind markedText
+marked-kept xs lent = marked-behind xs (mapOf xs) (drop (length (mapOf xs)) lent) (omega (arith, map-length xs))
+
+-- the check by the length of the lent map
+pub map-fits : (xs lent needle : List ℕ) → length xs ≤ length lent → mapCheck xs lent needle ≡ checkOf 65536 true xs needle
+unfolding mapCheck searchLimit
+map-fits xs lent needle h = rw (le-leb (length xs) (length lent) h) refl
+
+pub map-short : (xs lent needle : List ℕ) → length lent < length xs → mapCheck xs lent needle ≡ checkOf 65536 false xs needle
+unfolding mapCheck searchLimit
+map-short xs lent needle h = rw (lt-leb (length xs) (length lent) h) refl
+
+-- where a buffer is too short nothing is written
+pub short-exit : (limit : ℕ) (xs needle after entry : List ℕ) → exitOf (checkOf limit false xs needle) after entry ≡ entry
+unfolding checkOf
+short-exit limit xs needle after entry = by (ltb limit (length xs)) (λ e. rw e refl) (λ e. rw e refl)
+
+pub refused-exit : (c : Check) (r : Refusal) (after entry : List ℕ) → c ≡ Refused r → exitOf c after entry ≡ entry
+refused-exit c r after entry e = rw e refl
+
+module _ (xs lent needle : List ℕ) (e : mapCheck xs lent needle ≡ Passed) where
+  pub passed-map : mapExit xs lent needle ≡ keptBehind (mapOf xs) lent
+  unfolding mapExit
+  passed-map = rw e refl
+
+  -- the text beside the map that an accepted search leaves
+  pub passed-marks : (m : List ℕ) → m ≡ mapExit xs lent needle → marked xs m ≡ markedText xs
+  passed-marks m h = ap (λ (l : List ℕ). marked xs l) (h ∙ passed-map) ∙ marked-kept xs lent
+
+-- a text that passes the check is within the limit
+pub passed-fits : (limit : ℕ) (enough : Bool) (xs needle : List ℕ) → checkOf limit enough xs needle ≡ Passed → length xs ≤ limit
+passed-fits limit enough xs needle e = check-only limit enough xs needle Passed e .0
+
+-- stores of a whole result at the front
+pub sets-front : (d vs : List ℕ) → length vs ≤ length d → sets d 0 vs ≡ keptBehind vs d
+unfolding keptBehind
+sets-front d vs h =
+    let k : 0 + length vs ≡ length vs = omega arith in
+    sets-eq vs d 0 (omega arith) ∙ rw k refl
+
+-- the check of a split by the lengths of the two lent buffers
+module _ (xs lentMap lentStarts : List ℕ) where
+  pub split-fits : length xs ≤ length lentMap → length xs < length lentStarts → splitCheck xs lentMap lentStarts ≡ checkOf 65536 true xs []
+  unfolding splitCheck searchLimit
+  split-fits h k =
+      rw (le-leb (length xs) (length lentMap) h, le-leb (length xs + 1) (length lentStarts) (omega arith)) refl
+
+  pub split-short-map : length lentMap < length xs → splitCheck xs lentMap lentStarts ≡ checkOf 65536 false xs []
+  unfolding splitCheck searchLimit
+  split-short-map h = rw (lt-leb (length xs) (length lentMap) h) refl
+
+  pub split-short-starts : length xs ≤ length lentMap → length lentStarts ≤ length xs → splitCheck xs lentMap lentStarts ≡ checkOf 65536 false xs []
+  unfolding splitCheck searchLimit
+  split-short-starts h k =
+      rw (le-leb (length xs) (length lentMap) h, lt-leb (length xs + 1) (length lentStarts) (omega arith)) refl
+
+-- a refused check answers the same whatever the count
+pub refused-count : (limit : ℕ) (xs : List ℕ) (m n : ℕ) → filledAnswer (checkOf limit false xs []) m ≡ filledAnswer (checkOf limit false xs []) n
+unfolding checkOf
+refused-count limit xs m n = by (ltb limit (length xs)) (λ e. rw e refl) (λ e. rw e refl)
+
+-- the check of requoting by the length of the lent output
+module _ (xs lent : List ℕ) where
+  pub requote-long : 65536 < length xs → requoteCheck xs lent ≡ Refused TextTooLong
+  unfolding requoteCheck checkOf searchLimit
+  requote-long h = rw (lt-ltb 65536 (length xs) h) refl
+
+  pub requote-short : length xs ≤ 65536 → length lent < 2 * length xs → requoteCheck xs lent ≡ Refused BufferTooShort
+  unfolding requoteCheck checkOf searchLimit
+  requote-short h k = rw (le-ltb 65536 (length xs) h, lt-leb (2 * length xs) (length lent) k) refl
+
+  pub requote-fits : 2 * length xs ≤ length lent → requoteCheck xs lent ≡ checkOf 65536 true xs []
+  unfolding requoteCheck searchLimit
+  requote-fits h = rw (le-leb (2 * length xs) (length lent) h) refl
+
+pub passed-length : (xs lent needle : List ℕ) → mapCheck xs lent needle ≡ Passed → length xs ≤ 65536
+unfolding mapCheck searchLimit
+passed-length xs lent needle e = passed-fits 65536 _ xs needle e
+
+-- the place of a refusal without a needle is an offset of the text
+pub refused-place : (xs lent : List ℕ) (r : Refusal) → mapCheck xs lent [] ≡ Refused r → refusalPlace r ≤ 65536
+unfolding mapCheck searchLimit
+refused-place xs lent TextTooLong e = omega arith
+refused-place xs lent BufferTooShort e = omega arith
+refused-place xs lent (NotAscii i) e =
+    let k = check-only 65536 (leb (length xs) (length lent)) xs [] (Refused (NotAscii i)) e in
+    ⊎-elim (λ h. omega (arith, h .inside, k .0)) (λ h. absurd (not-suc-le-zero (h .1 .inside))) (k .2)

@@ -1,0 +1,2 @@
+pub mod CheckedLaws
+pub mod NextWordLaws

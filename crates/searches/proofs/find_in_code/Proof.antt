@@ -1,0 +1,63 @@
+use mathlib.Core.Path.{_≡_, refl, sym, ap, _∙_}
+use mathlib.Core.List.{[]}
+use Rattle.spec.specs.Answers.{mapCheck, byteAnswer, searchAnswer, yesNo}
+use Rattle.spec.specs.Search.{findInCode}
+use Rattle.spec.specs.declared.Check.the-variants.{Passed}
+use Rattle.searches.proofs.CheckedLaws.{passed-marks}
+use borrow.Author.Needs.{needs}
+use Rattle.searches.proofs.find_in_code.Statement.{statement}
+use Rattle.searches.proofs.find_in_code.Tie as tie
+
+-- the checks have passed
+passed : (c : tie.After-enum-told) → mapCheck (c .before .before .before .before .before .before .before .before .before .args .text .now) (c .before .before .before .before .before .before .before .before .before .args .map .now) [] ≡ Passed
+passed c = sym (c .before .before .before .before .map-checked .ensures .0) ∙ c .enum-told .given .1
+
+slice-aggregate-map-checked : tie.Need-slice-aggregate-map-checked
+slice-aggregate-map-checked c = search needs
+
+map-checked-requires : tie.Need-map-checked-requires
+map-checked-requires c κs = search needs
+
+enum-known-check : tie.Need-enum-known-check
+enum-known-check c = search needs
+
+enum-told : tie.Need-enum-told
+enum-told c = search needs
+
+find-byte-in-requires : tie.Need-find-byte-in-requires
+find-byte-in-requires c κs = search needs
+
+found-answer-requires : tie.Need-found-answer-requires
+found-answer-requires c κs = search needs
+
+same-length : tie.Need-same-length
+same-length c = search needs
+
+returns : tie.Need-returns
+unfolding byteAnswer findInCode
+returns c =
+    let s = c .before .before .before .before .before .before .before .before .before .before .before .before .args in
+    let m = passed-marks (s .text .now) (s .map .now) [] (passed (c .before .before .before)) (c .before .before .before .before .before .before .before .map-checked .last .1 .0) (c .before .before .before .before .before .before .before .map-checked .ensures .1) in
+    (c .found-answer .ensures ∙ rw (passed (c .before .before .before), ← m) (ap (λ k. searchAnswer Passed k) (c .before .find-byte-in .ensures)), c .before .before .before .before .before .before .before .map-checked .ensures .1)
+
+same-length-2 : tie.Need-same-length-2
+same-length-2 c = search needs
+
+returns-2 : tie.Need-returns-2
+unfolding byteAnswer
+returns-2 c = (rw (sym (c .before .before .before .before .before .map-checked .ensures .0) ∙ c .before .check .given .1) refl, c .before .before .before .before .before .map-checked .ensures .1)
+
+pub find-in-code-spec : {M : Type 1} → statement M
+find-in-code-spec =
+    tie.close
+    (tie.spec
+    slice-aggregate-map-checked
+    map-checked-requires
+    enum-known-check
+    enum-told
+    find-byte-in-requires
+    found-answer-requires
+    same-length
+    returns
+    same-length-2
+    returns-2)

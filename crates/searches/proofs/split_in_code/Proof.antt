@@ -1,0 +1,110 @@
+use mathlib.Core.Path.{_≡_, refl, sym, ap, _∙_}
+use mathlib.Core.List.{[]}
+use lib.ListN.{length}
+use Rattle.spec.specs.Map.{mapOf, marked, markedText}
+use Rattle.spec.specs.Search.{splitInCode, startsFrom, pieces, byteHere}
+use Rattle.spec.specs.Answers.{checkOf, splitCheck, splitAnswer, splitMapExit, splitExit, keptBehind, filledAnswer}
+use Rattle.spec.specs.declared.Check.the-variants.{Passed}
+use Rattle.searches.proofs.CheckedLaws.{marked-kept, split-fits, split-short-map, split-short-starts, refused-count, short-exit, passed-fits}
+use borrow.Author.Needs.{needs}
+use Rattle.searches.proofs.split_in_code.Statement.{statement}
+use Rattle.searches.proofs.split_in_code.Tie as tie
+
+-- both buffers are long enough and the checks have passed
+passed : (c : tie.After-enum-told) → splitCheck (c .before .before .before .before .before .before .before .before .before .args .text .now) (c .before .before .before .before .before .before .before .before .before .args .map .now) (c .before .before .before .before .before .before .before .before .before .args .starts .now) ≡ Passed
+passed c = split-fits (c .before .before .before .before .before .before .before .before .before .args .text .now) (c .before .before .before .before .before .before .before .before .before .args .map .now) (c .before .before .before .before .before .before .before .before .before .args .starts .now) (c .before .before .before .before .before .if1 .left) (c .before .before .before .before .if2 .left) ∙ (sym (c .before .before .check-texts3 .ensures) ∙ c .enum-told .given .1)
+
+slice-aggregate-check-texts : tie.Need-slice-aggregate-check-texts
+slice-aggregate-check-texts c = search needs
+
+check-texts-requires : tie.Need-check-texts-requires
+check-texts-requires c κs = search needs
+
+filled-answer-requires : tie.Need-filled-answer-requires
+filled-answer-requires c κs = search needs
+
+returns : tie.Need-returns
+unfolding splitAnswer splitMapExit splitExit
+returns c =
+    let s = c .before .before .before .before .before .before .before .args in
+    let e = split-short-map (s .text .now) (s .map .now) (s .starts .now) (c .before .before .before .if1 .taken) in
+    (c .filled-answer .ensures ∙ rw (e, c .before .check-texts .ensures) (refused-count 65536 (s .text .now) 0 _), (rw e (sym (short-exit 65536 (s .text .now) [] _ _)), rw e (sym (short-exit 65536 (s .text .now) [] _ _))))
+
+slice-aggregate-check-texts-2 : tie.Need-slice-aggregate-check-texts-2
+slice-aggregate-check-texts-2 c = search needs
+
+check-texts-requires-2 : tie.Need-check-texts-requires-2
+check-texts-requires-2 c κs = search needs
+
+filled-answer-requires-2 : tie.Need-filled-answer-requires-2
+filled-answer-requires-2 c κs = search needs
+
+returns-2 : tie.Need-returns-2
+unfolding splitAnswer splitMapExit splitExit
+returns-2 c =
+    let s = c .before .before .before .before .before .before .before .before .args in
+    let e = split-short-starts (s .text .now) (s .map .now) (s .starts .now) (c .before .before .before .before .if1 .left) (c .before .before .before .if2 .taken) in
+    (c .filled-answer2 .ensures ∙ rw (e, c .before .check-texts2 .ensures) (refused-count 65536 (s .text .now) 0 _), (rw e (sym (short-exit 65536 (s .text .now) [] _ _)), rw e (sym (short-exit 65536 (s .text .now) [] _ _))))
+
+slice-aggregate-check-texts-3 : tie.Need-slice-aggregate-check-texts-3
+slice-aggregate-check-texts-3 c = search needs
+
+check-texts-requires-3 : tie.Need-check-texts-requires-3
+check-texts-requires-3 c κs = search needs
+
+enum-known-check : tie.Need-enum-known-check
+enum-known-check c = search needs
+
+enum-told : tie.Need-enum-told
+enum-told c = search needs
+
+map-text-requires : tie.Need-map-text-requires
+map-text-requires c κs = search needs
+
+split-in-requires : tie.Need-split-in-requires
+split-in-requires c κs = (passed-fits 65536 _ (c .before .before .before .before .before .before .before .before .before .before .before .before .before .before .before .args .text .now) [] (sym (c .before .before .before .before .before .before .before .before .check-texts3 .ensures) ∙ c .before .before .before .before .before .before .enum-told .given .1), c .before .before .before .before .before .before .before .before .before .before .if2 .left)
+
+same-length : tie.Need-same-length
+same-length c = search needs
+
+same-length-2 : tie.Need-same-length-2
+same-length-2 c = search needs
+
+returns-3 : tie.Need-returns-3
+unfolding splitAnswer splitMapExit splitExit splitInCode
+returns-3 c =
+    let s = c .before .before .before .before .before .before .before .before .before .before .before .before .before .before .before .before .before .before .args in
+    let e = passed (c .before .before .before .before .before .before .before .before .before) in
+    let q = c .before .before .split-in in
+    let m = ap (λ l. marked (s .text .now) l) (c .before .before .before .before .before .before .before .map-text .ensures) ∙ marked-kept (s .text .now) (s .map .now) in
+    (rw (e, ← m) (ap (λ n. filledAnswer Passed n) (q .ensures .0)), (rw e (c .before .before .before .before .before .before .before .map-text .ensures), rw (e, ← m) (q .ensures .1)))
+
+returns-4 : tie.Need-returns-4
+unfolding splitAnswer splitMapExit splitExit
+returns-4 c =
+    let s = c .before .before .before .before .before .before .before .before .before .before .args in
+    let e = split-fits (s .text .now) (s .map .now) (s .starts .now) (c .before .before .before .before .before .before .if1 .left) (c .before .before .before .before .before .if2 .left) ∙ (sym (c .before .before .before .check-texts3 .ensures) ∙ c .before .check .given .1) in
+    (rw e refl, (rw e refl, rw e refl))
+
+pub split-in-code-spec : {M : Type 1} → statement M
+split-in-code-spec =
+    tie.close
+    (tie.spec
+    slice-aggregate-check-texts
+    check-texts-requires
+    filled-answer-requires
+    returns
+    slice-aggregate-check-texts-2
+    check-texts-requires-2
+    filled-answer-requires-2
+    returns-2
+    slice-aggregate-check-texts-3
+    check-texts-requires-3
+    enum-known-check
+    enum-told
+    map-text-requires
+    split-in-requires
+    same-length
+    same-length-2
+    returns-3
+    returns-4)
