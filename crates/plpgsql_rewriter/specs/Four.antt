@@ -1,0 +1,25 @@
+-- The four numbers that a function of the C interface hands back. Assumes nothing.
+use Prim.Native.Nat.{ℕ}
+use mathlib.Core.Bool.{cond}
+use mathlib.Core.List.{List, [], _∷_}
+use lib.Dec.{ltb}
+use lib.ListN.{length}
+use Rattle.spec.specs.Answers.{SearchNumbers, searchNumbers, refusalNumber, refusalPlace, wordPart}
+use Rattle.spec.specs.declared.Search.{Search}
+use Rattle.spec.specs.declared.Filled.{Filled}
+use Rattle.spec.specs.declared.Filled.the-variants.{Count, Refused}
+
+-- a number in 32 bits; a larger one, which only an offset in a needle can be, is the largest
+unfoldable pub narrow : ℕ → ℕ
+narrow n = cond (ltb n 4294967296) n 4294967295
+
+-- number, found, place, and the length of what was found or written
+abbrev pub four : SearchNumbers → ℕ → List ℕ
+four n len = n .number ∷ n .found ∷ narrow (n .place) ∷ narrow len ∷ []
+
+abbrev pub fourFound : Search → List ℕ
+fourFound s = four (searchNumbers s) 0
+
+abbrev pub fourFilled : Filled → List ℕ
+fourFilled (Count n) = 0 ∷ 0 ∷ 0 ∷ narrow n ∷ []
+fourFilled (Refused r) = refusalNumber r ∷ 0 ∷ narrow (refusalPlace r) ∷ 0 ∷ []

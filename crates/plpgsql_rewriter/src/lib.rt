@@ -1,0 +1,175 @@
+// The C interface. A slice is a pointer and a length. Each function's last parameter takes four numbers: for a search its
+// number, the found flag, the place, and the length of what was found or written.
+use spec::Filled;
+use spec::Refusal;
+use spec::Search;
+ghost use mathlib.Core.Path.{_≡_};
+ghost use mathlib.Core.List.{[], _∷_};
+ghost use lib.ListN.{length, getD};
+ghost use Rattle.spec.specs.Answers.{mapExit, regionsAnswer, keywordAnswer, byteAnswer, needleAnswer, wordAnswer, wordPart, searchNumbers, handlerAnswer, unterminatedAnswer, splitAnswer, splitMapExit, splitExit, requoteAnswer, requoteExit, refusalNumber, refusalPlace};
+ghost use Rattle.plpgsql_rewriter.specs.Four.{narrow, four, fourFound, fourFilled};
+
+// A number in 32 bits.
+fn narrowed(n: usize) -> u32
+    ensures { λ r. ⌜ r ≡ narrow n ⌝ }
+{
+    if n < 4294967296 { n as u32 } else { 4294967295 }
+}
+
+// The four numbers.
+fn put_four(answer: &mut [u32; 4], number: u32, found: u32, place: usize, len: usize)
+    ensures { λ _. ⌜ now (answer .exit) ≡ number ∷ found ∷ narrow place ∷ narrow len ∷ [] ⌝ }
+{
+    let p = narrowed(place);
+    let l = narrowed(len);
+    *answer = [number, found, p, l];
+}
+
+// The four numbers of a refused search.
+fn put_refusal(answer: &mut [u32; 4], r: Refusal)
+    ensures { λ _. ⌜ now (answer .exit) ≡ refusalNumber r ∷ 0 ∷ narrow (refusalPlace r) ∷ 0 ∷ [] ⌝ }
+{
+    match r {
+        Refusal::TextTooLong => put_four(answer, 1, 0, 0, 0),
+        Refusal::BufferTooShort => put_four(answer, 3, 0, 0, 0),
+        Refusal::NotAscii(i) => put_four(answer, 2, 0, i, 0),
+    }
+}
+
+// The four numbers of a search that seeks something.
+fn put_found(answer: &mut [u32; 4], s: Search)
+    ensures { λ _. ⌜ now (answer .exit) ≡ fourFound s ⌝ }
+{
+    match s {
+        Search::Found(i) => put_four(answer, 0, 1, i, 0),
+        Search::NotFound => put_four(answer, 0, 0, 0, 0),
+        Search::Refused(r) => put_refusal(answer, r),
+    }
+}
+
+// The four numbers of a search that fills a buffer.
+fn put_filled(answer: &mut [u32; 4], f: Filled)
+    ensures { λ _. ⌜ now (answer .exit) ≡ fourFilled f ⌝ }
+{
+    match f {
+        Filled::Count(n) => put_four(answer, 0, 0, 0, n),
+        Filled::Refused(r) => put_refusal(answer, r),
+    }
+}
+
+#[no_mangle]
+pub extern "C" fn plpgsql_regions(text: &[u8], map: &mut [u8], answer: &mut [u32; 4])
+    ensures { λ _. ⌜ now (map .exit) ≡ mapExit (now (text .entry)) (now (map .entry)) [] ⌝ }
+    ensures { λ _. ⌜ now (answer .exit) ≡ fourFilled (regionsAnswer (now (text .entry)) (now (map .entry))) ⌝ }
+{
+    let f = searches::regions(text, map);
+    put_filled(answer, f);
+}
+
+#[no_mangle]
+pub extern "C" fn plpgsql_find_keyword(
+    text: &[u8],
+    map: &mut [u8],
+    keyword: &[u8],
+    from: usize,
+    answer: &mut [u32; 4],
+)
+    ensures { λ _. ⌜ now (map .exit) ≡ mapExit (now (text .entry)) (now (map .entry)) (now (keyword .entry)) ⌝ }
+    ensures { λ _. ⌜ now (answer .exit) ≡ fourFound (keywordAnswer (now (text .entry)) (now (map .entry)) (now (keyword .entry)) from) ⌝ }
+{
+    let s = searches::find_keyword(text, map, keyword, from);
+    put_found(answer, s);
+}
+
+#[no_mangle]
+pub extern "C" fn plpgsql_find_in_code(text: &[u8], map: &mut [u8], byte: u8, answer: &mut [u32; 4])
+    ensures { λ _. ⌜ now (map .exit) ≡ mapExit (now (text .entry)) (now (map .entry)) [] ⌝ }
+    ensures { λ _. ⌜ now (answer .exit) ≡ fourFound (byteAnswer (now (text .entry)) (now (map .entry)) byte) ⌝ }
+{
+    let s = searches::find_in_code(text, map, byte);
+    put_found(answer, s);
+}
+
+#[no_mangle]
+pub extern "C" fn plpgsql_find_str_in_code(
+    text: &[u8],
+    map: &mut [u8],
+    needle: &[u8],
+    answer: &mut [u32; 4],
+)
+    ensures { λ _. ⌜ now (map .exit) ≡ mapExit (now (text .entry)) (now (map .entry)) (now (needle .entry)) ⌝ }
+    ensures { λ _. ⌜ now (answer .exit) ≡ fourFound (needleAnswer (now (text .entry)) (now (map .entry)) (now (needle .entry))) ⌝ }
+{
+    let s = searches::find_str_in_code(text, map, needle);
+    put_found(answer, s);
+}
+
+// The three numbers of a word's answer, and the word's length.
+fn put_word(answer: &mut [u32; 4], three: [u32; 3], len: usize)
+    ensures { λ _. ⌜ now (answer .exit) ≡ getD three 0 0 ∷ getD three 1 0 ∷ narrow (getD three 2 0) ∷ narrow len ∷ [] ⌝ }
+{
+    let p = narrowed(three[2] as usize);
+    let l = narrowed(len);
+    *answer = [three[0], three[1], p, l];
+}
+
+#[no_mangle]
+pub extern "C" fn plpgsql_next_word_in_code(
+    text: &[u8],
+    map: &mut [u8],
+    from: usize,
+    answer: &mut [u32; 4],
+)
+    ensures { λ _. ⌜ now (map .exit) ≡ mapExit (now (text .entry)) (now (map .entry)) [] ⌝ }
+    ensures { λ _. ⌜ now (answer .exit) ≡ four (searchNumbers (wordAnswer (now (text .entry)) (now (map .entry)) from)) (length (wordPart (now (text .entry)) (now (map .entry)) from)) ⌝ }
+{
+    let mut three = [0u32, 0u32, 0u32];
+    let word = searches::next_word_in_code(text, map, from, &mut three);
+    put_word(answer, three, word.len());
+}
+
+#[no_mangle]
+pub extern "C" fn plpgsql_split_in_code(
+    text: &[u8],
+    map: &mut [u8],
+    starts: &mut [u32],
+    separator: u8,
+    answer: &mut [u32; 4],
+)
+    ensures { λ _. ⌜ now (map .exit) ≡ splitMapExit (now (text .entry)) (now (map .entry)) (now (starts .entry)) ⌝ }
+    ensures { λ _. ⌜ now (starts .exit) ≡ splitExit (now (text .entry)) (now (map .entry)) (now (starts .entry)) separator ⌝ }
+    ensures { λ _. ⌜ now (answer .exit) ≡ fourFilled (splitAnswer (now (text .entry)) (now (map .entry)) (now (starts .entry)) separator) ⌝ }
+{
+    let f = searches::split_in_code(text, map, starts, separator);
+    put_filled(answer, f);
+}
+
+#[no_mangle]
+pub extern "C" fn plpgsql_requote_dollar_literals(
+    text: &[u8],
+    output: &mut [u8],
+    answer: &mut [u32; 4],
+)
+    ensures { λ _. ⌜ now (output .exit) ≡ requoteExit (now (text .entry)) (now (output .entry)) ⌝ }
+    ensures { λ _. ⌜ now (answer .exit) ≡ fourFilled (requoteAnswer (now (text .entry)) (now (output .entry))) ⌝ }
+{
+    let f = searches::requote_dollar_literals(text, output);
+    put_filled(answer, f);
+}
+
+#[no_mangle]
+pub extern "C" fn plpgsql_has_unterminated_dollar_quote(text: &[u8], answer: &mut [u32; 4])
+    ensures { λ _. ⌜ now (answer .exit) ≡ fourFound (unterminatedAnswer (now (text .entry))) ⌝ }
+{
+    let s = searches::has_unterminated_dollar_quote(text);
+    put_found(answer, s);
+}
+
+#[no_mangle]
+pub extern "C" fn plpgsql_has_exception_handler(text: &[u8], map: &mut [u8], answer: &mut [u32; 4])
+    ensures { λ _. ⌜ now (map .exit) ≡ mapExit (now (text .entry)) (now (map .entry)) [] ⌝ }
+    ensures { λ _. ⌜ now (answer .exit) ≡ fourFound (handlerAnswer (now (text .entry)) (now (map .entry))) ⌝ }
+{
+    let s = searches::has_exception_handler(text, map);
+    put_found(answer, s);
+}
