@@ -1,0 +1,5 @@
+pub mod SpanJoin
+pub mod PassJoin
+pub mod RaiseJoin
+pub mod Chain
+pub mod SealedRows

@@ -1,0 +1,1 @@
+// Demand 3: theorems only, about the definitions of crate `spec`.
