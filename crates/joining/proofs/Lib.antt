@@ -3,3 +3,4 @@ pub mod PassJoin
 pub mod RaiseJoin
 pub mod Chain
 pub mod SealedRows
+pub mod Demand

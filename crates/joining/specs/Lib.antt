@@ -1,3 +1,4 @@
 pub mod Safe
 pub mod Unlimited
 pub mod Sealed
+pub mod Call
