@@ -1,0 +1,6 @@
+pub mod QuoteLaws
+pub mod PartLaws
+pub mod DepthLaws
+pub mod ItemLaws
+pub mod LimitLaws
+pub mod TopLaws

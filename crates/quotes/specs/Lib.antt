@@ -1,0 +1,3 @@
+pub mod QuoteMap
+pub mod Items
+pub mod Limits
