@@ -1,8 +1,9 @@
--- Demand 3 about the whole call, for a body whose texts between the passes are sealed. Assumes nothing.
+-- Demand 3 about the whole call: first for a body whose texts between the passes are sealed, then for a closed one.
+-- Assumes nothing.
 use mathlib.Core.Path.{_≡_, refl, sym, ap, _∙_}
 use mathlib.Core.Bool.{Bool, true, false, _&&_}
 use mathlib.Core.List.{List, [], _∷_, _++_}
-use mathlib.Core.Logic.{⊎-elim}
+use mathlib.Core.Logic.{_↔_}
 use Prim.Native.Nat.{ℕ, zero, suc, _+_, _-_, _≤_, _<_, zero-le, suc-le-suc}
 use native.Mathlib.Omega.{arith}
 use borrow.Author.Tests.{le-leb, ltb-true, ltb-false}
@@ -21,6 +22,8 @@ use Rattle.spec.specs.declared.Refusal.the-variants.{TextTooLong, BufferTooShor
 use Rattle.spec.proofs.SearchLaws.{NoHigh, check-only, check-always}
 use Rattle.joining.specs.Sealed.{Sealed}
 use Rattle.joining.specs.Call.{Lent, numberOf, rewritten}
+use Rattle.spec.specs.Closed.{isClosed}
+use Rattle.joining.proofs.Kept.{sealed}
 use Rattle.joining.proofs.Chain.{Both, rewriting-split, rewriting-both}
 
 -- a body is accepted: within the limit, no byte over 127, and the passes accept it
@@ -135,3 +138,12 @@ module _ (l : Lent) (a : List ℕ) (s : Sealed a) (b : List ℕ) where
       let n = high-both a b (t .1 .ascii) (u .1 .ascii) in
       let r = rewriting-both a s b (t .0) (u .0) (t .1 .result) (u .1 .result) (not-six l (a ++ b) six (passes-check l (a ++ b) f n)) in
       taken-zero l (a ++ b) (t .0 ++ u .0) (record { fits = f; ascii = n; result = r })
+
+-- Demand 3, in its own words: for a closed body a and any body b, where the call on the joined body meets no size limit, it
+-- gives 0 exactly if it gives 0 for both, and then the joined rewriting is the two rewritings joined.
+pub joined : (l : Lent) (a b : List ℕ) → isClosed a ≡ true → (numberOf l (a ++ b) ≡ 1 → ⊥) → (numberOf l (a ++ b) ≡ 6 → ⊥)
+    → ((numberOf l (a ++ b) ≡ 0) ↔ ((numberOf l a ≡ 0) × (numberOf l b ≡ 0)))
+    × (numberOf l (a ++ b) ≡ 0 → rewritten l (a ++ b) ≡ rewritten l a ++ rewritten l b)
+joined l a b c one six =
+    let s = sealed a c in
+    ((joined-zero l a s b, (λ w. both-zero l a s b one six (w .0) (w .1))), joined-text l a s b)

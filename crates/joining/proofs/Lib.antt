@@ -4,3 +4,17 @@ pub mod RaiseJoin
 pub mod Chain
 pub mod SealedRows
 pub mod Demand
+pub mod Bools
+pub mod Reading
+pub mod WellFormed
+pub mod WellKeeper
+pub mod Parts
+pub mod Statements
+pub mod KeepAssign
+pub mod KeepSelect
+pub mod Tame
+pub mod KeepElsif
+pub mod TameStart
+pub mod TameEnd
+pub mod KeepRequote
+pub mod Kept

@@ -1,0 +1,210 @@
+-- Passes 3 and 4 may cut and glue well formed text as they do. Assumes nothing.
+use mathlib.Core.Path.{_≡_, refl, sym, _∙_, subst}
+use mathlib.Core.Bool.{true, false, cond, not, _||_, false≢true}
+use mathlib.Core.List.{List, [], _∷_}
+use Prim.Native.Nat.{ℕ}
+use lib.Dec.{eqb}
+use Rattle.spec.proofs.Choice.{by, or-left, or-right}
+use Rattle.spec.specs.Bytes.{ascii, within, isDigit, isLower, isUpper, isIdent, isQuote, isW}
+use Rattle.spec.specs.Map.{Marked, live, quoted, byte, lives}
+use Rattle.joining.proofs.Bools.{clash, at, other, no-quote, white-no-quote}
+use Rattle.joining.proofs.Reading.{leaves, Takes, Keeper}
+use Rattle.joining.proofs.WellFormed.{Open, clear, dash, slash, sign, tag, inSingle, inDouble, liveOk, quotedOk, wellOk, liveNext, quotedNext, wellNext, isOut, Well, next-ident, live-quote, live-in, live-out}
+
+pub well-back : (s : Open) (x : Marked) → isQuote (byte x) ≡ false → wellOk s x ≡ true → isOut (wellNext s x) ≡ true → isOut s ≡ true
+unfolding isQuote
+well-back s (live c) n o r = live-in s c o
+well-back clear (quoted c) n o r = refl
+well-back dash (quoted c) n o r = refl
+well-back slash (quoted c) n o r = refl
+well-back sign (quoted c) n o r = refl
+well-back tag (quoted c) n o r = refl
+well-back inSingle (quoted c) n o r = rw (or-left (eqb c 39) (eqb c 34) n) at r
+well-back inDouble (quoted c) n o r = rw (or-right (eqb c 39) (eqb c 34) n) at r
+
+pub well-forth : (s : Open) (x : Marked) → isQuote (byte x) ≡ false → wellOk s x ≡ true → isOut s ≡ true → isOut (wellNext s x) ≡ true
+well-forth s (live c) n o r = live-out s c r
+well-forth clear (quoted c) n o r = clash (sym o ∙ n)
+well-forth dash (quoted c) n o r = clash (sym o ∙ n)
+well-forth slash (quoted c) n o r = clash (sym o ∙ n)
+well-forth sign (quoted c) n o r = clash (sym o ∙ n)
+well-forth tag (quoted c) n o r = clash (sym o ∙ n)
+well-forth inSingle (quoted c) n o r = absurd (false≢true r)
+well-forth inDouble (quoted c) n o r = absurd (false≢true r)
+
+-- behind a byte that is no identifier byte the state does not depend on the one before
+same-next : (s : Open) (c : ℕ) → isIdent c ≡ false → liveNext s c ≡ liveNext clear c
+unfolding liveNext
+same-next s c i = rw i refl
+
+pub quoted-start : (s : Open) (c : ℕ) → isOut s ≡ true → (quotedOk s c ≡ isQuote c) × (quotedNext s c ≡ cond (eqb c 39) inSingle inDouble)
+quoted-start clear c h = (refl, refl)
+quoted-start dash c h = (refl, refl)
+quoted-start slash c h = (refl, refl)
+quoted-start sign c h = (refl, refl)
+quoted-start tag c h = (refl, refl)
+quoted-start inSingle c h = absurd (false≢true h)
+quoted-start inDouble c h = absurd (false≢true h)
+
+-- outside literals, the state that has nothing open asks least
+pub weaken : (u : List Marked) (s : Open) → isOut s ≡ true → Well s u
+    → Well clear u × (isOut (leaves wellNext s u) ≡ true → isOut (leaves wellNext clear u) ≡ true)
+weaken [] s h r = (tt, (λ _. refl))
+weaken (live c ∷ u) s h r =
+    let a : not (isQuote c) ≡ true = rw (live-quote s c (r .0)) refl in
+    by (isIdent c)
+    (λ i.
+    let w = weaken u (liveNext s c) (live-out s c h) (r .1) in
+    rw (next-ident clear c i) ((a, w .0), w .1))
+    (λ i. rw (sym (same-next s c i)) ((a, r .1), (λ z. z)))
+weaken (quoted c ∷ u) s h r =
+    let q = quoted-start s c h in
+    ((sym (q .0) ∙ r .0, subst (λ (z : Open). Well z u) (q .1) (r .1)), (λ z. subst (λ (y : Open). isOut (leaves wellNext y u) ≡ true) (q .1) z))
+
+pub well-newline : (s : Open) (x : Marked) → byte x ≡ 10 → wellOk s x ≡ true → wellNext s x ≡ clear
+unfolding liveNext isIdent isLower isUpper isDigit within isQuote
+well-newline s (live c) e o = rw e refl
+well-newline s (quoted c) e o = absurd (none s (subst (λ (n : ℕ). quotedOk s n ≡ true) e o))
+  where
+    none : (s : Open) → quotedOk s 10 ≡ true → ⊥
+    none clear h = false≢true h
+    none dash h = false≢true h
+    none slash h = false≢true h
+    none sign h = false≢true h
+    none tag h = false≢true h
+    none inSingle h = false≢true h
+    none inDouble h = false≢true h
+
+pub well-white : (x : Marked) → isW (byte x) ≡ true → wellOk clear x ≡ true → wellNext clear x ≡ clear
+unfolding liveNext isW within
+well-white (live c) w o =
+    rw (other isW 45 c refl w, other isW 47 c refl w, other isW 36 c refl w)
+    (by (isIdent c) (λ i. rw i refl) (λ i. rw i refl))
+well-white (quoted c) w o = clash (sym o ∙ white-no-quote c w)
+
+semi-ok : (s : Open) → isOut s ≡ true → liveOk s 59 ≡ true
+unfolding isQuote
+semi-ok clear h = refl
+semi-ok dash h = refl
+semi-ok slash h = refl
+semi-ok sign h = refl
+semi-ok tag h = refl
+semi-ok inSingle h = h
+semi-ok inDouble h = h
+
+end-no-quote : (c : ℕ) → (isW c || eqb c 59) ≡ true → isQuote c ≡ false
+unfolding isW within
+end-no-quote c h = no-quote (λ n. isW n || eqb n 59) c refl refl h
+
+pub well-tail : (s : Open) (x : Marked) → (isW (byte x) || eqb (byte x) 59) ≡ true → wellOk s x ≡ true → wellOk (wellNext s x) (live 59) ≡ true
+    → wellOk s (live 59) ≡ true
+well-tail s x w o e = semi-ok s (well-back s x (end-no-quote (byte x) w) o (live-in (wellNext s x) 59 e))
+
+pub well-set : (s : Open) → isOut s ≡ true → Takes wellOk wellNext s clear (lives (ascii "SET "))
+unfolding lives liveNext isIdent isLower isUpper isDigit within isQuote
+well-set clear h = record { reads = (refl, (refl, (refl, (refl, tt)))); end = refl }
+well-set dash h = record { reads = (refl, (refl, (refl, (refl, tt)))); end = refl }
+well-set slash h = record { reads = (refl, (refl, (refl, (refl, tt)))); end = refl }
+well-set sign h = record { reads = (refl, (refl, (refl, (refl, tt)))); end = refl }
+well-set tag h = record { reads = (refl, (refl, (refl, (refl, tt)))); end = refl }
+well-set inSingle h = absurd (false≢true h)
+well-set inDouble h = absurd (false≢true h)
+
+pub well-select : (s : Open) → isOut s ≡ true → Takes wellOk wellNext s clear (lives (ascii "SELECT "))
+unfolding lives liveNext isIdent isLower isUpper isDigit within isQuote
+well-select clear h = record { reads = (refl, (refl, (refl, (refl, (refl, (refl, (refl, tt))))))); end = refl }
+well-select dash h = record { reads = (refl, (refl, (refl, (refl, (refl, (refl, (refl, tt))))))); end = refl }
+well-select slash h = record { reads = (refl, (refl, (refl, (refl, (refl, (refl, (refl, tt))))))); end = refl }
+well-select sign h = record { reads = (refl, (refl, (refl, (refl, (refl, (refl, (refl, tt))))))); end = refl }
+well-select tag h = record { reads = (refl, (refl, (refl, (refl, (refl, (refl, (refl, tt))))))); end = refl }
+well-select inSingle h = absurd (false≢true h)
+well-select inDouble h = absurd (false≢true h)
+
+pub well-equals : (s : Open) → isOut s ≡ true → Takes wellOk wellNext s clear (lives (ascii " = "))
+unfolding lives liveNext isIdent isLower isUpper isDigit within isQuote
+well-equals clear h = record { reads = (refl, (refl, (refl, tt))); end = refl }
+well-equals dash h = record { reads = (refl, (refl, (refl, tt))); end = refl }
+well-equals slash h = record { reads = (refl, (refl, (refl, tt))); end = refl }
+well-equals sign h = record { reads = (refl, (refl, (refl, tt))); end = refl }
+well-equals tag h = record { reads = (refl, (refl, (refl, tt))); end = refl }
+well-equals inSingle h = absurd (false≢true h)
+well-equals inDouble h = absurd (false≢true h)
+
+pub well-open : (s : Open) → isOut s ≡ true → Takes wellOk wellNext s clear (lives (ascii " = ("))
+unfolding lives liveNext isIdent isLower isUpper isDigit within isQuote
+well-open clear h = record { reads = (refl, (refl, (refl, (refl, tt)))); end = refl }
+well-open dash h = record { reads = (refl, (refl, (refl, (refl, tt)))); end = refl }
+well-open slash h = record { reads = (refl, (refl, (refl, (refl, tt)))); end = refl }
+well-open sign h = record { reads = (refl, (refl, (refl, (refl, tt)))); end = refl }
+well-open tag h = record { reads = (refl, (refl, (refl, (refl, tt)))); end = refl }
+well-open inSingle h = absurd (false≢true h)
+well-open inDouble h = absurd (false≢true h)
+
+pub well-limit : (s : Open) → isOut s ≡ true → Takes wellOk wellNext s clear (lives (ascii " LIMIT 1);"))
+unfolding lives liveNext isIdent isLower isUpper isDigit within isQuote
+well-limit clear h = record { reads = (refl, (refl, (refl, (refl, (refl, (refl, (refl, (refl, (refl, (refl, tt)))))))))); end = refl }
+well-limit dash h = record { reads = (refl, (refl, (refl, (refl, (refl, (refl, (refl, (refl, (refl, (refl, tt)))))))))); end = refl }
+well-limit slash h = record { reads = (refl, (refl, (refl, (refl, (refl, (refl, (refl, (refl, (refl, (refl, tt)))))))))); end = refl }
+well-limit sign h = record { reads = (refl, (refl, (refl, (refl, (refl, (refl, (refl, (refl, (refl, (refl, tt)))))))))); end = refl }
+well-limit tag h = record { reads = (refl, (refl, (refl, (refl, (refl, (refl, (refl, (refl, (refl, (refl, tt)))))))))); end = refl }
+well-limit inSingle h = absurd (false≢true h)
+well-limit inDouble h = absurd (false≢true h)
+
+pub well-closing : (s : Open) → isOut s ≡ true → Takes wellOk wellNext s clear (lives (ascii ");"))
+unfolding lives liveNext isIdent isLower isUpper isDigit within isQuote
+well-closing clear h = record { reads = (refl, (refl, tt)); end = refl }
+well-closing dash h = record { reads = (refl, (refl, tt)); end = refl }
+well-closing slash h = record { reads = (refl, (refl, tt)); end = refl }
+well-closing sign h = record { reads = (refl, (refl, tt)); end = refl }
+well-closing tag h = record { reads = (refl, (refl, tt)); end = refl }
+well-closing inSingle h = absurd (false≢true h)
+well-closing inDouble h = absurd (false≢true h)
+
+pub well-space : (s : Open) → isOut s ≡ true → Takes wellOk wellNext s clear (lives (ascii " "))
+unfolding lives liveNext isIdent isLower isUpper isDigit within isQuote
+well-space clear h = record { reads = (refl, tt); end = refl }
+well-space dash h = record { reads = (refl, tt); end = refl }
+well-space slash h = record { reads = (refl, tt); end = refl }
+well-space sign h = record { reads = (refl, tt); end = refl }
+well-space tag h = record { reads = (refl, tt); end = refl }
+well-space inSingle h = absurd (false≢true h)
+well-space inDouble h = absurd (false≢true h)
+
+-- passes 3 and 4 may cut and glue well formed text as they do
+unfoldable pub well-keeper : Keeper
+unfolding liveNext isIdent isLower isUpper isDigit within lives isQuote
+well-keeper =
+    record {
+      State = Open;
+      start = clear;
+      ok = wellOk;
+      safe = wellOk;
+      after = wellNext;
+      rest = isOut;
+      firm = isOut;
+      edge = λ s. true;
+      safer = λ s x h. h;
+      rest-start = refl;
+      firm-start = refl;
+      edge-start = refl;
+      alive = live-in;
+      back = well-back;
+      forth = well-forth;
+      settle = λ s x w o h. h;
+      edges = λ s x h. refl;
+      fresh = λ u s e h r. weaken u s h r;
+      semi = λ s. refl;
+      comma = λ s. refl;
+      newline = well-newline;
+      line-start = refl;
+      white = well-white;
+      tail = well-tail;
+      set-word = well-set;
+      select-word = well-select;
+      equals = well-equals;
+      equals-open = well-open;
+      limit = well-limit;
+      closing = well-closing;
+      gap = λ s h. (well-space s h, refl);
+      gap-from = λ s x t h f r. (r, refl);
+    }
