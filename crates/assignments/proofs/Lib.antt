@@ -1,0 +1,3 @@
+pub mod TrimLaws
+pub mod SetLaws
+pub mod RestLaws

@@ -1,0 +1,149 @@
+use native.Mathlib.Omega.{arith}
+use mathlib.Core.Path.{_≡_, sym, ap, _∙_}
+use mathlib.Core.List.{List, []}
+use Prim.Native.Nat.{ℕ, _+_, _-_, _≤_}
+use lib.ListN.{length, take, drop, length-drop}
+use lib.Seq.{length-take-le}
+use Rattle.spec.specs.Map.{Marked, marked, bytes}
+use Rattle.spec.specs.Assignments.{rightSide, startsName}
+use Rattle.spec.proofs.AheadLaws.{rest-of}
+use Rattle.spec.proofs.LengthLaws.{right-le}
+use Rattle.spec.proofs.MapLaws.{marked-bytes, marked-length}
+use Rattle.targets.proofs.ByteLaws.{bytes-drop, bytes-length}
+use Rattle.assignments.proofs.SetLaws.{name-bytes, no-name, no-right, set-bytes}
+use borrow.Author.Needs.{needs}
+use Rattle.assignments.proofs.put_assignment.Statement.{statement}
+use Rattle.assignments.proofs.put_assignment.Tie as tie
+
+-- the right side has the bytes found
+right-bytes : (c : tie.After-right-side) (t : List Marked) → bytes t ≡ c .before .before .before .before .before .before .before .args .statement .now → bytes (rightSide (drop (c .before .before .before .before .before .before .before .args .at + 2) t)) ≡ c .right-side .result .now
+right-bytes c t e =
+    let a = c .before .before .before .before .before .before .before .args in
+    c .right-side .ensures (drop (a .at + 2) t)
+    (bytes-drop (a .at + 2) t ∙ (ap (λ (l : List ℕ). drop (a .at + 2) l) e ∙ sym (rest-of (a .statement .now) (a .at + 2))))
+
+-- it is no longer than what stands behind the `:=`
+right-short : (c : tie.After-right-side) → length (c .right-side .result .now) ≤ length (c .before .before .before .before .before .before .before .args .statement .now) - (c .before .before .before .before .before .before .before .args .at + 2)
+right-short c =
+    let a = c .before .before .before .before .before .before .before .args in
+    let t = marked (a .statement .now) [] in
+    let b = right-bytes c t (marked-bytes (a .statement .now) []) in
+    omega (
+      arith,
+      ap length b,
+      bytes-length (rightSide (drop (a .at + 2) t)),
+      right-le (drop (a .at + 2) t),
+      length-drop (a .at + 2) t,
+      marked-length (a .statement .now) [],
+    )
+
+-- the name is that of any text with the statement's bytes
+name-told : (c : tie.After-starts-name) (t : List Marked) → bytes t ≡ c .before .before .before .before .before .before .before .before .args .statement .now → c .starts-name .result ≡ startsName (take (c .before .before .before .before .before .run-start .result - c .before .before .before .before .run-start2 .result) (drop (c .before .before .before .before .run-start2 .result) t))
+name-told c t e =
+    let a = c .before .before .before .before .before .before .before .before .args in
+    c .starts-name .ensures _ (name-bytes (a .statement .now) t e (a .at) _ _ (omega arith) (c .before .before .before .before .before .run-start .ensures) (c .before .before .before .before .run-start2 .ensures))
+
+run-start-requires : tie.Need-run-start-requires
+run-start-requires c κs = search needs
+
+run-start-requires-2 : tie.Need-run-start-requires-2
+run-start-requires-2 c κs = search needs
+
+sub-name : tie.Need-sub-name
+sub-name c = search needs
+
+part-name-start : tie.Need-part-name-start
+part-name-start c = search needs
+
+part-name-end : tie.Need-part-name-end
+part-name-end c = search needs
+
+add-right-side : tie.Need-add-right-side
+add-right-side c = search needs
+
+sub-right-side : tie.Need-sub-right-side
+sub-right-side c = search needs
+
+part-right-side-start : tie.Need-part-right-side-start
+part-right-side-start c = search needs
+
+part-right-side-end : tie.Need-part-right-side-end
+part-right-side-end c = search needs
+
+right-side-requires : tie.Need-right-side-requires
+right-side-requires c κs = search needs
+
+starts-name-requires : tie.Need-starts-name-requires
+starts-name-requires c κs = search needs
+
+put-all-requires : tie.Need-put-all-requires
+put-all-requires c κs = search needs
+
+slice-aggregate-put-set : tie.Need-slice-aggregate-put-set
+slice-aggregate-put-set c = sym (length-take-le (c .before .before .before .before .before .before .before .before .run-start2 .result) (c .before .before .before .before .before .before .before .before .before .before .before .before .args .statement .now) (omega arith))
+
+put-set-requires : tie.Need-put-set-requires
+put-set-requires c κs =
+    let xs = c .before .before .before .before .before .before .before .before .before .before .before .before .args .statement .now in
+    let s = c .before .before .before .before .before .before .before .before .run-start2 .result in
+    let m = c .before .before .before .before .before .before .before .before .before .run-start .result in
+    omega (arith, right-short (c .before .before .before .before .before), length-take-le s xs (omega arith), length-take-le (m - s) (drop s xs) (omega (arith, length-drop s xs)))
+
+put-all-requires-2 : tie.Need-put-all-requires-2
+put-all-requires-2 c κs = search needs
+
+same-length : tie.Need-same-length
+same-length c = search needs
+
+returns : tie.Need-returns
+returns c =
+    let a = c .before .before .before .before .before .before .before .before .before .before .before .before .before .before .args in
+    λ t e.
+    rw (no-right (a .statement .now) t e (a .at) _ _ (omega arith) (c .before .before .before .before .before .before .before .before .before .before .before .run-start .ensures) (c .before .before .before .before .before .before .before .before .before .before .run-start2 .ensures) _ (right-bytes (c .before .before .before .before .before .before .before) t e) (sym (name-told (c .before .before .before .before .before .before) t e) ∙ c .before .before .before .before .before .if1 .taken) (c .before .before .before .before .if2 .taken))
+    (record { counted = c .before .before .put-all .ensures .0; stored = c .before .before .put-all .ensures .1 })
+
+same-length-2 : tie.Need-same-length-2
+same-length-2 c = search needs
+
+returns-2 : tie.Need-returns-2
+returns-2 c =
+    let a = c .before .before .before .before .before .before .before .before .before .before .before .before .before .before .before .args in
+    λ t e.
+    rw (set-bytes (a .statement .now) t e (a .at) _ _ (omega arith) (c .before .before .before .before .before .before .before .before .before .before .before .before .run-start .ensures) (c .before .before .before .before .before .before .before .before .before .before .before .run-start2 .ensures) _ (right-bytes (c .before .before .before .before .before .before .before .before) t e) (sym (name-told (c .before .before .before .before .before .before .before) t e) ∙ c .before .before .before .before .before .before .if1 .taken) (c .before .before .before .before .before .if2 .left))
+    (c .before .before .put-set .ensures)
+
+same-length-3 : tie.Need-same-length-3
+same-length-3 c = search needs
+
+returns-3 : tie.Need-returns-3
+returns-3 c =
+    let a = c .before .before .before .before .before .before .before .before .before .before .before .before .before .args in
+    λ t e.
+    rw (no-name (a .statement .now) t e (a .at) _ _ (omega arith) (c .before .before .before .before .before .before .before .before .before .before .run-start .ensures) (c .before .before .before .before .before .before .before .before .before .run-start2 .ensures) (sym (name-told (c .before .before .before .before .before) t e) ∙ c .before .before .before .before .if1 .left))
+    (record { counted = c .before .before .put-all2 .ensures .0; stored = c .before .before .put-all2 .ensures .1 })
+
+pub put-assignment-spec : {M : Type 1} → statement M
+put-assignment-spec =
+    tie.close
+    (tie.spec
+    run-start-requires
+    run-start-requires-2
+    sub-name
+    part-name-start
+    part-name-end
+    add-right-side
+    sub-right-side
+    part-right-side-start
+    part-right-side-end
+    right-side-requires
+    starts-name-requires
+    put-all-requires
+    slice-aggregate-put-set
+    put-set-requires
+    put-all-requires-2
+    same-length
+    returns
+    same-length-2
+    returns-2
+    same-length-3
+    returns-3)

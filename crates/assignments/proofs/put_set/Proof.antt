@@ -1,0 +1,48 @@
+use Rattle.assignments.proofs.SetLaws.{set-written}
+use borrow.Author.Needs.{needs}
+use Rattle.assignments.proofs.put_set.Statement.{statement}
+use Rattle.assignments.proofs.put_set.Tie as tie
+
+put-all-requires : tie.Need-put-all-requires
+put-all-requires c κs = search needs
+
+slice-aggregate-put-all : tie.Need-slice-aggregate-put-all
+slice-aggregate-put-all c = search needs
+
+put-all-requires-2 : tie.Need-put-all-requires-2
+put-all-requires-2 c κs = search needs
+
+put-all-requires-3 : tie.Need-put-all-requires-3
+put-all-requires-3 c κs = search needs
+
+slice-aggregate-put-all-2 : tie.Need-slice-aggregate-put-all-2
+slice-aggregate-put-all-2 c = search needs
+
+put-all-requires-4 : tie.Need-put-all-requires-4
+put-all-requires-4 c κs = search needs
+
+put-all-requires-5 : tie.Need-put-all-requires-5
+put-all-requires-5 c κs = search needs
+
+same-length : tie.Need-same-length
+same-length c = search needs
+
+returns : tie.Need-returns
+returns c =
+    set-written (c .before .before .before .before .before .before .before .before .before .before .before .before .before .before .before .before .before .before .before .before .before .before .before .before .before .before .args .front .now) (c .before .before .before .before .before .before .before .before .before .before .before .before .before .before .before .before .before .before .before .before .before .before .before .before .before .before .args .name .now) (c .before .before .before .before .before .before .before .before .before .before .before .before .before .before .before .before .before .before .before .before .before .before .before .before .before .before .args .right .now) (c .before .before .before .before .before .before .before .before .before .before .before .before .before .before .before .before .before .before .before .before .before .before .before .before .before .before .args .out .now) _ _ _ _ _ (c .before .before .before .before .before .before .before .before .before .before .before .before .before .before .before .before .before .before .before .before .before .before .before .before .before .before .args .n) _ _ _ _ _
+    (c .before .before .before .before .before .before .before .before .before .before .before .before .before .before .before .before .before .before .before .before .put-all .ensures .0) (c .before .before .before .before .before .before .before .before .before .before .before .before .before .before .before .before .before .before .before .before .put-all .ensures .1) (c .before .before .before .before .before .before .before .before .before .before .before .before .before .before .before .put-all2 .ensures .0) (c .before .before .before .before .before .before .before .before .before .before .before .before .before .before .before .put-all2 .ensures .1) (c .before .before .before .before .before .before .before .before .before .before .before .put-all3 .ensures .0) (c .before .before .before .before .before .before .before .before .before .before .before .put-all3 .ensures .1)
+    (c .before .before .before .before .before .before .put-all4 .ensures .0) (c .before .before .before .before .before .before .put-all4 .ensures .1) (c .before .before .put-all5 .ensures .0) (c .before .before .put-all5 .ensures .1)
+
+pub put-set-spec : {M : Type 1} → statement M
+put-set-spec =
+    tie.close
+    (tie.spec
+    put-all-requires
+    slice-aggregate-put-all
+    put-all-requires-2
+    put-all-requires-3
+    slice-aggregate-put-all-2
+    put-all-requires-4
+    put-all-requires-5
+    same-length
+    returns)

@@ -1,0 +1,221 @@
+use borrow.Author.Needs.{needs}
+use native.Mathlib.Omega.{arith}
+use mathlib.Core.Path.{_≡_, refl, sym, _∙_}
+use mathlib.Core.List.{List, [], _∷_}
+use Prim.Native.Nat.{_+_, _-_, _*_, _≤_, _<_}
+use lib.ListN.{length, take, drop, length-drop}
+use lib.Seq.{length-take-le}
+use Rattle.spec.specs.Map.{Marked, marked, live}
+use Rattle.spec.specs.Search.{first, byteHere}
+use Rattle.spec.specs.Assignments.{done, _⊕_, statement as outcome, assignments}
+use Rattle.spec.specs.declared.Found.the-variants.{At}
+use Rattle.spec.proofs.AheadLaws.{rest-of}
+use Rattle.spec.proofs.MapLaws.{marked-length}
+use Rattle.spec.proofs.WalkLaws.{marked-drop, first-within}
+use Rattle.output.specs.declared.Pass.the-variants.{Done}
+use Rattle.assignments.specs.Written.{answerFrom, LeavesFrom}
+use Rattle.assignments.proofs.RestLaws.{Rest, rest-start, rest-refused, rest-turn, marked-part, leftFrom, left-cut, left-last, statement-long}
+use Rattle.assignments.proofs.transform_assignments.Statement.{statement}
+use Rattle.assignments.proofs.transform_assignments.Tie as tie
+
+abbrev Inv-loop : tie.InvT-loop
+Inv-loop text map out₀ n₀ from₀ out n from =
+    (from ≤ length text)
+    × (length out ≡ length out₀)
+    × (n ≤ 8 * from)
+    × Rest (assignments (marked text map)) out₀ n out (leftFrom (marked text map) from)
+
+abbrev μ-loop : tie.MeasureT-loop
+μ-loop text map out₀ n₀ from₀ out n from = length text - from
+
+-- the next live `;` stands at the place found, within the text
+found-at : (c : tie.After-known-told Inv-loop μ-loop) → first (byteHere 59) (c .before .before .before .before .loop .from) (marked (c .before .before .before .before .before .before .before .before .args .text .now) (c .before .before .before .before .before .before .before .before .args .map .now)) ≡ At (c .before .found .given .0 .0)
+found-at c = sym (c .before .before .before .find-byte-in .ensures) ∙ c .before .found .given .1
+
+within : (c : tie.After-known-told Inv-loop μ-loop) → (c .before .before .before .before .loop .from ≤ c .before .found .given .0 .0) × (c .before .found .given .0 .0 < length (c .before .before .before .before .before .before .before .before .args .text .now))
+within c =
+    let a = c .before .before .before .before .before .before .before .before .args in
+    let w = first-within (byteHere 59) (marked (a .text .now) (a .map .now)) _ _ (found-at c) in
+    (w .0, omega (arith, w .1, marked-length (a .text .now) (a .map .now)))
+
+-- a part from the last `;` to the next one
+abbrev partTo : (c : tie.After-known-told Inv-loop μ-loop) {A : Type 0} → List A → List A
+partTo c l = take (c .before .found .given .0 .0 - c .before .before .before .before .loop .from) (drop (c .before .before .before .before .loop .from) l)
+
+-- the statement beside its map, and its length
+abbrev pieceOf : (c : tie.After-known-told Inv-loop μ-loop) → List Marked
+pieceOf c = partTo c (marked (c .before .before .before .before .before .before .before .before .args .text .now) (c .before .before .before .before .before .before .before .before .args .map .now))
+
+part-long : (c : tie.After-known-told Inv-loop μ-loop) → length (partTo c (c .before .before .before .before .before .before .before .before .args .text .now)) ≡ c .before .found .given .0 .0 - c .before .before .before .before .loop .from
+part-long c =
+    let w = within c in
+    length-take-le _ (drop (c .before .before .before .before .loop .from) (c .before .before .before .before .before .before .before .before .args .text .now)) (omega (arith, length-drop (c .before .before .before .before .loop .from) (c .before .before .before .before .before .before .before .before .args .text .now)))
+
+piece-long : (c : tie.After-known-told Inv-loop μ-loop) → length (pieceOf c) ≡ c .before .found .given .0 .0 - c .before .before .before .before .loop .from
+piece-long c =
+    let w = within c in
+    let t = marked (c .before .before .before .before .before .before .before .before .args .text .now) (c .before .before .before .before .before .before .before .before .args .map .now) in
+    length-take-le _ (drop (c .before .before .before .before .loop .from) t) (omega (arith, length-drop (c .before .before .before .before .loop .from) t, marked-length (c .before .before .before .before .before .before .before .before .args .text .now) (c .before .before .before .before .before .before .before .before .args .map .now)))
+
+piece-same : (c : tie.After-known-told Inv-loop μ-loop) → marked (partTo c (c .before .before .before .before .before .before .before .before .args .text .now)) (partTo c (c .before .before .before .before .before .before .before .before .args .map .now)) ≡ pieceOf c
+piece-same c = marked-part (c .before .before .before .before .loop .from) (c .before .found .given .0 .0 - c .before .before .before .before .loop .from) (c .before .before .before .before .before .before .before .before .args .text .now) (c .before .before .before .before .before .before .before .before .args .map .now) (omega arith)
+
+-- what is made of it, and what is left
+answered : (c : tie.After-put-statement2 Inv-loop μ-loop) → c .put-statement2 .result ≡ answerFrom (c .before .before .before .before .before .before .before .before .loop .n) (outcome (pieceOf (c .before .before .before .before)))
+answered c =
+    let h : c .put-statement2 .result ≡ answerFrom (c .before .before .before .before .before .before .before .before .loop .n) (outcome (marked (partTo (c .before .before .before .before) (c .before .before .before .before .before .before .before .before .before .before .before .before .args .text .now)) (partTo (c .before .before .before .before) (c .before .before .before .before .before .before .before .before .before .before .before .before .args .map .now)))) = c .put-statement2 .ensures .0 in
+    rw (piece-same (c .before .before .before .before)) at h
+
+left-in : (c : tie.After-put-statement2 Inv-loop μ-loop) → LeavesFrom (c .before .before .before .before .before .before .before .before .loop .n) (outcome (pieceOf (c .before .before .before .before))) (c .before .before .before .before .before .before .before .before .loop .out) (c .put-statement2 .last .0)
+left-in c =
+    let h : LeavesFrom (c .before .before .before .before .before .before .before .before .loop .n) (outcome (marked (partTo (c .before .before .before .before) (c .before .before .before .before .before .before .before .before .before .before .before .before .args .text .now)) (partTo (c .before .before .before .before) (c .before .before .before .before .before .before .before .before .before .before .before .before .args .map .now)))) (c .before .before .before .before .before .before .before .before .loop .out) (c .put-statement2 .last .0) = c .put-statement2 .ensures .1 in
+    rw (piece-same (c .before .before .before .before)) at h
+
+rest-in : (c : tie.After-known-told Inv-loop μ-loop)
+    → Rest (assignments (marked (c .before .before .before .before .before .before .before .before .args .text .now) (c .before .before .before .before .before .before .before .before .args .map .now))) (c .before .before .before .before .before .before .before .before .args .out .now) (c .before .before .before .before .loop .n) (c .before .before .before .before .loop .out)
+    (outcome (pieceOf c) ⊕ (done (live 59 ∷ []) ⊕ leftFrom (marked (c .before .before .before .before .before .before .before .before .args .text .now) (c .before .before .before .before .before .before .before .before .args .map .now)) (c .before .found .given .0 .0 + 1)))
+rest-in c =
+    let t = marked (c .before .before .before .before .before .before .before .before .args .text .now) (c .before .before .before .before .before .before .before .before .args .map .now) in
+    let r : Rest (assignments t) (c .before .before .before .before .before .before .before .before .args .out .now) (c .before .before .before .before .loop .n) (c .before .before .before .before .loop .out) (leftFrom t (c .before .before .before .before .loop .from)) = c .before .before .before .before .loop .inv .3 in
+    rw (left-cut t (c .before .before .before .before .loop .from) _ (found-at c)) at r
+
+-- where it is text, its end
+done-at : (c : tie.After-known-told2 Inv-loop μ-loop) → Done (c .before .pass .given .0 .0) ≡ answerFrom (c .before .before .before .before .before .before .before .before .before .before .before .before .before .loop .n) (outcome (pieceOf (c .before .before .before .before .before .before .before .before .before)))
+done-at c = sym (c .before .pass .given .1) ∙ answered (c .before .before .before .before .before)
+
+end-within : (c : tie.After-known-told2 Inv-loop μ-loop) → c .before .pass .given .0 .0 ≤ c .before .before .before .before .before .before .before .before .before .before .before .before .before .loop .n + (c .before .before .before .before .before .before .before .before .before .before .found .given .0 .0 - c .before .before .before .before .before .before .before .before .before .before .before .before .before .loop .from) + 7
+end-within c = omega (arith, statement-long (pieceOf (c .before .before .before .before .before .before .before .before .before)) (c .before .before .before .before .before .before .before .before .before .before .before .before .before .loop .n) _ (done-at c), piece-long (c .before .before .before .before .before .before .before .before .before))
+
+loop-holds : tie.Need-loop-holds Inv-loop μ-loop
+loop-holds c = (omega arith, refl, omega arith, rest-start _ _)
+
+find-byte-in-requires : tie.Need-find-byte-in-requires Inv-loop μ-loop
+find-byte-in-requires c κs = search needs
+
+enum-known-found : tie.Need-enum-known-found Inv-loop μ-loop
+enum-known-found c = search needs
+
+enum-told : tie.Need-enum-told Inv-loop μ-loop
+enum-told c = search needs
+
+sub-put-statement : tie.Need-sub-put-statement Inv-loop μ-loop
+sub-put-statement c = search needs
+
+part-put-statement-start : tie.Need-part-put-statement-start Inv-loop μ-loop
+part-put-statement-start c = search needs
+
+part-put-statement-end : tie.Need-part-put-statement-end Inv-loop μ-loop
+part-put-statement-end c = search needs
+
+sub-put-statement-2 : tie.Need-sub-put-statement-2 Inv-loop μ-loop
+sub-put-statement-2 c = search needs
+
+part-put-statement-start-2 : tie.Need-part-put-statement-start-2 Inv-loop μ-loop
+part-put-statement-start-2 c = search needs
+
+part-put-statement-end-2 : tie.Need-part-put-statement-end-2 Inv-loop μ-loop
+part-put-statement-end-2 c = search needs
+
+put-statement-requires : tie.Need-put-statement-requires Inv-loop μ-loop
+put-statement-requires c κs = search needs
+
+same-length : tie.Need-same-length Inv-loop μ-loop
+same-length c = search needs
+
+returns : tie.Need-returns Inv-loop μ-loop
+returns c =
+    let a = c .before .before .before .before .before .before .before .before .before .before .before .before .before .args in
+    let l = c .before .before .before .before .before .before .before .before .before .loop in
+    let xs = a .text .now in
+    let ms = a .map .now in
+    let last : marked (take (length xs - l .from) (drop (l .from) xs)) (take (length ms - l .from) (drop (l .from) ms)) ≡ drop (l .from) (marked xs ms) =
+    rw (rest-of xs (l .from), rest-of ms (l .from)) (sym (marked-drop (l .from) xs ms)) in
+    let p : c .before .before .put-statement .result ≡ answerFrom (l .n) (outcome (marked (take (length xs - l .from) (drop (l .from) xs)) (take (length ms - l .from) (drop (l .from) ms)))) = c .before .before .put-statement .ensures .0 in
+    let q : LeavesFrom (l .n) (outcome (marked (take (length xs - l .from) (drop (l .from) xs)) (take (length ms - l .from) (drop (l .from) ms)))) (l .out) (c .before .before .put-statement .last .0) = c .before .before .put-statement .ensures .1 in
+    let r : Rest (assignments (marked xs ms)) (a .out .now) (l .n) (l .out) (leftFrom (marked xs ms) (l .from)) = l .inv .3 in
+    let s = rw (left-last (marked xs ms) (l .from) (sym (c .before .before .before .before .before .before .before .before .find-byte-in .ensures) ∙ c .before .before .before .before .before .before .enum-told .given .1)) at r in
+    (rw last at p ∙ sym (s .answer), s .leaves _ (rw last at q))
+
+sub-put-statement-3 : tie.Need-sub-put-statement-3 Inv-loop μ-loop
+sub-put-statement-3 c = let w = within (c .before) in omega arith
+
+part-put-statement-start-3 : tie.Need-part-put-statement-start-3 Inv-loop μ-loop
+part-put-statement-start-3 c = let w = within (c .before) in omega arith
+
+part-put-statement-end-3 : tie.Need-part-put-statement-end-3 Inv-loop μ-loop
+part-put-statement-end-3 c = let w = within (c .before) in omega arith
+
+sub-put-statement-4 : tie.Need-sub-put-statement-4 Inv-loop μ-loop
+sub-put-statement-4 c = let w = within (c .before .before) in omega arith
+
+part-put-statement-start-4 : tie.Need-part-put-statement-start-4 Inv-loop μ-loop
+part-put-statement-start-4 c = let w = within (c .before .before) in omega arith
+
+part-put-statement-end-4 : tie.Need-part-put-statement-end-4 Inv-loop μ-loop
+part-put-statement-end-4 c = let w = within (c .before .before) in omega arith
+
+put-statement-requires-2 : tie.Need-put-statement-requires-2 Inv-loop μ-loop
+put-statement-requires-2 c κs = let w = within (c .before .before .before) in let k = part-long (c .before .before .before) in (omega arith, omega arith)
+
+enum-known-pass : tie.Need-enum-known-pass Inv-loop μ-loop
+enum-known-pass c = search needs
+
+same-length-2 : tie.Need-same-length-2 Inv-loop μ-loop
+same-length-2 c = search needs
+
+returns-2 : tie.Need-returns-2 Inv-loop μ-loop
+returns-2 c =
+    let r = rest-refused _ _ _ _ _ _ _ (rest-in (c .before .before .before .before .before .before .before)) (answered (c .before .before .before)) (c .match2 .keys2) in
+    (answered (c .before .before .before) ∙ sym (r .answer), r .leaves _ (left-in (c .before .before .before)))
+
+put-requires : tie.Need-put-requires Inv-loop μ-loop
+put-requires c κs = let w = within (c .before .before .before .before .before .before .before .before .before .before) in omega (arith, end-within (c .before))
+
+add-from : tie.Need-add-from Inv-loop μ-loop
+add-from c = let w = within (c .before .before .before .before .before .before .before .before .before .before .before .before .before) in omega arith
+
+loop-less : tie.Need-loop-less Inv-loop μ-loop
+loop-less c = let w = within (c .before .before .before .before .before .before .before .before .before .before .before .before .before) in omega arith
+
+loop-again : tie.Need-loop-again Inv-loop μ-loop
+loop-again c =
+    let w = within (c .before .before .before .before .before .before .before .before .before .before .before .before .before) in (
+      omega arith,
+      c .before .before .put .kept .0 ∙ (c .before .before .before .before .before .before .before .before .before .put-statement2 .kept .0 ∙ c .before .before .before .before .before .before .before .before .before .before .before .before .before .before .before .before .before .loop .inv .1),
+      omega (arith, end-within (c .before .before .before .before), c .before .before .put .ensures .0),
+      rest-turn _ _ _ _ _ _ _ _ _ _ (rest-in (c .before .before .before .before .before .before .before .before .before .before .before .before .before)) (done-at (c .before .before .before .before)) (left-in (c .before .before .before .before .before .before .before .before .before)) (c .before .before .put .ensures .0) (c .before .before .put .ensures .1),
+    )
+
+pub transform-assignments-spec : {M : Type 1} → statement M
+transform-assignments-spec =
+    tie.close
+    (tie.spec
+    Inv-loop
+    μ-loop
+    loop-holds
+    find-byte-in-requires
+    enum-known-found
+    enum-told
+    sub-put-statement
+    part-put-statement-start
+    part-put-statement-end
+    sub-put-statement-2
+    part-put-statement-start-2
+    part-put-statement-end-2
+    put-statement-requires
+    same-length
+    returns
+    sub-put-statement-3
+    part-put-statement-start-3
+    part-put-statement-end-3
+    sub-put-statement-4
+    part-put-statement-start-4
+    part-put-statement-end-4
+    put-statement-requires-2
+    enum-known-pass
+    same-length-2
+    returns-2
+    put-requires
+    add-from
+    loop-less
+    loop-again)

@@ -1,0 +1,63 @@
+use native.Mathlib.Omega.{arith}
+use Rattle.targets.proofs.NameLaws.{same-length, before-no-name, before-front, before-no-dot, before-no-qualifier, before-found}
+use borrow.Author.Needs.{needs}
+use Rattle.targets.proofs.qualified_name_before.Statement.{statement}
+use Rattle.targets.proofs.qualified_name_before.Tie as tie
+
+run-start-requires : tie.Need-run-start-requires
+run-start-requires c κs = search needs
+
+run-start-requires-2 : tie.Need-run-start-requires-2
+run-start-requires-2 c κs = search needs
+
+returns : tie.Need-returns
+returns c =
+    λ t e. record { target = before-no-name _ t e _ _ _ (omega arith) (c .before .before .run-start .ensures) (c .before .run-start2 .ensures) (c .if1 .taken); inside = tt }
+
+returns-2 : tie.Need-returns-2
+returns-2 c =
+    λ t e. record { target = before-front _ t e _ _ _ (omega arith) (c .before .before .before .run-start .ensures) (c .before .before .run-start2 .ensures) (c .before .if1 .left) (c .if2 .taken); inside = tt }
+
+sub-dot : tie.Need-sub-dot
+sub-dot c = search needs
+
+shared-slice-read-if3 : tie.Need-shared-slice-read-if3
+shared-slice-read-if3 c = search needs
+
+returns-3 : tie.Need-returns-3
+returns-3 c =
+    λ t e. record { target = before-no-dot _ t e _ _ _ (omega arith) (c .before .before .before .before .before .run-start .ensures) (c .before .before .before .before .run-start2 .ensures) (c .before .before .before .if1 .left) _ (omega (arith, c .before .before .if2 .left)) (c .if3 .taken); inside = tt }
+
+run-start-requires-3 : tie.Need-run-start-requires-3
+run-start-requires-3 c κs = search needs
+
+returns-4 : tie.Need-returns-4
+returns-4 c =
+    λ t e. record { target = before-no-qualifier _ t e _ _ _ (omega arith) (c .before .before .before .before .before .before .before .run-start .ensures) (c .before .before .before .before .before .before .run-start2 .ensures) (c .before .before .before .before .before .if1 .left) _ (omega (arith, c .before .before .before .before .if2 .left)) (c .before .before .if3 .left) _ (c .before .run-start3 .ensures) (c .if4 .taken); inside = tt }
+
+sub-t11 : tie.Need-sub-t11
+sub-t11 c = search needs
+
+sub-t12 : tie.Need-sub-t12
+sub-t12 c = search needs
+
+returns-5 : tie.Need-returns-5
+returns-5 c =
+    λ t e. record { target = before-found _ t e _ _ _ (omega arith) (c .before .before .before .before .before .before .before .run-start .ensures) (c .before .before .before .before .before .before .run-start2 .ensures) (c .before .before .before .before .before .if1 .left) _ (omega (arith, c .before .before .before .before .if2 .left)) (c .before .before .if3 .left) _ (c .before .run-start3 .ensures) (c .if4 .left); inside = (omega (arith, c .before .before .before .before .if2 .left), omega (arith, same-length _ t e)) }
+
+pub qualified-name-before-spec : {M : Type 1} → statement M
+qualified-name-before-spec =
+    tie.close
+    (tie.spec
+    run-start-requires
+    run-start-requires-2
+    returns
+    returns-2
+    sub-dot
+    shared-slice-read-if3
+    returns-3
+    run-start-requires-3
+    returns-4
+    sub-t11
+    sub-t12
+    returns-5)
