@@ -1,0 +1,5 @@
+pub mod TextLaws
+pub mod ContentLaws
+pub mod MessageLaws
+pub mod UsingLaws
+pub mod ReadingLaws

@@ -1,0 +1,227 @@
+-- The message in a content: where a `'` literal closes, and the words up to a comma. Assumes nothing.
+use mathlib.Core.Path.{_≡_, refl, ap, _∙_}
+use mathlib.Core.Bool.{Bool, false, cond, not, _&&_}
+use mathlib.Core.List.{List, [], _∷_}
+use Prim.Native.Nat.{ℕ, zero, suc, _+_, _-_, _≤_, _<_, zero-le, suc-le-suc}
+use native.Mathlib.Omega.{arith}
+use borrow.Author.Tests.{eq-eqb, ne-eqb, eqb-true, eqb-false}
+use lib.Dec.{eqb}
+use lib.ListN.{length, take, drop, getD, length-drop, drop-of-length-le}
+use lib.Seq.{take-take, length-take-le}
+use Rattle.spec.proofs.AheadLaws.{drop-one, drop-two, tail-one}
+use Rattle.spec.proofs.Choice.{by, cond-case, cond-le, and-left}
+use Rattle.spec.proofs.ListLaws.{drop-end-le, drop-while-le}
+use Rattle.spec.proofs.SpanLaws.{seen}
+use Rattle.spec.proofs.WalkLaws.{while-take, while-length}
+use Rattle.spec.specs.Bytes.{isW, within}
+use Rattle.spec.specs.Lists.{takeWhile, dropWhile, dropEnd}
+use Rattle.spec.specs.Map.{Marked, byte, bytes, lives, ofByte}
+use Rattle.spec.specs.Assignments.{trim, trimEnd}
+use Rattle.spec.specs.Raise.{closeLen, message}
+use Rattle.messages.specs.Readings.{trimmed, literalLen}
+use Rattle.messages.proofs.TextLaws.{bytes-length, bytes-lives, bytes-take, bytes-drop, front-bytes, bytes-while, bytes-skip, bytes-end, drop-end-take}
+
+-- ---- where a literal closes
+
+-- a length from k bytes further back, 0 staying 0
+unfoldable pub later : ℕ → ℕ → ℕ
+later k n = cond (eqb n 0) 0 (k + n)
+
+later-more : (k m n : ℕ) → later k (later m n) ≡ later (k + m) n
+unfolding later
+later-more k m n =
+    by (eqb n 0)
+    (λ e. rw e)
+    (λ e.
+    let z : eqb (m + n) 0 ≡ false = ne-eqb (m + n) 0 (λ q. eqb-false n 0 e (omega arith)) in
+    rw (e, z) (omega arith))
+
+pub later-none : (n : ℕ) → n ≡ later 0 n
+unfolding later
+later-none n = by (eqb n 0) (λ e. rw e (eqb-true n 0 e)) (λ e. rw e (omega arith))
+
+module _ (a b : ℕ) (xs : List ℕ) where
+  close-doubled : a ≡ 39 → b ≡ 39 → closeLen (lives (a ∷ b ∷ xs)) ≡ later 2 (closeLen (lives xs))
+  unfolding closeLen lives later
+  close-doubled p q = simp (eq-eqb a 39 p, eq-eqb b 39 q)
+
+  close-single : a ≡ 39 → (b ≡ 39 → ⊥) → closeLen (lives (a ∷ b ∷ xs)) ≡ 1
+  unfolding closeLen lives
+  close-single p q = simp (eq-eqb a 39 p, ne-eqb b 39 q)
+
+  close-other : (a ≡ 39 → ⊥) → closeLen (lives (a ∷ b ∷ xs)) ≡ later 1 (closeLen (lives (b ∷ xs)))
+  unfolding closeLen lives later
+  close-other p = simp (ne-eqb a 39 p)
+
+-- what is left to read from i on, counted from the front
+abbrev pub closeFrom : List ℕ → ℕ → ℕ
+closeFrom xs i = later i (closeLen (lives (drop i xs)))
+
+module _ (xs : List ℕ) (i : ℕ) where
+  module _ (h : i + 1 < length xs) where
+    ahead : closeLen (lives (drop i xs)) ≡ closeLen (lives (getD xs i 0 ∷ getD xs (i + 1) 0 ∷ drop (i + 2) xs))
+    ahead = ap (λ (l : List ℕ). closeLen (lives l)) (drop-two xs i h)
+
+    pub close-pair : getD xs i 0 ≡ 39 → getD xs (i + 1) 0 ≡ 39 → closeFrom xs i ≡ closeFrom xs (i + 2)
+    close-pair p q = ap (later i) (ahead ∙ close-doubled _ _ _ p q) ∙ later-more i 2 (closeLen (lives (drop (i + 2) xs)))
+
+    pub close-here : getD xs i 0 ≡ 39 → (getD xs (i + 1) 0 ≡ 39 → ⊥) → closeFrom xs i ≡ i + 1
+    unfolding later
+    close-here p q = ap (later i) (ahead ∙ close-single _ _ _ p q)
+
+    pub close-on : (getD xs i 0 ≡ 39 → ⊥) → closeFrom xs i ≡ closeFrom xs (i + 1)
+    close-on p =
+        ap (later i) (ahead ∙ (close-other _ _ _ p ∙ ap (λ (l : List ℕ). later 1 (closeLen (lives l))) (tail-one xs i h)))
+        ∙ later-more i 1 (closeLen (lives (drop (i + 1) xs)))
+
+  module _ (h : i + 1 ≡ length xs) where
+    last : drop i xs ≡ getD xs i 0 ∷ []
+    last =
+        let z : length xs ≤ i + 1 = omega arith in
+        drop-one xs i 0 (omega arith) ∙ ap (λ (l : List ℕ). getD xs i 0 ∷ l) (drop-of-length-le xs z)
+
+    pub close-last : getD xs i 0 ≡ 39 → closeFrom xs i ≡ i + 1
+    unfolding closeLen lives later
+    close-last p = rw last (simp (eq-eqb (getD xs i 0) 39 p))
+
+    pub close-not : (getD xs i 0 ≡ 39 → ⊥) → closeFrom xs i ≡ 0
+    unfolding closeLen lives later
+    close-not p = rw last (simp (ne-eqb (getD xs i 0) 39 p))
+
+  pub close-none : length xs ≤ i → closeFrom xs i ≡ 0
+  unfolding closeLen lives later
+  close-none h = rw (drop-of-length-le xs h)
+
+-- the marks do not matter
+close-bytes : (t : List Marked) → closeLen t ≡ closeLen (lives (bytes t))
+unfolding closeLen later lives bytes
+close-bytes [] = refl
+close-bytes (x ∷ []) = refl
+close-bytes (x ∷ y ∷ t) =
+    let closes : ℕ → ℕ → ℕ = λ m n. cond (eqb (byte x) 39) (cond (eqb (byte y) 39) (later 2 m) 1) (later 1 n) in
+    ap (λ (m : ℕ). closes m (closeLen (y ∷ t))) (close-bytes t)
+    ∙ ap (λ (n : ℕ). closes (closeLen (lives (bytes t))) n) (close-bytes (y ∷ t))
+
+-- a literal closes within the text
+close-le : (t : List Marked) → closeLen t ≤ length t
+unfolding closeLen later
+close-le [] = zero-le
+close-le (x ∷ []) = cond-le (eqb (byte x) 39) _ _ _ (suc-le-suc zero-le) zero-le
+close-le (x ∷ y ∷ t) =
+    let two : later 2 (closeLen t) ≤ suc (suc (length t)) = later-le 2 (closeLen t) _ (omega (arith, close-le t)) in
+    let one : later 1 (closeLen (y ∷ t)) ≤ suc (suc (length t)) = later-le 1 (closeLen (y ∷ t)) _ (omega (arith, close-le (y ∷ t))) in
+    cond-le (eqb (byte x) 39) _ _ _ (cond-le (eqb (byte y) 39) _ _ _ two (suc-le-suc zero-le)) one
+  where
+    later-le : (k n m : ℕ) → k + n ≤ m → later k n ≤ m
+    later-le k n m h = cond-le (eqb n 0) _ _ _ zero-le h
+
+pub close-within : (xs : List ℕ) → closeLen (lives xs) ≤ length xs
+close-within xs = omega (arith, close-le (lives xs), bytes-length (lives xs), ap length (bytes-lives xs))
+
+pub literal-le : (xs : List ℕ) → literalLen xs ≤ length xs
+unfolding literalLen
+literal-le xs =
+    let n = closeLen (lives (drop 1 xs)) in
+    cond-case (λ (k : ℕ). k ≤ length xs) (eqb (getD xs 0 0) 39 && not (eqb n 0)) (1 + n) 0
+    (λ e.
+    let q = seen xs 0 38 (eqb-true (getD xs 0 0) 39 (and-left (eqb (getD xs 0 0) 39) (not (eqb n 0)) e)) in
+    omega (arith, close-within (drop 1 xs), length-drop 1 xs))
+    (λ _. zero-le)
+
+-- ---- the message
+
+-- a byte before the first comma
+abbrev pub noComma : ℕ → Bool
+noComma c = not (eqb c 44)
+
+pub bytes-trim : (t : List Marked) → bytes (trim t) ≡ trimmed (bytes t)
+unfolding trim trimEnd trimmed
+bytes-trim t = bytes-end isW (dropWhile (ofByte isW) t) ∙ ap (dropEnd isW) (bytes-skip isW t)
+
+-- the message by the length of the literal in front
+message-is : (t : List Marked)
+    → bytes (message t)
+    ≡ cond (eqb (literalLen (bytes t)) 0) (trimmed (takeWhile noComma (bytes t))) (take (literalLen (bytes t)) (bytes t))
+unfolding message literalLen
+message-is t =
+    let m = closeLen (lives (drop 1 (bytes t))) in
+    let same : closeLen (drop 1 t) ≡ m = close-bytes (drop 1 t) ∙ ap (λ (l : List ℕ). closeLen (lives l)) (bytes-drop 1 t) in
+    rw (same, front-bytes t)
+    (by (eqb (getD (bytes t) 0 0) 39 && not (eqb m 0))
+    (λ e. rw (e, ne-eqb (1 + m) 0 (λ q. omega arith)) (bytes-take (1 + m) t))
+    (λ e. rw e (bytes-trim (takeWhile (ofByte noComma) t) ∙ ap trimmed (bytes-while noComma t))))
+
+module _ (t : List Marked) (xs : List ℕ) (e : bytes t ≡ xs) where
+  -- a closed literal in front is the message
+  pub message-literal : (literalLen xs ≡ 0 → ⊥) → bytes (message t) ≡ take (literalLen xs) xs
+  message-literal h = message-is t ∙ rw (e, ne-eqb (literalLen xs) 0 h)
+
+  -- else it is the trimmed text up to the first comma
+  pub message-words : literalLen xs ≡ 0 → bytes (message t) ≡ trimmed (takeWhile noComma xs)
+  message-words h = message-is t ∙ rw (e, eq-eqb (literalLen xs) 0 h)
+
+-- ---- a message that starts where its text does
+
+-- ys stands at the front of xs
+abbrev Front : List ℕ → List ℕ → Type 0
+Front ys xs = ys ≡ take (length ys) xs
+
+front-take : (k : ℕ) (xs : List ℕ) → Front (take k xs) xs
+front-take zero xs = refl
+front-take (suc k) [] = refl
+front-take (suc k) (x ∷ xs) = ap (λ (l : List ℕ). x ∷ l) (front-take k xs)
+
+front-both : (ys zs xs : List ℕ) → length ys ≤ length zs → Front ys zs → Front zs xs → Front ys xs
+front-both ys zs xs h p q =
+    p ∙ (ap (λ (l : List ℕ). take (length ys) l) q ∙ take-take (length ys) (length zs) xs h)
+
+-- no W in front, nothing goes there
+no-skip : (xs : List ℕ) → isW (getD xs 0 0) ≡ false → dropWhile isW xs ≡ xs
+unfolding dropWhile
+no-skip [] e = refl
+no-skip (x ∷ xs) e = rw e
+
+cut-front : (k : ℕ) (xs : List ℕ) → isW (getD xs 0 0) ≡ false → isW (getD (take k xs) 0 0) ≡ false
+unfolding isW within
+cut-front zero xs e = refl
+cut-front (suc k) [] e = refl
+cut-front (suc k) (x ∷ xs) e = e
+
+front-trimmed : (xs : List ℕ) → isW (getD xs 0 0) ≡ false → Front (trimmed xs) xs
+unfolding trimmed
+front-trimmed xs e = rw (no-skip xs e) (drop-end-take isW xs)
+
+trimmed-le : (xs : List ℕ) → length (trimmed xs) ≤ length xs
+unfolding trimmed
+trimmed-le xs = omega (arith, drop-end-le isW (dropWhile isW xs), drop-while-le isW xs)
+
+pub message-front : (t : List Marked) (xs : List ℕ) → bytes t ≡ xs → isW (getD xs 0 0) ≡ false → Front (bytes (message t)) xs
+message-front t xs e h =
+    by (eqb (literalLen xs) 0)
+    (λ q.
+    let ys = takeWhile noComma xs in
+    let part : Front ys xs = while-take noComma xs in
+    let plain : isW (getD ys 0 0) ≡ false = ap (λ (l : List ℕ). isW (getD l 0 0)) part ∙ cut-front (length ys) xs h in
+    rw (message-words t xs e (eqb-true _ _ q)) (front-both (trimmed ys) ys xs (trimmed-le ys) (front-trimmed ys plain) part))
+    (λ q. rw (message-literal t xs e (eqb-false _ _ q)) (front-take (literalLen xs) xs))
+
+pub message-le : (t : List Marked) (xs : List ℕ) → bytes t ≡ xs → length (bytes (message t)) ≤ length xs
+message-le t xs e =
+    by (eqb (literalLen xs) 0)
+    (λ q.
+    rw (message-words t xs e (eqb-true _ _ q))
+    (omega (arith, trimmed-le (takeWhile noComma xs), while-length noComma xs)))
+    (λ q.
+    rw (message-literal t xs e (eqb-false _ _ q)) (omega (arith, literal-le xs, length-take-le (literalLen xs) xs (literal-le xs))))
+
+-- what is trimmed has no W in front
+skip-front : (xs : List ℕ) → isW (getD (dropWhile isW xs) 0 0) ≡ false
+unfolding dropWhile isW within
+skip-front [] = refl
+skip-front (x ∷ xs) = by (isW x) (λ e. rw e (skip-front xs)) (λ e. rw e e)
+
+pub trimmed-front : (xs : List ℕ) → isW (getD (trimmed xs) 0 0) ≡ false
+unfolding trimmed
+trimmed-front xs =
+    ap (λ (l : List ℕ). isW (getD l 0 0)) (drop-end-take isW (dropWhile isW xs))
+    ∙ cut-front (length (dropEnd isW (dropWhile isW xs))) (dropWhile isW xs) (skip-front xs)

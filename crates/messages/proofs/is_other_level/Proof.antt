@@ -1,0 +1,103 @@
+use Rattle.messages.proofs.ReadingLaws.{level-last}
+use mathlib.Core.Path.{sym, _∙_}
+use Rattle.spec.specs.Raise.{levelWords, levelIn}
+use Rattle.spec.proofs.WalkLaws.{starts-case}
+use borrow.Author.Needs.{needs}
+use Rattle.messages.proofs.is_other_level.Statement.{statement}
+use Rattle.messages.proofs.is_other_level.Tie as tie
+
+slice-aggregate-starts-ignoring-case : tie.Need-slice-aggregate-starts-ignoring-case
+slice-aggregate-starts-ignoring-case c = search needs
+
+starts-ignoring-case-requires : tie.Need-starts-ignoring-case-requires
+starts-ignoring-case-requires c κs = search needs
+
+slice-aggregate-starts-ignoring-case-2 : tie.Need-slice-aggregate-starts-ignoring-case-2
+slice-aggregate-starts-ignoring-case-2 c = search needs
+
+starts-ignoring-case-requires-2 : tie.Need-starts-ignoring-case-requires-2
+starts-ignoring-case-requires-2 c κs = search needs
+
+slice-aggregate-starts-ignoring-case-3 : tie.Need-slice-aggregate-starts-ignoring-case-3
+slice-aggregate-starts-ignoring-case-3 c = search needs
+
+starts-ignoring-case-requires-3 : tie.Need-starts-ignoring-case-requires-3
+starts-ignoring-case-requires-3 c κs = search needs
+
+slice-aggregate-starts-ignoring-case-4 : tie.Need-slice-aggregate-starts-ignoring-case-4
+slice-aggregate-starts-ignoring-case-4 c = search needs
+
+starts-ignoring-case-requires-4 : tie.Need-starts-ignoring-case-requires-4
+starts-ignoring-case-requires-4 c κs = search needs
+
+slice-aggregate-starts-ignoring-case-5 : tie.Need-slice-aggregate-starts-ignoring-case-5
+slice-aggregate-starts-ignoring-case-5 c = search needs
+
+starts-ignoring-case-requires-5 : tie.Need-starts-ignoring-case-requires-5
+starts-ignoring-case-requires-5 c κs = search needs
+
+slice-aggregate-starts-ignoring-case-6 : tie.Need-slice-aggregate-starts-ignoring-case-6
+slice-aggregate-starts-ignoring-case-6 c = search needs
+
+starts-ignoring-case-requires-6 : tie.Need-starts-ignoring-case-requires-6
+starts-ignoring-case-requires-6 c κs = search needs
+
+slice-aggregate-starts-ignoring-case-7 : tie.Need-slice-aggregate-starts-ignoring-case-7
+slice-aggregate-starts-ignoring-case-7 c = search needs
+
+starts-ignoring-case-requires-7 : tie.Need-starts-ignoring-case-requires-7
+starts-ignoring-case-requires-7 c κs = search needs
+
+returns : tie.Need-returns
+unfolding levelIn levelWords
+returns c = λ t e. simp (starts-case, e, sym (c .before .starts-ignoring-case .ensures) ∙ c .if1 .taken)
+
+returns-2 : tie.Need-returns-2
+unfolding levelIn levelWords
+returns-2 c = λ t e. simp (starts-case, e, sym (c .before .before .before .before .starts-ignoring-case .ensures) ∙ c .before .before .before .if1 .left, sym (c .before .starts-ignoring-case2 .ensures) ∙ c .if2 .taken)
+
+returns-3 : tie.Need-returns-3
+unfolding levelIn levelWords
+returns-3 c = λ t e. simp (starts-case, e, sym (c .before .before .before .before .before .before .before .starts-ignoring-case .ensures) ∙ c .before .before .before .before .before .before .if1 .left, sym (c .before .before .before .before .starts-ignoring-case2 .ensures) ∙ c .before .before .before .if2 .left, sym (c .before .starts-ignoring-case3 .ensures) ∙ c .if3 .taken)
+
+returns-4 : tie.Need-returns-4
+unfolding levelIn levelWords
+returns-4 c = λ t e. simp (starts-case, e, sym (c .before .before .before .before .before .before .before .before .before .before .starts-ignoring-case .ensures) ∙ c .before .before .before .before .before .before .before .before .before .if1 .left, sym (c .before .before .before .before .before .before .before .starts-ignoring-case2 .ensures) ∙ c .before .before .before .before .before .before .if2 .left, sym (c .before .before .before .before .starts-ignoring-case3 .ensures) ∙ c .before .before .before .if3 .left, sym (c .before .starts-ignoring-case4 .ensures) ∙ c .if4 .taken)
+
+returns-5 : tie.Need-returns-5
+unfolding levelIn levelWords
+returns-5 c = λ t e. simp (starts-case, e, sym (c .before .before .before .before .before .before .before .before .before .before .before .before .before .starts-ignoring-case .ensures) ∙ c .before .before .before .before .before .before .before .before .before .before .before .before .if1 .left, sym (c .before .before .before .before .before .before .before .before .before .before .starts-ignoring-case2 .ensures) ∙ c .before .before .before .before .before .before .before .before .before .if2 .left, sym (c .before .before .before .before .before .before .before .starts-ignoring-case3 .ensures) ∙ c .before .before .before .before .before .before .if3 .left, sym (c .before .before .before .before .starts-ignoring-case4 .ensures) ∙ c .before .before .before .if4 .left, sym (c .before .starts-ignoring-case5 .ensures) ∙ c .if5 .taken)
+
+returns-6 : tie.Need-returns-6
+unfolding levelIn levelWords
+returns-6 c = λ t e. simp (starts-case, e, sym (c .before .before .before .before .before .before .before .before .before .before .before .before .before .before .before .before .starts-ignoring-case .ensures) ∙ c .before .before .before .before .before .before .before .before .before .before .before .before .before .before .before .if1 .left, sym (c .before .before .before .before .before .before .before .before .before .before .before .before .before .starts-ignoring-case2 .ensures) ∙ c .before .before .before .before .before .before .before .before .before .before .before .before .if2 .left, sym (c .before .before .before .before .before .before .before .before .before .before .starts-ignoring-case3 .ensures) ∙ c .before .before .before .before .before .before .before .before .before .if3 .left, sym (c .before .before .before .before .before .before .before .starts-ignoring-case4 .ensures) ∙ c .before .before .before .before .before .before .if4 .left, sym (c .before .before .before .before .starts-ignoring-case5 .ensures) ∙ c .before .before .before .if5 .left, sym (c .before .starts-ignoring-case6 .ensures) ∙ c .if6 .taken)
+
+returns-7 : tie.Need-returns-7
+unfolding levelIn levelWords
+returns-7 c = λ t e. simp (starts-case, e, sym (c .before .before .before .before .before .before .before .before .before .before .before .before .before .before .before .before .before .before .starts-ignoring-case .ensures) ∙ c .before .before .before .before .before .before .before .before .before .before .before .before .before .before .before .before .before .if1 .left, sym (c .before .before .before .before .before .before .before .before .before .before .before .before .before .before .before .starts-ignoring-case2 .ensures) ∙ c .before .before .before .before .before .before .before .before .before .before .before .before .before .before .if2 .left, sym (c .before .before .before .before .before .before .before .before .before .before .before .before .starts-ignoring-case3 .ensures) ∙ c .before .before .before .before .before .before .before .before .before .before .before .if3 .left, sym (c .before .before .before .before .before .before .before .before .before .starts-ignoring-case4 .ensures) ∙ c .before .before .before .before .before .before .before .before .if4 .left, sym (c .before .before .before .before .before .before .starts-ignoring-case5 .ensures) ∙ c .before .before .before .before .before .if5 .left, sym (c .before .before .before .starts-ignoring-case6 .ensures) ∙ c .before .before .if6 .left, sym (c .starts-ignoring-case7 .ensures)) (level-last (c .starts-ignoring-case7 .result))
+
+pub is-other-level-spec : {M : Type 1} → statement M
+is-other-level-spec =
+    tie.close
+    (tie.spec
+    slice-aggregate-starts-ignoring-case
+    starts-ignoring-case-requires
+    slice-aggregate-starts-ignoring-case-2
+    starts-ignoring-case-requires-2
+    slice-aggregate-starts-ignoring-case-3
+    starts-ignoring-case-requires-3
+    slice-aggregate-starts-ignoring-case-4
+    starts-ignoring-case-requires-4
+    slice-aggregate-starts-ignoring-case-5
+    starts-ignoring-case-requires-5
+    slice-aggregate-starts-ignoring-case-6
+    starts-ignoring-case-requires-6
+    slice-aggregate-starts-ignoring-case-7
+    starts-ignoring-case-requires-7
+    returns
+    returns-2
+    returns-3
+    returns-4
+    returns-5
+    returns-6
+    returns-7)

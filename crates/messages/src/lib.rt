@@ -1,0 +1,367 @@
+// Pass 5's reading of a RAISE: its level, its statement's content, and the message in it.
+use classes::byte_at;
+use classes::is_w;
+use scanner::starts_ignoring_case;
+use spans::Cursor;
+use spans::Step;
+use spec::Span;
+ghost use mathlib.Core.Path.{_≡_};
+ghost use mathlib.Core.Bool.{false, cond, not};
+ghost use mathlib.Core.List.{List};
+ghost use mathlib.Core.Option.{some};
+ghost use Prim.Native.Nat.{_+_, _≤_, _<_, min};
+ghost use lib.Dec.{eqb};
+ghost use lib.ListN.{length, drop, getD};
+ghost use Rattle.spec.specs.Bytes.{isW};
+ghost use Rattle.spec.specs.Lists.{takeWhile, dropEnd};
+ghost use Rattle.spec.specs.Map.{Marked, bytes, lives};
+ghost use Rattle.spec.specs.Body.{forget};
+ghost use Rattle.spec.specs.Raise.{closeLen, message, usingFate, abortFate, Level, exception, levelWords, levelIn, endsLevel, isException, fateText};
+ghost use Rattle.messages.specs.declared.RaiseLevel.the-variants as level;
+ghost use Rattle.messages.specs.Readings.{levelFound, levelReach, trimmed, endsStatement, contentIn, literalLen, abortIn, AbortWithin, fateAt, FateWithin, Reads};
+
+// The level behind a RAISE and its separator.
+enum RaiseLevel {
+    Exception,
+    // One of those that vanish.
+    Other,
+    Nothing,
+}
+
+// What becomes of a RAISE, by offsets in the text from the RAISE on.
+pub enum RaiseFate {
+    // `SELECT RAISE(ABORT, m);` with this m.
+    Rewritten { start: usize, len: usize },
+    Dropped,
+    // It passes, with its separator.
+    Passed,
+    // Refusal 5, with the clause from USING.
+    Refused { start: usize, len: usize },
+}
+
+// A RAISE as it is read: where the search for the next one goes on, and its fate.
+pub struct RaiseRead {
+    pub end: usize,
+    pub fate: RaiseFate,
+}
+
+// What becomes of a RAISE that aborts, by offsets in its trimmed content.
+enum Abort {
+    // Its message.
+    Message { start: usize, len: usize },
+    // Refusal 5.
+    Refused,
+}
+
+// Whether a level that vanishes stands in front.
+fn is_other_level(rest: &[u8]) -> bool
+    ensures { λ r. ⌜ ((t : List Marked) → bytes t ≡ now (rest .entry) → levelFound (levelIn (drop 1 levelWords) t) ≡ cond r level.Other level.Nothing) ⌝ }
+{
+    if starts_ignoring_case(rest, b"NOTICE") {
+        true
+    } else if starts_ignoring_case(rest, b"WARNING") {
+        true
+    } else if starts_ignoring_case(rest, b"DEBUG") {
+        true
+    } else if starts_ignoring_case(rest, b"LOG") {
+        true
+    } else if starts_ignoring_case(rest, b"INFO ") {
+        true
+    } else if starts_ignoring_case(rest, b"INFO\n") {
+        true
+    } else {
+        starts_ignoring_case(rest, b"INFO;")
+    }
+}
+
+// The level in front, in any letter case.
+fn level_at(rest: &[u8]) -> RaiseLevel
+    ensures { λ r. ⌜ ((t : List Marked) → bytes t ≡ now (rest .entry) → r ≡ levelFound (levelIn levelWords t)) ⌝ }
+    ensures { λ r. ⌜ levelReach r ≤ length (now (rest .entry)) ⌝ }
+{
+    if starts_ignoring_case(rest, b"EXCEPTION") {
+        RaiseLevel::Exception
+    } else if is_other_level(rest) {
+        RaiseLevel::Other
+    } else {
+        RaiseLevel::Nothing
+    }
+}
+
+// Where the level at `from` ends that runs to W or `;`.
+fn level_end(text: &[u8], from: usize) -> usize
+    ensures { λ r. ⌜ r ≡ from + length (takeWhile (λ c. not (endsLevel c)) (drop from (now (text .entry)))) ⌝ }
+{
+    let mut i = from;
+    while i < text.len() {
+        let b = text[i];
+        if is_w(b) {
+            return i;
+        }
+        if b == b';' {
+            return i;
+        }
+        i += 1;
+    }
+    i
+}
+
+// Where the W from `from` on end.
+fn skip_w(text: &[u8], from: usize) -> usize
+    ensures { λ r. ⌜ r ≡ from + length (takeWhile isW (drop from (now (text .entry)))) ⌝ }
+{
+    let mut i = from;
+    while i < text.len() {
+        if is_w(text[i]) {
+            i += 1;
+        } else {
+            return i;
+        }
+    }
+    i
+}
+
+// The length without the W at the end.
+fn trimmed_len(text: &[u8]) -> usize
+    ensures { λ r. ⌜ r ≡ length (dropEnd isW (now (text .entry))) ⌝ }
+{
+    let mut k = text.len();
+    while 0 < k {
+        if is_w(text[k - 1]) {
+            k -= 1;
+        } else {
+            return k;
+        }
+    }
+    0
+}
+
+// The text without W at both ends.
+fn trim<'a>(text: &'a [u8]) -> &'a [u8]
+    ensures { λ r. ⌜ now r ≡ trimmed (now (text .entry)) ⌝ }
+{
+    let rest = &text[skip_w(text, 0)..];
+    &rest[..trimmed_len(rest)]
+}
+
+// Whether the span s, whose first byte is b, ends a statement.
+fn ends_statement(s: Span, b: u8) -> bool
+    ensures { λ r. ⌜ r ≡ endsStatement s b ⌝ }
+{
+    match s {
+        Span::Verbatim(_) => false,
+        Span::Dollar(_) => false,
+        Span::Code(_) => b == b';',
+    }
+}
+
+// How long the content is of a statement that has `rest` behind its level.
+fn content_len(rest: &[u8]) -> usize
+    ensures { λ r. ⌜ r ≡ length (contentIn (now (rest .entry))) ⌝ }
+{
+    let mut cursor = Cursor { at: 0 };
+    loop {
+        let from = cursor.at;
+        let step = cursor.step(rest);
+        let Step::Taken(s, next) = step else {
+            return from;
+        };
+        if ends_statement(s, byte_at(rest, from)) {
+            return from;
+        }
+        cursor = next;
+    }
+}
+
+// From behind an opening `'`, the length through the quote that closes the literal, 0 if none does.
+fn close_len(rest: &[u8]) -> usize
+    ensures { λ r. ⌜ r ≡ closeLen (lives (now (rest .entry))) ⌝ }
+{
+    let n = rest.len();
+    let mut i: usize = 0;
+    while i + 1 < n {
+        if rest[i] == b'\'' {
+            if rest[i + 1] == b'\'' {
+                i += 2;
+            } else {
+                return i + 1;
+            }
+        } else {
+            i += 1;
+        }
+    }
+    if i < n {
+        if rest[i] == b'\'' {
+            return n;
+        }
+    }
+    0
+}
+
+// The length of the closed `'` literal in front, 0 if there is none.
+fn literal_len(content: &[u8]) -> usize
+    requires { ⌜ length (now content) ≤ 65536 ⌝ }
+    ensures { λ r. ⌜ r ≡ literalLen (now (content .entry)) ⌝ }
+{
+    if byte_at(content, 0) == b'\'' {
+        let n = close_len(&content[1..]);
+        if n == 0 { 0 } else { 1 + n }
+    } else {
+        0
+    }
+}
+
+// How many bytes stand before the first comma.
+fn comma_len(text: &[u8]) -> usize
+    ensures { λ r. ⌜ r ≡ length (takeWhile (λ c. not (eqb c 44)) (now (text .entry))) ⌝ }
+{
+    let mut i: usize = 0;
+    while i < text.len() {
+        if text[i] == b',' {
+            return i;
+        }
+        i += 1;
+    }
+    i
+}
+
+// The message of a content: the closed literal in front, else the trimmed text up to the first comma.
+pub fn extract_first_string_literal<'a>(content: &'a [u8]) -> &'a [u8]
+    requires { ⌜ length (now content) ≤ 65536 ⌝ }
+    ensures { λ r. ⌜ ((t : List Marked) → bytes t ≡ now (content .entry) → now r ≡ bytes (message t)) ⌝ }
+{
+    let k = literal_len(content);
+    if k == 0 {
+        let words = &content[..comma_len(content)];
+        trim(words)
+    } else {
+        &content[..k]
+    }
+}
+
+// What becomes of a content that starts with USING: MESSAGE, `=`, and a message that starts with `'` and has only W behind it.
+fn read_using(content: &[u8]) -> Abort
+    requires { ⌜ 5 ≤ length (now content) ⌝ }
+    requires { ⌜ length (now content) ≤ 65536 ⌝ }
+    ensures { λ r. ⌜ ((t : List Marked) → bytes t ≡ now (content .entry) → forget (fateText (usingFate t (drop 5 t))) ≡ abortIn r (now (content .entry))) ⌝ }
+    ensures { λ r. ⌜ AbortWithin r (length (now (content .entry))) ⌝ }
+{
+    let a = skip_w(content, 5);
+    if starts_ignoring_case(&content[a..], b"MESSAGE") {
+        let b = skip_w(content, a + 7);
+        if byte_at(content, b) == b'=' {
+            let from = skip_w(content, b + 1);
+            if byte_at(content, from) == b'\'' {
+                let len = extract_first_string_literal(&content[from..]).len();
+                if skip_w(content, from + len) < content.len() {
+                    Abort::Refused
+                } else {
+                    Abort::Message { start: from, len }
+                }
+            } else {
+                Abort::Refused
+            }
+        } else {
+            Abort::Refused
+        }
+    } else {
+        Abort::Refused
+    }
+}
+
+// What becomes of a RAISE that aborts, its content trimmed.
+fn read_abort(content: &[u8]) -> Abort
+    requires { ⌜ length (now content) ≤ 65536 ⌝ }
+    requires { ⌜ isW (getD (now content) 0 0) ≡ false ⌝ }
+    ensures { λ r. ⌜ ((t : List Marked) → bytes t ≡ now (content .entry) → forget (fateText (abortFate t)) ≡ abortIn r (now (content .entry))) ⌝ }
+    ensures { λ r. ⌜ AbortWithin r (length (now (content .entry))) ⌝ }
+{
+    if starts_ignoring_case(content, b"USING") {
+        read_using(content)
+    } else {
+        let len = extract_first_string_literal(content).len();
+        Abort::Message { start: 0, len }
+    }
+}
+
+// The fate of a RAISE whose content of n bytes stands at `from`.
+fn fate_at(a: Abort, from: usize, n: usize) -> RaiseFate
+    requires { ⌜ from ≤ 65536 ⌝ }
+    requires { ⌜ n ≤ 65536 ⌝ }
+    requires { ⌜ AbortWithin a n ⌝ }
+    ensures { λ r. ⌜ r ≡ fateAt a from n ⌝ }
+{
+    match a {
+        Abort::Message { start, len } => RaiseFate::Rewritten {
+            start: from + start,
+            len,
+        },
+        Abort::Refused => RaiseFate::Refused {
+            start: from,
+            len: n,
+        },
+    }
+}
+
+// Behind the `;` at `stop`, or the end.
+fn behind(stop: usize, n: usize) -> usize
+    ensures { λ r. ⌜ r ≡ min (stop + 1) n ⌝ }
+{
+    if stop < n { stop + 1 } else { n }
+}
+
+// A RAISE EXCEPTION, from the RAISE on.
+fn read_exception(rest: &[u8]) -> RaiseRead
+    requires { ⌜ 15 ≤ length (now rest) ⌝ }
+    requires { ⌜ length (now rest) ≤ 65536 ⌝ }
+    ensures { λ r. ⌜ ((t : List Marked) → bytes t ≡ now (rest .entry) → Reads t (some exception) (now (rest .entry)) r) ⌝ }
+    ensures { λ r. ⌜ FateWithin (r .fate) 15 (r .end) ⌝ }
+{
+    let stop = 15 + content_len(&rest[15..]);
+    let content = &rest[15..stop];
+    let a = skip_w(content, 0);
+    let n = trimmed_len(&content[a..]);
+    let answer = read_abort(&content[a..a + n]);
+    RaiseRead {
+        end: behind(stop, rest.len()),
+        fate: fate_at(answer, 15 + a, n),
+    }
+}
+
+// A RAISE of another level, from the RAISE on.
+fn read_other(rest: &[u8]) -> RaiseRead
+    requires { ⌜ 6 ≤ length (now rest) ⌝ }
+    requires { ⌜ length (now rest) ≤ 65536 ⌝ }
+    ensures { λ r. ⌜ ((t : List Marked) (l : Level) → bytes t ≡ now (rest .entry) → isException l ≡ false → Reads t (some l) (now (rest .entry)) r) ⌝ }
+    ensures { λ r. ⌜ FateWithin (r .fate) 15 (r .end) ⌝ }
+{
+    let k = level_end(rest, 6);
+    let stop = k + content_len(&rest[k..]);
+    RaiseRead {
+        end: behind(stop, rest.len()),
+        fate: RaiseFate::Dropped,
+    }
+}
+
+// The RAISE at the front of `rest`.
+pub fn read_raise(rest: &[u8]) -> RaiseRead
+    requires { ⌜ length (now rest) ≤ 65536 ⌝ }
+    ensures { λ r. ⌜ ((t : List Marked) → bytes t ≡ now (rest .entry) → Reads t (levelIn levelWords (drop 6 t)) (now (rest .entry)) r) ⌝ }
+    ensures { λ r. ⌜ FateWithin (r .fate) 15 (r .end) ⌝ }
+{
+    if rest.len() < 6 {
+        return RaiseRead {
+            end: rest.len(),
+            fate: RaiseFate::Passed,
+        };
+    }
+    let level = level_at(&rest[6..]);
+    match level {
+        RaiseLevel::Exception => read_exception(rest),
+        RaiseLevel::Other => read_other(rest),
+        RaiseLevel::Nothing => RaiseRead {
+            end: 6,
+            fate: RaiseFate::Passed,
+        },
+    }
+}

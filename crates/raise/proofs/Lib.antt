@@ -1,0 +1,5 @@
+pub mod CopyLaws
+pub mod OutcomeLaws
+pub mod RaiseLaws
+pub mod WrittenLaws
+pub mod PassLaws

@@ -1,0 +1,77 @@
+-- A turn of pass 5: the bytes up to a RAISE and what becomes of it are written, or its clause is refused. Assumes nothing.
+use mathlib.Core.Path.{_≡_, ap, _∙_}
+use mathlib.Core.List.{List, []}
+use Prim.Native.Nat.{ℕ, _+_, _-_, _≤_, _<_}
+use native.Mathlib.Omega.{arith}
+use lib.ListN.{length, take, drop, length-drop}
+use lib.Seq.{sets}
+use Rattle.spec.proofs.FirstLaws.{first-least}
+use Rattle.spec.proofs.MapLaws.{marked-length}
+use Rattle.spec.proofs.WalkLaws.{bytes-drop}
+use Rattle.spec.specs.Map.{Marked, marked, bytes}
+use Rattle.spec.specs.Search.{first}
+use Rattle.spec.specs.Assignments.{done, clause}
+use Rattle.spec.specs.Body.{accepted, usingClause}
+use Rattle.spec.specs.Raise.{levelWords, levelIn, fateText}
+use Rattle.spec.specs.declared.Found.the-variants.{At, Nothing}
+use Rattle.messages.specs.Readings.{fateIn, Reads}
+use Rattle.messages.specs.declared.RaiseRead.{RaiseRead}
+use Rattle.messages.proofs.TextLaws.{bytes-take}
+use Rattle.raise.proofs.OutcomeLaws.{Turn, turn-both, turn-front, turn-text, clause-first}
+use Rattle.raise.proofs.RaiseLaws.{raised-pos, raiseHere, raiseOf, leftAt, raise-step, raise-last, left-min}
+
+module _ (xs ms : List ℕ) (from : ℕ) where
+  -- no RAISE is left
+  pub last-turn : (d d′ : List ℕ) (n n′ : ℕ) → first raiseHere from (marked xs ms) ≡ Nothing
+      → d′ ≡ sets d n (drop from xs) → n′ ≡ n + length (drop from xs) → Turn d n (leftAt (marked xs ms) from) d′ n′ (done [])
+  last-turn d d′ n n′ e p q =
+      rw (raise-last (marked xs ms) from e) (turn-front (drop from (marked xs ms)) (drop from xs) d d′ n n′ (done []) (bytes-drop xs ms from) p q)
+
+  module _ (at : ℕ) (e : first raiseHere from (marked xs ms) ≡ At at) where
+    -- the RAISE stands within the text
+    pub raise-within : (from ≤ at) × (at < length xs)
+    raise-within =
+        let b = first-least raiseHere (marked xs ms) from at e in
+        (b .from, omega (arith, b .inside, marked-length xs ms))
+
+    module _ (r : RaiseRead) (reads : (u : List Marked) → bytes u ≡ drop at xs → Reads u (levelIn levelWords (drop 6 u)) (drop at xs) r) where
+      here : Reads (drop at (marked xs ms)) (levelIn levelWords (drop 6 (drop at (marked xs ms)))) (drop at xs) r
+      here = reads (drop at (marked xs ms)) (bytes-drop xs ms at)
+
+      -- its end too
+      pub end-within : r .end ≤ length xs - at
+      end-within = omega (arith, here .ends, length-drop at xs)
+
+      pub end-pos : 0 < r .end
+      end-pos =
+          omega (
+            arith,
+            here .ends,
+            length-drop at xs,
+            raise-within,
+            raised-pos (levelIn levelWords (drop 6 (drop at (marked xs ms)))) (drop at (marked xs ms)),
+          )
+
+      front-bytes : bytes (take (at - from) (drop from (marked xs ms))) ≡ take (at - from) (drop from xs)
+      front-bytes = bytes-take (at - from) (drop from (marked xs ms)) ∙ ap (take (at - from)) (bytes-drop xs ms from)
+
+      ends-here : leftAt (marked xs ms) (at + raiseOf (drop at (marked xs ms)) .length) ≡ leftAt (marked xs ms) (at + r .end)
+      ends-here =
+          let m = marked-length xs ms in
+          left-min (marked xs ms) at (r .end) (raiseOf (drop at (marked xs ms)) .length)
+          (omega (arith, here .ends, length-drop at xs)) (omega (arith, raise-within))
+
+      -- the bytes before it are written, and then the text ys that it becomes
+      pub raise-turn : (d d₁ d₂ ys : List ℕ) (n n₁ n₂ : ℕ) → fateIn (r .fate) (r .end) (drop at xs) ≡ accepted ys
+          → d₁ ≡ sets d n (take (at - from) (drop from xs)) → n₁ ≡ n + length (take (at - from) (drop from xs))
+          → d₂ ≡ sets d₁ n₁ ys → n₂ ≡ n₁ + length ys
+          → Turn d n (leftAt (marked xs ms) from) d₂ n₂ (leftAt (marked xs ms) (at + r .end))
+      raise-turn d d₁ d₂ ys n n₁ n₂ f p q s k =
+          rw (raise-step (marked xs ms) from at e, ends-here)
+          (turn-both
+          (turn-front (take (at - from) (drop from (marked xs ms))) (take (at - from) (drop from xs)) d d₁ n n₁ _ front-bytes p q)
+          (turn-text (fateText (raiseOf (drop at (marked xs ms)) .fate)) ys d₁ d₂ n₁ n₂ _ (here .text ∙ f) s k))
+
+      -- its clause is refused
+      pub raise-clause : (c : List ℕ) → fateIn (r .fate) (r .end) (drop at xs) ≡ usingClause c → leftAt (marked xs ms) from ≡ clause c
+      raise-clause c f = raise-step (marked xs ms) from at e ∙ clause-first (take (at - from) (drop from (marked xs ms))) _ _ c (here .text ∙ f)
