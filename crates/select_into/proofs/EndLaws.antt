@@ -1,0 +1,111 @@
+-- The ends of lists by a test, of two lists one after the other, and of bytes; the parts of a list are trimmed. Assumes
+-- nothing.
+use mathlib.Core.Path.{_≡_, refl, sym, ap, _∙_}
+use mathlib.Core.Bool.{Bool, false, not, _&&_, and-false}
+use mathlib.Core.List.{List, [], _∷_, _++_, map, reverse, reverseAux}
+use Prim.Native.Nat.{ℕ, _≤_, _<_}
+use native.Mathlib.Omega.{arith}
+use lib.ListN.{length}
+use Rattle.spec.proofs.Choice.{by}
+use Rattle.spec.specs.Bytes.{isW}
+use Rattle.spec.specs.Lists.{isEmpty, takeWhile, dropWhile, dropEnd, keep}
+use Rattle.spec.specs.Map.{Marked, byte, bytes, lives, ofByte}
+use Rattle.spec.specs.Search.{pieces}
+use Rattle.spec.specs.Assignments.{trim, trimEnd}
+use Rattle.spec.specs.SelectInto.{listed, commaHere}
+
+some-behind : {A : Type 0} (a b : List A) → 0 < length b → isEmpty (a ++ b) ≡ false
+unfolding isEmpty
+some-behind [] [] h = absurd (omega arith)
+some-behind [] (y ∷ b) h = refl
+some-behind (x ∷ a) b h = refl
+
+module _ {A : Type 0} (f : A → Bool) where
+  -- all of the second list goes, and the end of the first
+  pub drop-end-gone : (a b : List A) → dropEnd f b ≡ [] → dropEnd f (a ++ b) ≡ dropEnd f a
+  unfolding dropEnd
+  drop-end-gone [] b e = e
+  drop-end-gone (x ∷ a) b e = rw (drop-end-gone a b e) refl
+
+  -- some of the second list stays, and all of the first
+  pub drop-end-kept : (a b : List A) → 0 < length (dropEnd f b) → dropEnd f (a ++ b) ≡ a ++ dropEnd f b
+  unfolding dropEnd
+  drop-end-kept [] b h = refl
+  drop-end-kept (x ∷ a) b h = rw (drop-end-kept a b h, some-behind a (dropEnd f b) h, and-false (f x)) refl
+
+  -- once is enough
+  pub drop-end-twice : (t : List A) → dropEnd f (dropEnd f t) ≡ dropEnd f t
+  unfolding dropEnd
+  drop-end-twice [] = refl
+  drop-end-twice (x ∷ t) =
+      by (f x && isEmpty (dropEnd f t))
+      (λ e. rw e refl)
+      (λ e. rw e (again x (dropEnd f t) (drop-end-twice t) e))
+    where
+      again : (x : A) (u : List A) → dropEnd f u ≡ u → (f x && isEmpty u) ≡ false → dropEnd f (x ∷ u) ≡ x ∷ u
+      again x u r e = rw (r, e) refl
+
+-- ---- bytes
+
+pub bytes-append : (s t : List Marked) → bytes (s ++ t) ≡ bytes s ++ bytes t
+unfolding bytes
+bytes-append [] t = refl
+bytes-append (x ∷ s) t = ap (λ (l : List ℕ). byte x ∷ l) (bytes-append s t)
+
+pub bytes-lives : (xs : List ℕ) → bytes (lives xs) ≡ xs
+unfolding bytes lives
+bytes-lives [] = refl
+bytes-lives (c ∷ cs) = ap (λ (l : List ℕ). c ∷ l) (bytes-lives cs)
+
+bytes-empty : (t : List Marked) → isEmpty (bytes t) ≡ isEmpty t
+unfolding bytes isEmpty
+bytes-empty [] = refl
+bytes-empty (x ∷ t) = refl
+
+module _ (f : ℕ → Bool) where
+  pub bytes-drop-end : (t : List Marked) → bytes (dropEnd (ofByte f) t) ≡ dropEnd f (bytes t)
+  unfolding bytes dropEnd ofByte
+  bytes-drop-end [] = refl
+  bytes-drop-end (x ∷ t) =
+      let more = bytes-drop-end t in
+      let same : isEmpty (dropEnd f (bytes t)) ≡ isEmpty (dropEnd (ofByte f) t) = ap isEmpty (sym more) ∙ bytes-empty (dropEnd (ofByte f) t) in
+      by (f (byte x) && isEmpty (dropEnd (ofByte f) t))
+      (λ e. rw (same, e) refl)
+      (λ e. rw (same, e) (ap (λ (l : List ℕ). byte x ∷ l) more))
+
+  pub bytes-while : (t : List Marked) → bytes (takeWhile (ofByte f) t) ≡ takeWhile f (bytes t)
+  unfolding bytes takeWhile ofByte
+  bytes-while [] = refl
+  bytes-while (x ∷ t) = by (f (byte x)) (λ e. rw e (ap (λ (l : List ℕ). byte x ∷ l) (bytes-while t))) (λ e. rw e refl)
+
+bytes-onto : (s t : List Marked) → bytes (reverseAux s t) ≡ reverseAux (bytes s) (bytes t)
+unfolding bytes
+bytes-onto [] t = refl
+bytes-onto (x ∷ s) t = bytes-onto s (x ∷ t)
+
+pub bytes-reverse : (t : List Marked) → bytes (reverse t) ≡ reverse (bytes t)
+unfolding bytes
+bytes-reverse t = bytes-onto t []
+
+-- ---- trimmed parts
+
+-- each of these is trimmed and not empty
+abbrev pub Trimmed : List (List Marked) → Type 0
+Trimmed [] = 0 ≤ 0
+Trimmed (c ∷ cs) = (trimEnd c ≡ c) × (0 < length c) × Trimmed cs
+
+trim-trimmed : (t : List Marked) → trimEnd (trim t) ≡ trim t
+unfolding trim trimEnd
+trim-trimmed t = drop-end-twice (ofByte isW) (dropWhile (ofByte isW) t)
+
+pub listed-trimmed : (t : List Marked) → Trimmed (listed t)
+unfolding listed keep isEmpty
+listed-trimmed t = go (pieces commaHere t)
+  where
+    go : (ps : List (List Marked)) → Trimmed (keep (λ (p : List Marked). not (isEmpty p)) (map trim ps))
+    go [] = omega arith
+    go (p ∷ ps) = one (trim p) (trim-trimmed p) (go ps)
+      where
+        one : (q : List Marked) → trimEnd q ≡ q → Trimmed (keep (λ (r : List Marked). not (isEmpty r)) (map trim ps)) → Trimmed (keep (λ (r : List Marked). not (isEmpty r)) (q ∷ map trim ps))
+        one [] e more = more
+        one (x ∷ q) e more = (e, omega arith, more)
