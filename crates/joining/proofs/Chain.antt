@@ -45,7 +45,7 @@ forget-only (done t) (clause c) zs h = absurd (apart (cc))
 forget-only (qualified q n) p zs h = absurd (apart (cc))
 forget-only (clause c) p zs h = absurd (apart (cc))
 
-forget-both : (o p : Outcome) (us vs : List ℕ) → forget o ≡ accepted us → forget p ≡ accepted vs → forget (o ⊕ p) ≡ accepted (us ++ vs)
+pub forget-both : (o p : Outcome) (us vs : List ℕ) → forget o ≡ accepted us → forget p ≡ accepted vs → forget (o ⊕ p) ≡ accepted (us ++ vs)
 unfolding forget _⊕_
 forget-both (done t) (done u) us vs h k =
     let e : bytes t ≡ us = cc in

@@ -39,16 +39,16 @@ module _ (l : Lent) (xs : List ℕ) where
       rw (le-leb bufferSize (length (l .output)) (l .outputFits), le-leb bufferSize (length (l .workA)) (l .workAFits))
       (le-leb bufferSize (length (l .workB)) (l .workBFits))
 
-  passes-check : length xs ≤ textLimit → NoHigh xs → bodyCheck xs (l .output) (l .workA) (l .workB) ≡ Passed
+  pub passes-check : length xs ≤ textLimit → NoHigh xs → bodyCheck xs (l .output) (l .workA) (l .workB) ≡ Passed
   unfolding bodyCheck
   passes-check f n = rw lent (check-always textLimit true xs [] Passed (f, refl, n, (λ k h. absurd (omega arith))))
 
   -- what the call gives where the checks pass
-  number-passed : bodyCheck xs (l .output) (l .workA) (l .workB) ≡ Passed → numberOf l xs ≡ callNumbers (bodyResult xs .answer) .number
+  pub number-passed : bodyCheck xs (l .output) (l .workA) (l .workB) ≡ Passed → numberOf l xs ≡ callNumbers (bodyResult xs .answer) .number
   unfolding numberOf bodyAnswer
   number-passed e = ap (λ (c : Check). callNumbers (callAnswer c (bodyResult xs .answer)) .number) e
 
-  number-refused : (r : Refusal) → bodyCheck xs (l .output) (l .workA) (l .workB) ≡ Refused r → numberOf l xs ≡ refusalNumber r
+  pub number-refused : (r : Refusal) → bodyCheck xs (l .output) (l .workA) (l .workB) ≡ Refused r → numberOf l xs ≡ refusalNumber r
   unfolding numberOf bodyAnswer
   number-refused r e = ap (λ (c : Check). callNumbers (callAnswer c (bodyResult xs .answer)) .number) e
 
@@ -61,7 +61,7 @@ module _ (l : Lent) (xs : List ℕ) where
   taken-zero zs t = number-passed (passes-check (t .fits) (t .ascii)) ∙ rw (t .result) refl
 
   -- 1 exactly past the limit, else the passes decide or a byte over 127
-  zero-taken : numberOf l xs ≡ 0 → (zs : List ℕ) × Taken xs zs
+  pub zero-taken : numberOf l xs ≡ 0 → (zs : List ℕ) × Taken xs zs
   unfolding bodyResult resultOf bodyCheck
   zero-taken h = by-check (bodyCheck xs (l .output) (l .workA) (l .workB)) refl
     where
@@ -80,7 +80,7 @@ module _ (l : Lent) (xs : List ℕ) where
       by-check (Refused (NotAscii i)) e = absurd (let z : 0 ≡ 2 = sym h ∙ number-refused (NotAscii i) e in omega arith)
 
   -- a text that is not refused by 1 is within the limit
-  not-one : (numberOf l xs ≡ 1 → ⊥) → length xs ≤ textLimit
+  pub not-one : (numberOf l xs ≡ 1 → ⊥) → length xs ≤ textLimit
   unfolding bodyCheck
   not-one h = by (ltb textLimit (length xs)) (λ e. absurd (h (number-refused TextTooLong (long e)))) (λ e. ltb-false textLimit (length xs) e)
     where
@@ -99,7 +99,7 @@ high-left a b h k i = sym (ap isHigh (List·getD-append a b 0 k i)) ∙ h k (ome
 high-right : (a b : List ℕ) → NoHigh (a ++ b) → NoHigh b
 high-right a b h k i = sym (ap isHigh (getD-append-add a b k 0)) ∙ h (length a + k) (omega (arith, length-append a b))
 
-high-both : (a b : List ℕ) → NoHigh a → NoHigh b → NoHigh (a ++ b)
+pub high-both : (a b : List ℕ) → NoHigh a → NoHigh b → NoHigh (a ++ b)
 high-both [] b p q k i = q k i
 high-both (x ∷ a) b p q zero i = p zero (suc-le-suc zero-le)
 high-both (x ∷ a) b p q (suc k) i = high-both a b (λ j h. p (suc j) (suc-le-suc h)) q k (le-of-suc-le-suc i)

@@ -18,3 +18,4 @@ pub mod TameStart
 pub mod TameEnd
 pub mod KeepRequote
 pub mod Kept
+pub mod ListDemand

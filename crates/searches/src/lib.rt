@@ -27,7 +27,7 @@ ghost use Rattle.spec.specs.declared.Check.the-variants.{Passed};
 const SEARCH_LIMIT: usize = 65536;
 
 // The checks of a search that is lent a map, and the map if they pass.
-fn map_checked(text: &[u8], map: &mut [u8], needle: &[u8]) -> Check
+pub fn map_checked(text: &[u8], map: &mut [u8], needle: &[u8]) -> Check
     ensures { λ r. ⌜ r ≡ mapCheck (now (text .entry)) (now (map .entry)) (now (needle .entry)) ⌝ }
     ensures { λ _. ⌜ now (map .exit) ≡ mapExit (now (text .entry)) (now (map .entry)) (now (needle .entry)) ⌝ }
 {
@@ -54,7 +54,7 @@ fn found_answer(f: Found) -> Search
 }
 
 // The answer of a yes/no search that was not refused.
-fn yes_no_answer(yes: bool) -> Search
+pub fn yes_no_answer(yes: bool) -> Search
     ensures { λ r. ⌜ r ≡ searchAnswer Passed (yesNo yes) ⌝ }
 {
     if yes {

@@ -1,0 +1,56 @@
+use mathlib.Core.Path.{sym, ap, _∙_}
+use Rattle.spec.specs.Bytes.{isIdent}
+use Rattle.spec.specs.Closed.{endsWord}
+use Rattle.closed.proofs.ClosedLaws.{followed-by, followed-no-word, followed-no-space}
+use borrow.Author.Needs.{needs}
+use Rattle.closed.proofs.is_followed.Statement.{statement}
+use Rattle.closed.proofs.is_followed.Tie as tie
+
+byte-at-requires : tie.Need-byte-at-requires
+byte-at-requires c κs = search needs
+
+add-byte-at : tie.Need-add-byte-at
+add-byte-at c = search needs
+
+byte-at-requires-2 : tie.Need-byte-at-requires-2
+byte-at-requires-2 c κs = search needs
+
+is-ident-byte-requires : tie.Need-is-ident-byte-requires
+is-ident-byte-requires c κs = search needs
+
+add-ident-end : tie.Need-add-ident-end
+add-ident-end c = search needs
+
+ident-end-requires : tie.Need-ident-end-requires
+ident-end-requires c κs = search needs
+
+byte-at-requires-3 : tie.Need-byte-at-requires-3
+byte-at-requires-3 c κs = search needs
+
+ends-word-requires : tie.Need-ends-word-requires
+ends-word-requires c κs = search needs
+
+returns : tie.Need-returns
+returns c = sym (followed-by (c .before .before .before .before .before .before .before .before .before .args .text .now) (c .before .before .before .before .before .before .before .before .before .args .i) (sym (c .before .before .before .before .before .before .before .byte-at .ensures) ∙ c .before .before .before .before .before .before .if1 .taken) (ap isIdent (sym (c .before .before .before .before .before .byte-at2 .ensures)) ∙ (sym (c .before .before .before .before .is-ident-byte .ensures) ∙ c .before .before .before .if2 .taken)) _ (c .before .before .ident-end .ensures) ∙ (ap endsWord (sym (c .before .byte-at3 .ensures)) ∙ sym (c .ends-word .ensures)))
+
+returns-2 : tie.Need-returns-2
+returns-2 c = sym (followed-no-word (c .before .before .before .before .before .before .args .text .now) (c .before .before .before .before .before .before .args .i) (ap isIdent (sym (c .before .before .byte-at2 .ensures)) ∙ (sym (c .before .is-ident-byte .ensures) ∙ c .if2 .left)))
+
+returns-3 : tie.Need-returns-3
+returns-3 c = sym (followed-no-space (c .before .before .before .args .text .now) (c .before .before .before .args .i) (λ e. c .if1 .left (c .before .byte-at .ensures ∙ e)))
+
+pub is-followed-spec : {M : Type 1} → statement M
+is-followed-spec =
+    tie.close
+    (tie.spec
+    byte-at-requires
+    add-byte-at
+    byte-at-requires-2
+    is-ident-byte-requires
+    add-ident-end
+    ident-end-requires
+    byte-at-requires-3
+    ends-word-requires
+    returns
+    returns-2
+    returns-3)

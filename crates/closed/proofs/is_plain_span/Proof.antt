@@ -1,0 +1,64 @@
+use mathlib.Core.Path.{_≡_, sym, ap, _∙_}
+use mathlib.Core.Bool.{not, false}
+use lib.ListN.{take, getD}
+use lib.Dec.{eqb}
+use lib.Seq.{length-take-le}
+use Prim.Native.Nat.{ℕ}
+use Rattle.spec.specs.Bytes.{isPair}
+use Rattle.spec.specs.Lists.{any}
+use Rattle.closed.proofs.ClosedLaws.{plain-line, plain-block, plain-newline, plain-other}
+use borrow.Author.Needs.{needs}
+use Rattle.closed.proofs.is_plain_span.Statement.{statement}
+use Rattle.closed.proofs.is_plain_span.Tie as tie
+
+-- the text in front opens no line comment, and no block comment
+no-line : (c : tie.Else1) → isPair 45 45 (getD (c .before .before .before .before .before .args .rest .now) 0 0) (getD (c .before .before .before .before .before .args .rest .now) 1 0) ≡ false
+no-line c = rw (← c .before .before .before .byte-at .ensures, ← c .before .before .byte-at2 .ensures) (sym (c .before .is-pair .ensures) ∙ c .if1 .left)
+
+no-block : (c : tie.Else2) → isPair 47 42 (getD (c .before .before .before .before .before .before .before .args .rest .now) 0 0) (getD (c .before .before .before .before .before .before .before .args .rest .now) 1 0) ≡ false
+no-block c = rw (← c .before .before .before .before .before .byte-at .ensures, ← c .before .before .before .before .byte-at2 .ensures) (sym (c .before .is-pair2 .ensures) ∙ c .if2 .left)
+
+byte-at-requires : tie.Need-byte-at-requires
+byte-at-requires c κs = search needs
+
+byte-at-requires-2 : tie.Need-byte-at-requires-2
+byte-at-requires-2 c κs = search needs
+
+is-pair-requires : tie.Need-is-pair-requires
+is-pair-requires c κs = search needs
+
+returns : tie.Need-returns
+returns c = sym (plain-line (c .before .before .before .before .before .args .rest .now) (rw (← c .before .before .before .byte-at .ensures, ← c .before .before .byte-at2 .ensures) (sym (c .before .is-pair .ensures) ∙ c .if1 .taken)))
+
+is-pair-requires-2 : tie.Need-is-pair-requires-2
+is-pair-requires-2 c κs = search needs
+
+returns-2 : tie.Need-returns-2
+returns-2 c = sym (plain-block (c .before .before .before .before .before .before .before .args .rest .now) (no-line (c .before .before)) (rw (← c .before .before .before .before .before .byte-at .ensures, ← c .before .before .before .before .byte-at2 .ensures) (sym (c .before .is-pair2 .ensures) ∙ c .if2 .taken)))
+
+returns-3 : tie.Need-returns-3
+returns-3 c = sym (plain-newline (c .before .before .before .before .before .before .before .before .args .rest .now) (no-line (c .before .before .before)) (no-block (c .before)) (sym (c .before .before .before .before .before .before .byte-at .ensures) ∙ c .if3 .taken))
+
+slice-aggregate-has-byte : tie.Need-slice-aggregate-has-byte
+slice-aggregate-has-byte c = sym (length-take-le (c .before .before .before .before .before .before .before .before .before .args .n) (c .before .before .before .before .before .before .before .before .before .args .rest .now) (c .before .before .before .before .before .before .before .before .before .pre .1))
+
+has-byte-requires : tie.Need-has-byte-requires
+has-byte-requires c κs = search needs
+
+returns-4 : tie.Need-returns-4
+returns-4 c = ap not (c .has-byte .ensures ∙ ap (λ (n : ℕ). any (eqb 10) (take n (c .before .before .before .before .before .before .before .before .before .before .args .rest .now))) (c .before .before .before .before .before .before .before .before .before .before .pre .0)) ∙ sym (plain-other (c .before .before .before .before .before .before .before .before .before .before .args .rest .now) (no-line (c .before .before .before .before .before)) (no-block (c .before .before .before)) (λ e. c .before .before .if3 .left (c .before .before .before .before .before .before .before .before .byte-at .ensures ∙ e)))
+
+pub is-plain-span-spec : {M : Type 1} → statement M
+is-plain-span-spec =
+    tie.close
+    (tie.spec
+    byte-at-requires
+    byte-at-requires-2
+    is-pair-requires
+    returns
+    is-pair-requires-2
+    returns-2
+    returns-3
+    slice-aggregate-has-byte
+    has-byte-requires
+    returns-4)
