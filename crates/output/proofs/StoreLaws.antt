@@ -8,7 +8,7 @@ use native.Mathlib.Omega.{arith}
 use borrow.Author.Tests.{eq-eqb, ne-eqb}
 use lib.Dec.{eqb}
 use lib.ListN.{length, length-append, take, drop, getD, set, replicate, drop-of-length-le, length-set}
-use lib.Seq.{sets, set-out}
+use lib.Seq.{sets, set-out, sets-eq, take-append-seam}
 use Rattle.spec.proofs.AheadLaws.{drop-one}
 use Rattle.spec.proofs.Choice.{cond-case}
 use Rattle.spec.specs.Requote.{doubled, singleQuoted}
@@ -95,3 +95,7 @@ unfolding doubled
 doubled-le [] = omega arith
 doubled-le (c ∷ cs) =
     cond-case (λ (l : List ℕ). length l ≤ 2 * suc (length cs)) (eqb c 39) _ _ (λ _. omega (arith, doubled-le cs)) (λ _. omega (arith, doubled-le cs))
+
+-- a whole result that fits stands in front
+pub front-stored : (d vs : List ℕ) → length vs ≤ length d → take (length vs) (sets d 0 vs) ≡ vs
+front-stored d vs h = ap (take (length vs)) (sets-eq vs d 0 (omega arith)) ∙ take-append-seam vs _

@@ -1,0 +1,68 @@
+use Rattle.preprocessor.proofs.EndLaws.{all-lent}
+use Rattle.spec.proofs.SearchLaws.{check-only}
+use Rattle.spec.specs.declared.Check.the-variants.{Passed}
+use Rattle.spec.specs.Answers.{textLimit, areLent, bodyCheck, bodyAnswer, bodyOutput, workExit}
+use Rattle.spec.specs.Body.{bufferSize}
+use mathlib.Core.Path.{_≡_, refl, sym, ap, _∙_}
+use mathlib.Core.List.{[]}
+use borrow.Author.Needs.{needs}
+use Rattle.preprocessor.proofs.transform_body.Statement.{statement}
+use Rattle.preprocessor.proofs.transform_body.Tie as tie
+
+are-lent-requires : tie.Need-are-lent-requires
+are-lent-requires c κs = search needs
+
+slice-aggregate-check-texts : tie.Need-slice-aggregate-check-texts
+slice-aggregate-check-texts c = search needs
+
+check-texts-requires : tie.Need-check-texts-requires
+check-texts-requires c κs = search needs
+
+enum-known-check : tie.Need-enum-known-check
+enum-known-check c = search needs
+
+enum-told : tie.Need-enum-told
+enum-told c = search needs
+
+run-body-requires : tie.Need-run-body-requires
+run-body-requires c κs = let s = c .before .before .before .before .before .before .before .before .before .before .before .before .args in
+    let h = check-only 16384 (c .before .before .before .before .before .before .before .are-lent .result) (s .text .now) [] Passed (sym (c .before .before .before .before .before .check-texts .ensures) ∙ c .before .before .before .enum-told .given .1) in
+    let l = all-lent _ _ _ (sym (c .before .before .before .before .before .before .before .are-lent .ensures) ∙ h .1) in
+    (refl, (h .0, (l .0, (l .1, l .2))))
+
+same-length : tie.Need-same-length
+same-length c = search needs
+
+same-length-2 : tie.Need-same-length-2
+same-length-2 c = search needs
+
+same-length-3 : tie.Need-same-length-3
+same-length-3 c = search needs
+
+returns : tie.Need-returns
+unfolding bodyAnswer bodyOutput workExit bodyCheck areLent bufferSize textLimit
+returns c = let e = c .before .before .before .before .before .before .before .before .before .before .before .before .before .before .are-lent .ensures in
+    let p = sym (c .before .before .before .before .before .before .before .before .before .before .before .before .check-texts .ensures) ∙ c .before .before .before .before .before .before .before .before .before .before .enum-told .given .1 in
+    rw (← e, p) (c .before .before .before .before .before .before .run-body .ensures)
+
+returns-2 : tie.Need-returns-2
+unfolding bodyAnswer bodyOutput workExit bodyCheck areLent bufferSize textLimit
+returns-2 c = let e = c .before .before .before .before .before .are-lent .ensures in
+    let p = sym (c .before .before .before .check-texts .ensures) ∙ c .before .check .given .1 in
+    rw (← e, p) (refl, (refl, (refl, refl)))
+
+pub transform-body-spec : {M : Type 1} → statement M
+transform-body-spec =
+    tie.close
+    (tie.spec
+    are-lent-requires
+    slice-aggregate-check-texts
+    check-texts-requires
+    enum-known-check
+    enum-told
+    run-body-requires
+    same-length
+    same-length-2
+    same-length-3
+    returns
+    returns-2)
