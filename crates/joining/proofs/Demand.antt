@@ -33,7 +33,7 @@ pub record Taken (xs zs : List ℕ) : Type 0 where
   pub result : rewriting xs ≡ accepted zs
 
 module _ (l : Lent) (xs : List ℕ) where
-  lent : areLent (l .output) (l .workA) (l .workB) ≡ true
+  pub lent : areLent (l .output) (l .workA) (l .workB) ≡ true
   unfolding areLent
   lent =
       rw (le-leb bufferSize (length (l .output)) (l .outputFits), le-leb bufferSize (length (l .workA)) (l .workAFits))
@@ -52,7 +52,7 @@ module _ (l : Lent) (xs : List ℕ) where
   unfolding numberOf bodyAnswer
   number-refused r e = ap (λ (c : Check). callNumbers (callAnswer c (bodyResult xs .answer)) .number) e
 
-  taken-text : (zs : List ℕ) → Taken xs zs → rewritten l xs ≡ zs
+  pub taken-text : (zs : List ℕ) → Taken xs zs → rewritten l xs ≡ zs
   unfolding rewritten bodyAnswer bodyOutput bodyResult resultOf zeroedTo
   taken-text zs t = rw (passes-check (t .fits) (t .ascii), t .result) (take-append-seam zs _)
 

@@ -19,3 +19,4 @@ pub mod TameEnd
 pub mod KeepRequote
 pub mod Kept
 pub mod ListDemand
+pub mod CallDemand
