@@ -4,7 +4,8 @@ use mathlib.Core.Bool.{cond}
 use mathlib.Core.List.{List, [], _∷_}
 use lib.Dec.{ltb}
 use lib.ListN.{length}
-use Rattle.spec.specs.Answers.{SearchNumbers, searchNumbers, refusalNumber, refusalPlace, wordPart}
+use Rattle.spec.specs.Answers.{SearchNumbers, searchNumbers, refusalNumber, refusalPlace, wordPart, callNumbers}
+use Rattle.spec.specs.declared.Rewritten.{Rewritten}
 use Rattle.spec.specs.declared.Search.{Search}
 use Rattle.spec.specs.declared.Filled.{Filled}
 use Rattle.spec.specs.declared.Filled.the-variants.{Count, Refused}
@@ -23,3 +24,7 @@ fourFound s = four (searchNumbers s) 0
 abbrev pub fourFilled : Filled → List ℕ
 fourFilled (Count n) = 0 ∷ 0 ∷ 0 ∷ narrow n ∷ []
 fourFilled (Refused r) = refusalNumber r ∷ 0 ∷ narrow (refusalPlace r) ∷ 0 ∷ []
+
+-- of a call: number, place, output length, records
+abbrev pub fourCalled : Rewritten → List ℕ
+fourCalled r = callNumbers r .number ∷ narrow (callNumbers r .place) ∷ narrow (callNumbers r .length) ∷ narrow (callNumbers r .records) ∷ []

@@ -2,12 +2,13 @@
 // number, the found flag, the place, and the length of what was found or written.
 use spec::Filled;
 use spec::Refusal;
+use spec::Rewritten;
 use spec::Search;
 ghost use mathlib.Core.Path.{_≡_};
 ghost use mathlib.Core.List.{[], _∷_};
 ghost use lib.ListN.{length, getD};
-ghost use Rattle.spec.specs.Answers.{mapExit, regionsAnswer, keywordAnswer, byteAnswer, needleAnswer, wordAnswer, wordPart, searchNumbers, handlerAnswer, unterminatedAnswer, splitAnswer, splitMapExit, splitExit, requoteAnswer, requoteExit, refusalNumber, refusalPlace};
-ghost use Rattle.plpgsql_rewriter.specs.Four.{narrow, four, fourFound, fourFilled};
+ghost use Rattle.spec.specs.Answers.{mapExit, regionsAnswer, keywordAnswer, byteAnswer, needleAnswer, wordAnswer, wordPart, searchNumbers, handlerAnswer, unterminatedAnswer, splitAnswer, splitMapExit, splitExit, requoteAnswer, requoteExit, refusalNumber, refusalPlace, bodyCheck, bodyAnswer, bodyOutput, workExit};
+ghost use Rattle.plpgsql_rewriter.specs.Four.{narrow, four, fourFound, fourFilled, fourCalled};
 
 // A number in 32 bits.
 fn narrowed(n: usize) -> u32
@@ -54,6 +55,47 @@ fn put_filled(answer: &mut [u32; 4], f: Filled)
     match f {
         Filled::Count(n) => put_four(answer, 0, 0, 0, n),
         Filled::Refused(r) => put_refusal(answer, r),
+    }
+}
+
+// The four numbers of a call, in this order.
+fn put_numbers(answer: &mut [u32; 4], number: u32, place: usize, len: usize, records: usize)
+    ensures { λ _. ⌜ now (answer .exit) ≡ number ∷ narrow place ∷ narrow len ∷ narrow records ∷ [] ⌝ }
+{
+    let p = narrowed(place);
+    let l = narrowed(len);
+    let c = narrowed(records);
+    *answer = [number, p, l, c];
+}
+
+// The four numbers of a call whose checks refused the text.
+fn put_refused(answer: &mut [u32; 4], r: Refusal)
+    ensures { λ _. ⌜ now (answer .exit) ≡ refusalNumber r ∷ narrow (refusalPlace r) ∷ narrow 0 ∷ narrow 0 ∷ [] ⌝ }
+{
+    match r {
+        Refusal::TextTooLong => put_numbers(answer, 1, 0, 0, 0),
+        Refusal::BufferTooShort => put_numbers(answer, 3, 0, 0, 0),
+        Refusal::NotAscii(i) => put_numbers(answer, 2, i, 0, 0),
+    }
+}
+
+// The four numbers of a call.
+fn put_called(answer: &mut [u32; 4], r: Rewritten)
+    ensures { λ _. ⌜ now (answer .exit) ≡ fourCalled r ⌝ }
+{
+    match r {
+        Rewritten::Accepted { length, records } => put_numbers(answer, 0, 0, length, records),
+        Rewritten::Refused(f) => put_refused(answer, f),
+        Rewritten::TooManyNames => put_numbers(answer, 7, 0, 0, 0),
+        Rewritten::QualifiedTarget { qualifier, length } => put_numbers(
+            answer,
+            4,
+            qualifier,
+            length,
+            0,
+        ),
+        Rewritten::UsingClause { length } => put_numbers(answer, 5, 0, length, 0),
+        Rewritten::ResultTooLong => put_numbers(answer, 6, 0, 0, 0),
     }
 }
 
@@ -172,4 +214,21 @@ pub extern "C" fn plpgsql_has_exception_handler(text: &[u8], map: &mut [u8], ans
 {
     let s = searches::has_exception_handler(text, map);
     put_found(answer, s);
+}
+
+#[no_mangle]
+pub extern "C" fn plpgsql_transform_body(
+    text: &[u8],
+    output: &mut [u8],
+    work: &mut [u8],
+    spare: &mut [u8],
+    answer: &mut [u32; 4],
+)
+    ensures { λ _. ⌜ now (output .exit) ≡ bodyOutput (now (text .entry)) (now (output .entry)) (now (work .entry)) (now (spare .entry)) ⌝ }
+    ensures { λ _. ⌜ now (work .exit) ≡ workExit (bodyCheck (now (text .entry)) (now (output .entry)) (now (work .entry)) (now (spare .entry))) (now (work .entry)) ⌝ }
+    ensures { λ _. ⌜ now (spare .exit) ≡ workExit (bodyCheck (now (text .entry)) (now (output .entry)) (now (work .entry)) (now (spare .entry))) (now (spare .entry)) ⌝ }
+    ensures { λ _. ⌜ now (answer .exit) ≡ fourCalled (bodyAnswer (now (text .entry)) (now (output .entry)) (now (work .entry)) (now (spare .entry))) ⌝ }
+{
+    let r = preprocessor::transform_body(text, output, work, spare);
+    put_called(answer, r);
 }

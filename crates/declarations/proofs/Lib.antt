@@ -1,0 +1,4 @@
+pub mod NextLaws
+pub mod SectionLaws
+pub mod WriteLaws
+pub mod PackedLaws

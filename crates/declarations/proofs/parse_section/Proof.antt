@@ -1,0 +1,76 @@
+use native.Mathlib.Omega.{arith}
+use mathlib.Core.Path.{ap, _∙_}
+use Prim.Native.Nat.{_-_, _≤_}
+use lib.ListN.{length}
+use Rattle.spec.specs.Map.{marked}
+use Rattle.spec.specs.Declarations.{packed}
+use Rattle.spec.proofs.MapLaws.{marked-length}
+use Rattle.declarations.proofs.PackedLaws.{packed-small, count-length, kept-all, packed-all, parsed-over, parsed-count, over-holds}
+use borrow.Author.Needs.{needs}
+use Rattle.declarations.proofs.parse_section.Statement.{statement}
+use Rattle.declarations.proofs.parse_section.Tie as tie
+
+gather-requires : tie.Need-gather-requires
+gather-requires c κs = search needs
+
+same-length : tie.Need-same-length
+same-length c = search needs
+
+returns : tie.Need-returns
+returns c =
+    let a = c .before .before .before .before .before .before .before .before .before .args in
+    let t = marked (a .text .now) (a .map .now) in
+    (parsed-over (a .text .now) t _ _ (c .before .before .before .gather .ensures .0) (c .if1 .taken), over-holds (a .text .now) t _ (a .records .now) (a .declared .now) _ (c .before .before .before .gather .ensures .0) (c .if1 .taken) (c .before .before .before .gather .ensures .1))
+
+link-requires : tie.Need-link-requires
+link-requires c κs = search needs
+
+slice-read-head : tie.Need-slice-read-head
+slice-read-head c = search needs
+
+put-numbers-requires : tie.Need-put-numbers-requires
+put-numbers-requires c κs = search needs
+
+write-records-requires : tie.Need-write-records-requires
+write-records-requires c κs =
+    let a = c .before .before .before .before .before .before .before .before .before .before .before .before .before .before .before .before .before .before .before .before .args in
+    let t = marked (a .text .now) (a .map .now) in
+    let low : c .before .before .before .before .before .before .before .before .before .before .before .before .before .before .gather .result ≤ 512 = omega arith in
+    let k = kept-all (a .text .now) t (c .before .before .before .before .before .before .before .before .before .before .before .before .before .before .gather .result) low _ _ (c .before .before .before .before .before .before .before .before .before .before .before .before .before .before .gather .ensures .0) (c .before .before .before .before .before .before .before .before .before .link .ensures) _ (c .before .before .before .before .put-numbers .ensures) in
+    (low, (omega arith, (omega (arith, c .before .before .before .before .put-numbers .kept .0, c .before .before .before .before .before .before .before .before .before .link .kept .1 .0, c .before .before .before .before .before .before .before .before .before .before .before .before .before .before .gather .kept .1 .1 .0, c .before .before .before .before .before .before .before .before .before .before .before .before .before .before .before .before .before .before .before .before .pre .1 .1 .1), omega (arith, ap (λ ds. length (packed ds)) k, packed-small t, marked-length (a .text .now) (a .map .now), c .before .before .before .before .before .before .before .before .before .before .before .before .before .before .before .before .before .before .before .before .pre .0))))
+
+same-length-2 : tie.Need-same-length-2
+same-length-2 c = search needs
+
+same-length-3 : tie.Need-same-length-3
+same-length-3 c = search needs
+
+returns-2 : tie.Need-returns-2
+returns-2 c =
+    let a = c .before .before .before .before .before .before .before .before .before .before .before .before .before .before .before .before .before .before .before .before .before .before .before .before .before .args in
+    let t = marked (a .text .now) (a .map .now) in
+    let n = c .before .before .before .before .before .before .before .before .before .before .before .before .before .before .before .before .before .before .before .gather .result in
+    let low : n ≤ 512 = omega (arith, c .before .before .before .before .before .before .before .before .before .before .before .before .before .before .before .before .if1 .left) in
+    let g = c .before .before .before .before .before .before .before .before .before .before .before .before .before .before .before .before .before .before .before .gather .ensures .0 in
+    let l = c .before .before .before .before .before .before .before .before .before .before .before .before .before .before .link .ensures in
+    let e = c .before .before .before .before .before .before .before .before .before .put-numbers .ensures in
+    let w = c .before .before .before .before .write-records in
+    let k = kept-all (a .text .now) t n low _ _ g l _ e in (
+      parsed-count _ n _ (count-length (a .text .now) t n low _ _ g l) (w .ensures .0 ∙ ap (λ ds. length (packed ds)) k) low,
+      packed-all (a .text .now) t n low _ _ g l _ e (a .records .now) (a .declared .now) _ _ (c .before .before .before .before .before .before .before .before .before .before .before .before .before .before .before .before .before .before .before .gather .ensures .1) (omega (arith, marked-length (a .text .now) (a .map .now), c .before .before .before .before .before .before .before .before .before .before .before .before .before .before .before .before .before .before .before .before .before .before .before .before .before .pre .0)) (c .before .before .before .before .before .before .before .before .before .before .before .before .before .before .before .before .before .before .before .before .before .before .before .before .before .pre .1 .1 .0) (omega (arith, c .before .before .before .before .before .before .before .before .before .before .before .before .before .before .link .kept .1 .0, c .before .before .before .before .before .before .before .before .before .before .before .before .before .before .before .before .before .before .before .gather .kept .1 .1 .0, c .before .before .before .before .before .before .before .before .before .before .before .before .before .before .before .before .before .before .before .before .before .before .before .before .before .pre .1 .1 .1)) (w .ensures .1 .0) (w .ensures .1 .1),
+    )
+
+pub parse-section-spec : {M : Type 1} → statement M
+parse-section-spec =
+    tie.close
+    (tie.spec
+    gather-requires
+    same-length
+    returns
+    link-requires
+    slice-read-head
+    put-numbers-requires
+    write-records-requires
+    same-length-2
+    same-length-3
+    returns-2)

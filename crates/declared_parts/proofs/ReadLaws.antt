@@ -1,0 +1,174 @@
+-- What a part declares, by the places that are read in its text. Assumes nothing.
+use mathlib.Core.Path.{_≡_, refl, sym, ap, _∙_}
+use mathlib.Core.Bool.{Bool, true, false, cond, _&&_}
+use mathlib.Core.List.{List, [], _∷_, map}
+use mathlib.Core.Option.{Option, none, some}
+use Prim.Native.Nat.{ℕ, zero, suc, _+_, _-_, _≤_}
+use native.Mathlib.Omega.{arith}
+use lib.Dec.{eqb, eqb·suc-zero}
+use lib.ListN.{length, take, drop, length-map}
+use lib.Seq.{take-all}
+use Rattle.spec.proofs.Choice.{by}
+use Rattle.spec.proofs.MapLaws.{marked-length}
+use Rattle.spec.proofs.WalkLaws.{map-take, marked-drop, bytes-drop, while-take}
+use Rattle.spec.specs.Bytes.{ascii, isW}
+use Rattle.spec.specs.Lists.{isEmpty, takeWhile, dropWhile, dropEnd}
+use Rattle.spec.specs.Map.{Marked, byte, bytes, mark, marked, live, ofByte}
+use Rattle.spec.specs.Search.{first, keywordHere}
+use Rattle.spec.specs.Assignments.{trim, trimEnd}
+use Rattle.spec.specs.Declarations.{requotedDefault, words, declaredOf, partAt, declaration}
+use Rattle.spec.specs.declared.Found.{Found}
+use Rattle.spec.specs.declared.Found.the-variants.{At, Nothing}
+use Rattle.declared_parts.specs.Parts.{between, notW, walrusHere, cutOf, cutIn, defaultBy, declaredBy, partNumbers, readOf}
+use Rattle.declared_parts.specs.declared.Cut.{Cut}
+use Rattle.declared_parts.specs.declared.Part.{Part}
+use Rattle.declared_parts.proofs.BetweenLaws.{frontEnd, endLen, between-length, drop-between, take-between, behind-front, ahead-of-end}
+use Rattle.declared_parts.proofs.WordsLaws.{space, inWord, declared-words}
+
+-- ---- a marked text and its bytes
+
+-- a part of both is a part of the text beside its map
+marked-take : (n : ℕ) (xs ms : List ℕ) → marked (take n xs) (take n ms) ≡ take n (marked xs ms)
+unfolding marked
+marked-take zero xs ms = refl
+marked-take (suc n) [] ms = refl
+marked-take (suc n) (c ∷ cs) [] = ap (λ (t : List Marked). live c ∷ t) (none n cs)
+  where
+    none : (n : ℕ) (cs : List ℕ) → marked (take n cs) [] ≡ take n (marked cs [])
+    none zero cs = refl
+    none (suc n) [] = refl
+    none (suc n) (c ∷ cs) = ap (λ (t : List Marked). live c ∷ t) (none n cs)
+marked-take (suc n) (c ∷ cs) (m ∷ ms) = ap (λ (t : List Marked). mark m c ∷ t) (marked-take n cs ms)
+
+pub marked-between : (xs ms : List ℕ) (a b : ℕ) → marked (between a b xs) (between a b ms) ≡ between a b (marked xs ms)
+marked-between xs ms a b = marked-take (b - a) (drop a xs) (drop a ms) ∙ ap (take (b - a)) (sym (marked-drop a xs ms))
+
+pub bytes-between : (xs ms : List ℕ) (a b : ℕ) → bytes (between a b (marked xs ms)) ≡ between a b xs
+unfolding bytes
+bytes-between xs ms a b = map-take byte (b - a) (drop a (marked xs ms)) ∙ ap (take (b - a)) (bytes-drop xs ms a)
+
+-- the front and the end are as long as those of the bytes
+front-bytes : (f : ℕ → Bool) (t : List Marked) → length (takeWhile (ofByte f) t) ≡ length (takeWhile f (bytes t))
+unfolding takeWhile bytes ofByte
+front-bytes f [] = refl
+front-bytes f (x ∷ t) = by (f (byte x)) (λ e. rw e (ap suc (front-bytes f t))) (λ e. rw e refl)
+
+end-bytes : (f : ℕ → Bool) (t : List Marked) → bytes (dropEnd (ofByte f) t) ≡ dropEnd f (bytes t)
+unfolding dropEnd bytes ofByte isEmpty
+end-bytes f [] = refl
+end-bytes f (x ∷ t) =
+    rw (← end-bytes f t) (both (f (byte x)) (dropEnd (ofByte f) t))
+  where
+    both : (b : Bool) (u : List Marked) → map byte (cond (b && isEmpty u) [] (x ∷ u)) ≡ cond (b && isEmpty (map byte u)) [] (byte x ∷ map byte u)
+    both true [] = refl
+    both true (y ∷ u) = refl
+    both false u = refl
+
+end-length : (f : ℕ → Bool) (t : List Marked) → length (dropEnd (ofByte f) t) ≡ length (dropEnd f (bytes t))
+unfolding bytes
+end-length f t = sym (length-map (dropEnd (ofByte f) t) byte) ∙ ap length (end-bytes f t)
+
+module _ (xs ms : List ℕ) (a b : ℕ) where
+  abbrev t : List Marked
+  t = marked xs ms
+
+  front-same : (f : ℕ → Bool) → frontEnd (ofByte f) t a b ≡ frontEnd f xs a b
+  front-same f = ap (λ n. a + n) (front-bytes f (between a b t) ∙ ap (λ l. length (takeWhile f l)) (bytes-between xs ms a b))
+
+  end-same : (f : ℕ → Bool) → endLen (ofByte f) t a b ≡ endLen f xs a b
+  end-same f = end-length f (between a b t) ∙ ap (λ l. length (dropEnd f l)) (bytes-between xs ms a b)
+
+  -- behind the front, ahead of the end, trimmed
+  skipped : (f : ℕ → Bool) → dropWhile (ofByte f) (between a b t) ≡ between (frontEnd f xs a b) b t
+  skipped f = behind-front (ofByte f) t a b ∙ ap (λ n. between n b t) (front-same f)
+
+  ended : (f : ℕ → Bool) → a + endLen f xs a b ≤ b → dropEnd (ofByte f) (between a b t) ≡ between a (a + endLen f xs a b) t
+  ended f h =
+      let k = end-same f in
+      ahead-of-end (ofByte f) t a b (omega arith) ∙ ap (λ n. between a (a + n) t) k
+
+  -- the front itself
+  front-text : (f : ℕ → Bool) (e : ℕ) → e ≡ frontEnd f xs a b → e ≤ b → bytes (takeWhile (ofByte f) (between a b t)) ≡ take (e - a) (drop a xs)
+  front-text f e p h =
+      let n = length (takeWhile (ofByte f) (between a b t)) in
+      let s : a + n ≡ e = front-same f ∙ sym p in
+      ap bytes (while-take (ofByte f) (between a b t) ∙ (take-between t a b n (omega arith) ∙ ap (λ k. between a k t) s))
+      ∙ bytes-between xs ms a e
+
+trimmed : (xs ms : List ℕ) (a b s e : ℕ) → s ≡ frontEnd isW xs a b → e ≡ s + endLen isW xs s b → e ≤ b
+    → trim (between a b (marked xs ms)) ≡ between s e (marked xs ms)
+unfolding trim trimEnd
+trimmed xs ms a b s e p q h =
+    ap (dropEnd space) (skipped xs ms a b isW ∙ ap (λ n. between n b (marked xs ms)) (sym p))
+    ∙ (ended xs ms s b isW (omega arith) ∙ ap (λ n. between s n (marked xs ms)) (sym q))
+
+-- ---- one part
+
+-- a default, if the flag is not 0
+abbrev pub valueOf : ℕ → List ℕ → Option (List ℕ)
+valueOf p ys = cond (eqb p 0) none (some (requotedDefault ys))
+
+cut-part : (f g : Found) (t : List Marked)
+    → partAt f 2 g 7 t ≡ declaredOf (words (take (cutOf f g (length t) .head) t)) (valueOf (cutOf f g (length t) .present) (bytes (trim (drop (cutOf f g (length t) .rest) t))))
+unfolding partAt
+cut-part (At i) g t = refl
+cut-part Nothing (At i) t = refl
+cut-part Nothing Nothing t = rw (take-all (length t) t (omega arith)) refl
+
+pub cut-declaration : (part t : List Marked) (c : Cut) → trim part ≡ t → c ≡ cutIn t
+    → declaration part ≡ declaredOf (words (take (c .head) t)) (valueOf (c .present) (bytes (trim (drop (c .rest) t))))
+unfolding declaration cutIn
+cut-declaration part t c e k = rw (e, k) (cut-part (first walrusHere 0 t) (first (keywordHere (ascii "DEFAULT")) 0 t) t)
+
+empty-length : (u : List Marked) → isEmpty u ≡ eqb (length u) 0
+unfolding isEmpty
+empty-length [] = refl
+empty-length (x ∷ u) = sym (eqb·suc-zero (length u))
+
+-- the places that are read, each by the one before
+pub record Places (xs : List ℕ) (from to start end : ℕ) (c : Cut) (p : Part) : Type 0 where
+  pub starts : start ≡ frontEnd isW xs from to
+  pub ends : end ≡ start + endLen isW xs start to
+  pub inside : end ≤ to
+  pub within : to ≤ length xs
+  pub ordered : start + c .head ≤ end
+  pub name : p .name ≡ frontEnd isW xs start (start + c .head)
+  pub nameEnd : p .name + p .«name_len» ≡ frontEnd notW xs (p .name) (start + c .head)
+  pub kind : p .kind ≡ frontEnd isW xs (p .name + p .«name_len») (start + c .head)
+  pub kindEnd : p .kind + p .«kind_len» ≡ start + c .head
+  pub present : p .present ≡ c .present
+  pub value : p .value ≡ frontEnd isW xs (start + c .rest) end
+  pub valueEnd : p .value + p .«value_len» ≡ p .value + endLen isW xs (p .value) end
+  pub valueInside : p .value + p .«value_len» ≤ end
+
+-- what a part declares
+pub part-read : (xs ms : List ℕ) (from to start end : ℕ) (c : Cut) (p : Part) → Places xs from to start end c p
+    → c ≡ cutIn (marked (between start end xs) (between start end ms))
+    → declaration (between from to (marked xs ms)) ≡ readOf xs p
+unfolding readOf declaredBy defaultBy partNumbers
+part-read xs ms from to start end c p l k =
+    let m = marked xs ms in
+    let t = between start end m in
+    let head = start + c .head in
+    let nameEnd = p .name + p .«name_len» in
+    let i₁ : head - p .kind ≡ p .«kind_len» = omega (arith, l .kindEnd) in
+    let i₂ : nameEnd - p .name ≡ p .«name_len» = omega arith in
+    let i₃ : p .value + p .«value_len» - p .value ≡ p .«value_len» = omega arith in
+    let h : take (c .head) t ≡ between start head m = take-between m start end (c .head) (l .ordered) in
+    let v : between (p .name) head m ≡ dropWhile space (between start head m) = rw (l .name) (sym (skipped xs ms start head isW)) in
+    let r : between nameEnd head m ≡ dropWhile inWord (between (p .name) head m) = rw (l .nameEnd) (sym (skipped xs ms (p .name) head notW)) in
+    let d : between (p .kind) head m ≡ dropWhile space (between nameEnd head m) = rw (l .kind) (sym (skipped xs ms nameEnd head isW)) in
+    let e : isEmpty (between (p .kind) head m) ≡ eqb (p .«kind_len») 0 =
+    empty-length (between (p .kind) head m) ∙ ap (λ n. eqb n 0) (between-length m (p .kind) head (omega (arith, l .kindEnd)) (omega (arith, l .within, l .inside, l .ordered, marked-length xs ms)) ∙ i₁) in
+    let n : bytes (takeWhile inWord (between (p .name) head m)) ≡ take (p .«name_len») (drop (p .name) xs) =
+    front-text xs ms (p .name) head notW nameEnd (l .nameEnd) (omega (arith, l .kindEnd, l .kind)) ∙ ap (λ i. take i (drop (p .name) xs)) i₂ in
+    let y : bytes (between (p .kind) head m) ≡ take (p .«kind_len») (drop (p .kind) xs) =
+    bytes-between xs ms (p .kind) head ∙ ap (λ i. take i (drop (p .kind) xs)) i₁ in
+    let z : bytes (trim (drop (c .rest) t)) ≡ take (p .«value_len») (drop (p .value) xs) =
+    ap (λ u. bytes (trim u)) (drop-between m start end (c .rest))
+    ∙ (ap bytes (trimmed xs ms (start + c .rest) end (p .value) (p .value + p .«value_len») (l .value) (l .valueEnd) (l .valueInside))
+    ∙ (bytes-between xs ms (p .value) (p .value + p .«value_len») ∙ ap (λ i. take i (drop (p .value) xs)) i₃)) in
+    cut-declaration (between from to m) t c (trimmed xs ms from to start end (l .starts) (l .ends) (l .inside)) (k ∙ ap cutIn (marked-between xs ms start end))
+    ∙ (ap (λ u. declaredOf (words u) (valueOf (c .present) (bytes (trim (drop (c .rest) t))))) h
+    ∙ (declared-words (valueOf (c .present) (bytes (trim (drop (c .rest) t)))) (between start head m) (between (p .name) head m) (between nameEnd head m) (between (p .kind) head m) v r d
+    ∙ rw (e, n, y, z, sym (l .present)) refl))

@@ -1,0 +1,239 @@
+-- What stands ahead of a default, split on W: its words by the fronts of the text. Assumes nothing.
+use mathlib.Core.Path.{_≡_, refl, sym, ap, _∙_}
+use mathlib.Core.Bool.{Bool, true, false, cond, not}
+use mathlib.Core.List.{List, [], _∷_, _++_}
+use mathlib.Core.Option.{Option, none, some}
+use Prim.Native.Nat.{ℕ}
+use lib.ListN.{drop}
+use Rattle.spec.proofs.Choice.{by}
+use Rattle.spec.specs.Bytes.{isW}
+use Rattle.spec.specs.Lists.{isEmpty, takeWhile, dropWhile, keep}
+use Rattle.spec.specs.Map.{Marked, byte, bytes, frontByte, ofByte}
+use Rattle.spec.specs.Search.{Test, ontoFirst, piecesFrom, pieces}
+use Rattle.spec.specs.Declarations.{Declared, words, joinWords, declaredOf}
+use Rattle.declared_parts.specs.Parts.{notW, spaced}
+
+-- the tests on marked bytes
+abbrev pub space : Marked → Bool
+space x = ofByte isW x
+
+abbrev pub inWord : Marked → Bool
+inWord x = ofByte notW x
+
+abbrev cutHere : Test
+cutHere back u = isW (frontByte u)
+
+abbrev full : List Marked → Bool
+full p = not (isEmpty p)
+
+abbrev cuts : List Marked → List Marked → List (List Marked)
+cuts back t = piecesFrom cutHere back t
+
+-- the bytes before a place do not matter
+any-back : (b c t : List Marked) → cuts b t ≡ cuts c t
+unfolding piecesFrom
+any-back b c [] = refl
+any-back b c (x ∷ t) = rw (any-back (x ∷ b) (x ∷ c) t) refl
+
+cuts-w : (b : List Marked) (x : Marked) (t : List Marked) → isW (byte x) ≡ true → cuts b (x ∷ t) ≡ [] ∷ cuts b t
+unfolding piecesFrom frontByte
+cuts-w b x t e = rw (e, any-back (x ∷ b) b t) refl
+
+cuts-byte : (b : List Marked) (x : Marked) (t : List Marked) → isW (byte x) ≡ false → cuts b (x ∷ t) ≡ ontoFirst x (cuts b t)
+unfolding piecesFrom frontByte
+cuts-byte b x t e = rw (e, any-back (x ∷ b) b t) refl
+
+while-w : (x : Marked) (t : List Marked) → isW (byte x) ≡ true → takeWhile inWord (x ∷ t) ≡ []
+unfolding takeWhile ofByte notW
+while-w x t e = rw e refl
+
+while-byte : (x : Marked) (t : List Marked) → isW (byte x) ≡ false → takeWhile inWord (x ∷ t) ≡ x ∷ takeWhile inWord t
+unfolding takeWhile ofByte notW
+while-byte x t e = rw e refl
+
+behind-w : (x : Marked) (t : List Marked) → isW (byte x) ≡ true → dropWhile inWord (x ∷ t) ≡ x ∷ t
+unfolding dropWhile ofByte notW
+behind-w x t e = rw e refl
+
+behind-byte : (x : Marked) (t : List Marked) → isW (byte x) ≡ false → dropWhile inWord (x ∷ t) ≡ dropWhile inWord t
+unfolding dropWhile ofByte notW
+behind-byte x t e = rw e refl
+
+skip-w : (x : Marked) (t : List Marked) → isW (byte x) ≡ true → dropWhile space (x ∷ t) ≡ dropWhile space t
+unfolding dropWhile ofByte
+skip-w x t e = rw e refl
+
+skip-byte : (x : Marked) (t : List Marked) → isW (byte x) ≡ false → dropWhile space (x ∷ t) ≡ x ∷ t
+unfolding dropWhile ofByte
+skip-byte x t e = rw e refl
+
+first-none : cuts [] [] ≡ takeWhile inWord [] ∷ drop 1 (cuts [] [])
+unfolding piecesFrom takeWhile
+first-none = refl
+
+-- the first piece is the front without W
+first-piece : (t : List Marked) → cuts [] t ≡ takeWhile inWord t ∷ drop 1 (cuts [] t)
+unfolding ontoFirst
+first-piece [] = first-none
+first-piece (x ∷ t) =
+    by (isW (byte x))
+    (λ e. rw (cuts-w [] x t e, while-w x t e) refl)
+    (λ e. rw (cuts-byte [] x t e, while-byte x t e, first-piece t) refl)
+
+pub words-w : (x : Marked) (t : List Marked) → isW (byte x) ≡ true → words (x ∷ t) ≡ words t
+unfolding words pieces keep isEmpty
+words-w x t e = rw (cuts-w [] x t e) refl
+
+later-none : keep full (drop 1 (cuts [] [])) ≡ words (dropWhile inWord [])
+unfolding piecesFrom dropWhile words pieces keep isEmpty
+later-none = refl
+
+words-cuts : (t : List Marked) → keep full (cuts [] t) ≡ words t
+unfolding words pieces
+words-cuts t = refl
+
+-- the other pieces are those behind it
+later : (t : List Marked) → keep full (drop 1 (cuts [] t)) ≡ words (dropWhile inWord t)
+unfolding ontoFirst
+later [] = later-none
+later (x ∷ t) =
+    by (isW (byte x))
+    (λ e. rw (cuts-w [] x t e, behind-w x t e, words-w x t e) (words-cuts t))
+    (λ e. rw (cuts-byte [] x t e, behind-byte x t e, first-piece t) (later t))
+
+keep-some : (x : Marked) (u : List Marked) (l : List (List Marked)) → keep full ((x ∷ u) ∷ l) ≡ (x ∷ u) ∷ keep full l
+unfolding keep isEmpty
+keep-some x u l = refl
+
+words-byte : (x : Marked) (t : List Marked) → isW (byte x) ≡ false → words (x ∷ t) ≡ takeWhile inWord (x ∷ t) ∷ words (dropWhile inWord (x ∷ t))
+words-byte x t e =
+    sym (words-cuts (x ∷ t))
+    ∙ (ap (keep full) (first-piece (x ∷ t))
+    ∙ (rw (while-byte x t e) (keep-some x (takeWhile inWord t) (drop 1 (cuts [] (x ∷ t)))
+    ∙ ap (λ l. (x ∷ takeWhile inWord t) ∷ l) (later (x ∷ t)))))
+
+words-none : words [] ≡ cond (isEmpty (dropWhile space [])) [] (takeWhile inWord (dropWhile space []) ∷ words (dropWhile inWord (dropWhile space [])))
+unfolding words pieces piecesFrom keep isEmpty dropWhile
+words-none = refl
+
+some-front : (x : Marked) (t : List Marked) (l : List (List Marked)) → l ≡ cond (isEmpty (x ∷ t)) [] l
+unfolding isEmpty
+some-front x t l = refl
+
+-- behind W at the front, a word and the words behind it
+pub words-front : (t : List Marked)
+    → words t ≡ cond (isEmpty (dropWhile space t)) [] (takeWhile inWord (dropWhile space t) ∷ words (dropWhile inWord (dropWhile space t)))
+words-front [] = words-none
+words-front (x ∷ t) =
+    by (isW (byte x))
+    (λ e. rw (skip-w x t e, words-w x t e) (words-front t))
+    (λ e. rw (skip-byte x t e) (words-byte x t e ∙ some-front x t (takeWhile inWord (x ∷ t) ∷ words (dropWhile inWord (x ∷ t)))))
+
+-- a space and the words, if there are any
+abbrev more : List (List Marked) → List ℕ
+more [] = []
+more (w ∷ ws) = 32 ∷ joinWords (w ∷ ws)
+
+join-more : (w : List Marked) (ws : List (List Marked)) → joinWords (w ∷ ws) ≡ bytes w ++ more ws
+unfolding joinWords
+join-more w [] = sym (end (bytes w))
+  where
+    end : (l : List ℕ) → l ++ [] ≡ l
+    end [] = refl
+    end (a ∷ l) = ap (λ m. a ∷ m) (end l)
+join-more w (v ∷ ws) = refl
+
+spaced-w : (g : Bool) (x : Marked) (t : List Marked) → isW (byte x) ≡ true → spaced g (bytes (x ∷ t)) ≡ spaced true (bytes t)
+unfolding spaced bytes
+spaced-w g x t e = rw e refl
+
+spaced-gap : (x : Marked) (t : List Marked) → isW (byte x) ≡ false → spaced true (bytes (x ∷ t)) ≡ 32 ∷ byte x ∷ spaced false (bytes t)
+unfolding spaced bytes
+spaced-gap x t e = rw e refl
+
+spaced-byte : (x : Marked) (t : List Marked) → isW (byte x) ≡ false → spaced false (bytes (x ∷ t)) ≡ byte x ∷ spaced false (bytes t)
+unfolding spaced bytes
+spaced-byte x t e = rw e refl
+
+-- both states of the walk: in a word, and behind W
+record Spaced (t : List Marked) : Type 0 where
+  inside : bytes (takeWhile inWord t) ++ more (words (dropWhile inWord t)) ≡ spaced false (bytes t)
+  behind : more (words t) ≡ spaced true (bytes t)
+
+inside-none : bytes (takeWhile inWord []) ++ more (words (dropWhile inWord [])) ≡ spaced false (bytes [])
+unfolding bytes takeWhile dropWhile words pieces piecesFrom keep isEmpty spaced
+inside-none = refl
+
+behind-none : more (words []) ≡ spaced true (bytes [])
+unfolding bytes words pieces piecesFrom keep isEmpty spaced
+behind-none = refl
+
+bytes-none : (l : List ℕ) → bytes [] ++ l ≡ l
+unfolding bytes
+bytes-none l = refl
+
+bytes-one : (x : Marked) (u : List Marked) (l : List ℕ) → bytes (x ∷ u) ++ l ≡ byte x ∷ (bytes u ++ l)
+unfolding bytes
+bytes-one x u l = refl
+
+walk : (t : List Marked) → Spaced t
+walk [] = record { inside = inside-none; behind = behind-none }
+walk (x ∷ t) =
+    by (isW (byte x))
+    (λ e.
+    record {
+      inside = rw (while-w x t e, behind-w x t e, words-w x t e, spaced-w false x t e) (bytes-none (more (words t)) ∙ walk t .behind);
+      behind = rw (words-w x t e, spaced-w true x t e) (walk t .behind);
+    })
+    (λ e.
+    let i : bytes (takeWhile inWord (x ∷ t)) ++ more (words (dropWhile inWord (x ∷ t))) ≡ byte x ∷ spaced false (bytes t) =
+    rw (while-byte x t e, behind-byte x t e) (bytes-one x (takeWhile inWord t) (more (words (dropWhile inWord t))) ∙ ap (λ l. byte x ∷ l) (walk t .inside)) in
+    record {
+      inside = i ∙ sym (spaced-byte x t e);
+      behind = rw (words-byte x t e, join-more (takeWhile inWord (x ∷ t)) (words (dropWhile inWord (x ∷ t))), i) (sym (spaced-gap x t e));
+    })
+
+none-behind : (f : Marked → Bool) → dropWhile f [] ≡ []
+unfolding dropWhile
+none-behind f = refl
+
+no-words : (o : Option (List ℕ)) → declaredOf [] o ≡ none
+unfolding declaredOf
+no-words o = refl
+
+one-word : (n : List Marked) (o : Option (List ℕ)) → declaredOf (n ∷ []) o ≡ none
+unfolding declaredOf
+one-word n o = refl
+
+two-words : (n w : List Marked) (ws : List (List Marked)) (o : Option (List ℕ))
+    → declaredOf (n ∷ w ∷ ws) o ≡ some record { name = bytes n; type = joinWords (w ∷ ws); default = o }
+unfolding declaredOf
+two-words n w ws o = refl
+
+module _ (o : Option (List ℕ)) where
+  -- what is declared by the name's text v and the type's text k
+  abbrev result : List Marked → List Marked → Option Declared
+  result v k = cond (isEmpty k) none (some record { name = bytes (takeWhile inWord v); type = spaced false (bytes k); default = o })
+
+  typed : (v r k : List Marked) → k ≡ dropWhile space r → declaredOf (takeWhile inWord v ∷ words r) o ≡ result v k
+  unfolding isEmpty
+  typed v r [] s =
+      let e : words r ≡ [] = words-front r ∙ rw (sym s) refl in
+      rw e (one-word (takeWhile inWord v) o)
+  typed v r (x ∷ k) s =
+      let e : words r ≡ takeWhile inWord (x ∷ k) ∷ words (dropWhile inWord (x ∷ k)) = words-front r ∙ rw (sym s) refl in
+      rw e
+      (two-words (takeWhile inWord v) (takeWhile inWord (x ∷ k)) (words (dropWhile inWord (x ∷ k))) o
+      ∙ rw (join-more (takeWhile inWord (x ∷ k)) (words (dropWhile inWord (x ∷ k))), walk (x ∷ k) .inside) refl)
+
+  -- name, then type, by the fronts of the text
+  pub declared-words : (t v r k : List Marked) → v ≡ dropWhile space t → r ≡ dropWhile inWord v → k ≡ dropWhile space r
+      → declaredOf (words t) o ≡ cond (isEmpty k) none (some record { name = bytes (takeWhile inWord v); type = spaced false (bytes k); default = o })
+  unfolding isEmpty
+  declared-words t [] r k p q s =
+      let e : words t ≡ [] = words-front t ∙ rw (sym p) refl in
+      let d : k ≡ [] = s ∙ (ap (dropWhile space) (q ∙ none-behind inWord) ∙ none-behind space) in
+      rw (e, d) (no-words o)
+  declared-words t (x ∷ v) r k p q s =
+      let e : words t ≡ takeWhile inWord (x ∷ v) ∷ words (dropWhile inWord (x ∷ v)) = words-front t ∙ rw (sym p) refl in
+      rw (e, sym q) (typed (x ∷ v) r k s)

@@ -1,0 +1,89 @@
+-- One part of the declarations by places in its text. Assumes nothing.
+use mathlib.Core.Path.{_≡_}
+use Prim.Native.Nat.{ℕ, _+_, _-_, _≤_}
+use mathlib.Core.Bool.{Bool, true, false, cond, not, _&&_}
+use mathlib.Core.List.{List, [], _∷_}
+use mathlib.Core.Option.{Option, none, some}
+use lib.Dec.{eqb, leb}
+use lib.ListN.{length, getD, take, drop}
+use Rattle.spec.specs.Bytes.{ascii, isW, isPrefix, isSame}
+use Rattle.spec.specs.Map.{Marked, marked}
+use Rattle.spec.specs.Search.{Test, first, keywordHere, starts}
+use Rattle.spec.specs.Declarations.{Declared, requotedDefault}
+use Rattle.spec.specs.declared.Found.{Found}
+use Rattle.spec.specs.declared.Found.the-variants.{At, Nothing}
+use Rattle.declared_parts.specs.declared.Cut.{Cut}
+use Rattle.declared_parts.specs.declared.Part.{Part}
+
+-- what stands from a up to b
+abbrev pub between {ℓ} : {A : Type ℓ} → ℕ → ℕ → List A → List A
+between a b xs = take (b - a) (drop a xs)
+
+unfoldable pub notW : ℕ → Bool
+notW b = not (isW b)
+
+-- `:=` stands here, live or not
+abbrev pub walrusHere : Test
+walrusHere back u = starts (ascii ":=") u
+
+-- r is the first place of `:=` in xs; the map does not matter
+abbrev pub WalrusAt : List ℕ → Found → Type 0
+WalrusAt xs r = (ms : List ℕ) → r ≡ first walrusHere 0 (marked xs ms)
+
+-- the words of a text that does not start with W, joined by single spaces; g: W stood before
+unfoldable pub spaced : Bool → List ℕ → List ℕ
+spaced g [] = []
+spaced g (c ∷ cs) =
+    let gap = spaced true cs in
+    let here = c ∷ spaced false cs in
+    let after : List ℕ = 32 ∷ here in
+    let plain = cond g after here in
+    cond (isW c) gap plain
+
+-- the default by the first `:=` and by the first DEFAULT, in a text of n bytes
+abbrev pub cutOf : Found → Found → ℕ → Cut
+cutOf (At i) f n = record { head = i; rest = i + 2; present = 1 }
+cutOf Nothing (At i) n = record { head = i; rest = i + 7; present = 1 }
+cutOf Nothing Nothing n = record { head = n; rest = n; present = 0 }
+
+unfoldable pub cutIn : List Marked → Cut
+cutIn t = cutOf (first walrusHere 0 t) (first (keywordHere (ascii "DEFAULT")) 0 t) (length t)
+
+-- eight numbers as of a record, but the places are those of the name, the type's words and the default in the text xs
+unfoldable pub defaultBy : List ℕ → List ℕ → Option (List ℕ)
+defaultBy xs ns =
+    let text = some (requotedDefault (take (getD ns 7 0) (drop (getD ns 6 0) xs))) in
+    cond (eqb (getD ns 5 0) 0) none text
+
+unfoldable pub declaredBy : List ℕ → List ℕ → Declared
+declaredBy xs ns =
+    record {
+      name = take (getD ns 2 0) (drop (getD ns 1 0) xs);
+      type = spaced false (take (getD ns 4 0) (drop (getD ns 3 0) xs));
+      default = defaultBy xs ns;
+    }
+
+unfoldable pub partNumbers : Part → List ℕ
+partNumbers p =
+    0 ∷ p .name ∷ p .«name_len» ∷ p .kind ∷ p .«kind_len» ∷ p .present ∷ p .value ∷ p .«value_len» ∷ []
+
+-- what a part declares; without a type it declares nothing
+unfoldable pub readOf : List ℕ → Part → Option Declared
+readOf xs p = cond (eqb (p .«kind_len») 0) none (some (declaredBy xs (partNumbers p)))
+
+-- all its numbers are at most n
+pub record Within (n : ℕ) (p : Part) : Type 0 where
+  pub name : p .name ≤ n
+  pub nameLen : p .«name_len» ≤ n
+  pub kind : p .kind ≤ n
+  pub kindLen : p .«kind_len» ≤ n
+  pub present : p .present ≤ 1
+  pub value : p .value ≤ n
+  pub valueLen : p .«value_len» ≤ n
+
+-- the text xs is wholly d, an inside, d
+unfoldable pub isWhole : List ℕ → List ℕ → Bool
+isWhole d xs =
+    let rest = drop (length d) xs in
+    let n = length rest - length d in
+    isPrefix d xs && (leb (length d) (length rest) && isSame (drop n rest) d)

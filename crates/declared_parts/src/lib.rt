@@ -1,0 +1,302 @@
+// One part of the declarations: where its name, its type's words and its default stand, and how they are written.
+use classes::is_ident_byte;
+use classes::is_w;
+use classes::starts_with;
+use output::put;
+use output::put_all;
+use output::put_single_quoted;
+use scanner::find_keyword_in;
+use spec::Found;
+ghost use mathlib.Core.Path.{_≡_};
+ghost use mathlib.Core.Bool.{false};
+ghost use Prim.Native.Nat.{_+_, _*_, _^_, _≤_, _<_};
+ghost use lib.ListN.{length, take, drop};
+ghost use lib.Seq.{sets};
+ghost use Rattle.spec.specs.Bytes.{isIdent, isW, isSame, isBefore};
+ghost use Rattle.spec.specs.Lists.{takeWhile, dropEnd};
+ghost use Rattle.spec.specs.Map.{marked};
+ghost use Rattle.spec.specs.Declarations.{delimiterOf, requotedDefault, declaration};
+ghost use Rattle.declared_parts.specs.Parts.{between, notW, WalrusAt, spaced, cutOf, cutIn, readOf, Within, isWhole};
+
+// Where a part ends ahead of its default, where the default begins, and 1 if there is one, else 0.
+pub struct Cut {
+    pub head: usize,
+    pub rest: usize,
+    pub present: usize,
+}
+
+// Places in a text: the name, the type's words, and the default if `present` is 1. A part that has no type declares nothing.
+pub struct Part {
+    pub name: usize,
+    pub name_len: usize,
+    pub kind: usize,
+    pub kind_len: usize,
+    pub present: usize,
+    pub value: usize,
+    pub value_len: usize,
+}
+
+// Where W ends that stands at the front of the text between the two places.
+fn skip_w(text: &[u8], from: usize, to: usize) -> usize
+    requires { ⌜ from ≤ to ⌝ }
+    requires { ⌜ to ≤ length (now text) ⌝ }
+    ensures { λ r. ⌜ r ≡ from + length (takeWhile isW (between from to (now (text .entry)))) ⌝ }
+    ensures { λ r. ⌜ (from ≤ r) × (r ≤ to) ⌝ }
+{
+    let mut i = from;
+    while i < to {
+        if is_w(text[i]) {
+            i += 1;
+        } else {
+            return i;
+        }
+    }
+    i
+}
+
+// Where the first W stands between the two places, or the second place.
+fn word_end(text: &[u8], from: usize, to: usize) -> usize
+    requires { ⌜ from ≤ to ⌝ }
+    requires { ⌜ to ≤ length (now text) ⌝ }
+    ensures { λ r. ⌜ r ≡ from + length (takeWhile notW (between from to (now (text .entry)))) ⌝ }
+    ensures { λ r. ⌜ (from ≤ r) × (r ≤ to) ⌝ }
+{
+    let mut i = from;
+    while i < to {
+        if is_w(text[i]) {
+            return i;
+        } else {
+            i += 1;
+        }
+    }
+    i
+}
+
+// Where W begins that stands at the end of the text between the two places.
+fn trim_end(text: &[u8], from: usize, to: usize) -> usize
+    requires { ⌜ from ≤ to ⌝ }
+    requires { ⌜ to ≤ length (now text) ⌝ }
+    ensures { λ r. ⌜ r ≡ from + length (dropEnd isW (between from to (now (text .entry)))) ⌝ }
+    ensures { λ r. ⌜ (from ≤ r) × (r ≤ to) ⌝ }
+{
+    let mut i = to;
+    while from < i {
+        let last = i - 1;
+        if is_w(text[last]) {
+            i = last;
+        } else {
+            return i;
+        }
+    }
+    i
+}
+
+// Where the identifier bytes from `from` on end.
+fn ident_end(text: &[u8], from: usize) -> usize
+    ensures { λ r. ⌜ r ≡ from + length (takeWhile isIdent (drop from (now (text .entry)))) ⌝ }
+{
+    let mut i = from;
+    while i < text.len() {
+        if is_ident_byte(text[i]) {
+            i += 1;
+        } else {
+            return i;
+        }
+    }
+    i
+}
+
+// The first `:=`, live or not.
+fn find_walrus(text: &[u8]) -> Found
+    ensures { λ r. ⌜ WalrusAt (now (text .entry)) r ⌝ }
+{
+    let mut i: usize = 0;
+    while i < text.len() {
+        if starts_with(&text[i..], b":=") {
+            return Found::At(i);
+        } else {
+            i += 1;
+        }
+    }
+    Found::Nothing
+}
+
+// A part of n bytes cut by the first `:=`, else by the first live DEFAULT.
+fn cut_at(walrus: Found, word: Found, n: usize) -> Cut
+    requires { ⌜ cutOf walrus word n .rest ≤ n ⌝ }
+    ensures { λ r. ⌜ r ≡ cutOf walrus word n ⌝ }
+{
+    match walrus {
+        Found::At(i) => Cut {
+            head: i,
+            rest: i + 2,
+            present: 1,
+        },
+        Found::Nothing => match word {
+            Found::At(i) => Cut {
+                head: i,
+                rest: i + 7,
+                present: 1,
+            },
+            Found::Nothing => Cut {
+                head: n,
+                rest: n,
+                present: 0,
+            },
+        },
+    }
+}
+
+// Where a part, trimmed of W, is cut for its default.
+fn find_default(text: &[u8], map: &[u8]) -> Cut
+    ensures { λ r. ⌜ r ≡ cutIn (marked (now (text .entry)) (now (map .entry))) ⌝ }
+    ensures { λ r. ⌜ (r .head ≤ r .rest) × (r .rest ≤ length (now (text .entry))) × (r .present ≤ 1) ⌝ }
+{
+    let walrus = find_walrus(text);
+    let word = find_keyword_in(text, map, b"DEFAULT", 0);
+    cut_at(walrus, word, text.len())
+}
+
+// The part of a text between the two places.
+pub fn read_part(text: &[u8], map: &[u8], from: usize, to: usize) -> Part
+    requires { ⌜ from ≤ to ⌝ }
+    requires { ⌜ to ≤ length (now text) ⌝ }
+    requires { ⌜ length (now text) ≤ length (now map) ⌝ }
+    ensures { λ r. ⌜ declaration (between from to (marked (now (text .entry)) (now (map .entry)))) ≡ readOf (now (text .entry)) r ⌝ }
+    ensures { λ r. ⌜ Within (length (now (text .entry))) r ⌝ }
+{
+    let start = skip_w(text, from, to);
+    let end = trim_end(text, start, to);
+    let cut = find_default(&text[start..end], &map[start..end]);
+    let head = start + cut.head;
+    let name = skip_w(text, start, head);
+    let name_end = word_end(text, name, head);
+    let kind = skip_w(text, name_end, head);
+    let value = skip_w(text, start + cut.rest, end);
+    let value_end = trim_end(text, value, end);
+    Part {
+        name: name,
+        name_len: name_end - name,
+        kind: kind,
+        kind_len: head - kind,
+        present: cut.present,
+        value: value,
+        value_len: value_end - value,
+    }
+}
+
+// The words of a text that does not start with W, joined by single spaces.
+pub fn put_spaced(out: &mut [u8], n: usize, text: &[u8]) -> usize
+    requires { ⌜ n + 2 * length (now text) < 2 ^ 63 ⌝ }
+    ensures { λ r. ⌜ r ≡ n + length (spaced false (now (text .entry))) ⌝ }
+    ensures { λ _. ⌜ now (out .exit) ≡ sets (now (out .entry)) n (spaced false (now (text .entry))) ⌝ }
+{
+    let mut o = n;
+    let mut gap = false;
+    let mut j: usize = 0;
+    while j < text.len() {
+        let b = text[j];
+        if is_w(b) {
+            gap = true;
+            j += 1;
+        } else if gap {
+            o = put(out, o, b' ');
+            o = put(out, o, b);
+            gap = false;
+            j += 1;
+        } else {
+            o = put(out, o, b);
+            j += 1;
+        }
+    }
+    o
+}
+
+// Whether x and y are the same bytes.
+pub fn same_bytes(x: &[u8], y: &[u8]) -> bool
+    ensures { λ r. ⌜ r ≡ isSame (now (x .entry)) (now (y .entry)) ⌝ }
+{
+    let mut i: usize = 0;
+    while i < x.len() {
+        if i < y.len() {
+            if x[i] == y[i] {
+                i += 1;
+            } else {
+                return false;
+            }
+        } else {
+            return false;
+        }
+    }
+    y.len() <= i
+}
+
+// Whether x comes before y in byte order.
+pub fn comes_before(x: &[u8], y: &[u8]) -> bool
+    ensures { λ r. ⌜ r ≡ isBefore (now (x .entry)) (now (y .entry)) ⌝ }
+{
+    let mut i: usize = 0;
+    while i < x.len() {
+        if i < y.len() {
+            if x[i] == y[i] {
+                i += 1;
+            } else {
+                return x[i] < y[i];
+            }
+        } else {
+            return false;
+        }
+    }
+    i < y.len()
+}
+
+// Whether a default is wholly `$tag$..$tag$`, where its delimiter would have d bytes.
+fn is_whole(text: &[u8], d: usize) -> bool
+    requires { ⌜ d ≡ length (delimiterOf (now text)) ⌝ }
+    requires { ⌜ 2 * length (now text) < 2 ^ 63 ⌝ }
+    ensures { λ r. ⌜ r ≡ isWhole (delimiterOf (now (text .entry))) (now (text .entry)) ⌝ }
+{
+    if text.len() < d {
+        return false;
+    }
+    let behind = text.len() - d;
+    if behind < d {
+        return false;
+    }
+    if text[0] == b'$' {
+        if text[d - 1] == b'$' {
+            same_bytes(&text[behind..], &text[..d])
+        } else {
+            false
+        }
+    } else {
+        false
+    }
+}
+
+// A default, requoted.
+pub fn put_requoted(out: &mut [u8], n: usize, text: &[u8]) -> usize
+    requires { ⌜ n + 2 * length (now text) + 2 < 2 ^ 63 ⌝ }
+    ensures { λ r. ⌜ r ≡ n + length (requotedDefault (now (text .entry))) ⌝ }
+    ensures { λ _. ⌜ now (out .exit) ≡ sets (now (out .entry)) n (requotedDefault (now (text .entry))) ⌝ }
+{
+    let d = ident_end(text, 1) + 1;
+    if is_whole(text, d) {
+        let e = text.len() - d;
+        put_single_quoted(out, n, &text[d..e])
+    } else {
+        put_all(out, n, text)
+    }
+}
+
+// The n bytes of a text from `at` on, as far as it reaches.
+pub fn piece<'a>(text: &'a [u8], at: usize, n: usize) -> &'a [u8]
+    ensures { λ r. ⌜ now r ≡ take n (drop at (now (text .entry))) ⌝ }
+{
+    if at <= text.len() {
+        let rest = &text[at..];
+        if n <= rest.len() { &rest[..n] } else { rest }
+    } else {
+        &text[..0]
+    }
+}

@@ -1,0 +1,117 @@
+-- The records that a list of numbers holds: what a store leaves of them. Assumes nothing.
+use mathlib.Core.Path.{_≡_, refl, sym, ap, _∙_}
+use mathlib.Core.List.{List, [], _∷_, _++_}
+use Prim.Native.Nat.{ℕ, zero, suc, _+_, _*_, _≤_, _<_}
+use native.Mathlib.Nat.{le-of-suc-le-suc}
+use native.Mathlib.Omega.{arith}
+use borrow.Author.Tests.{ltb-true, ltb-false}
+use lib.Dec.{ltb}
+use Rattle.spec.proofs.Choice.{by}
+use lib.ListN.{length, getD, take, drop, set}
+use lib.Seq.{sets, sets-eq, getD-set-other, getD-drop, length-take-le, drop-at, take-at, drop-set-lt}
+use Rattle.declared_parts.specs.Parts.{defaultBy, declaredBy, partNumbers}
+use Rattle.declared_parts.specs.declared.Part.{Part}
+use Rattle.spec.specs.Declarations.{Declared}
+use Rattle.declared_records.specs.Held.{recordIn, recordsFrom}
+
+-- a store elsewhere
+pub sets-ahead : (vs l : List ℕ) (i j : ℕ) → j < i → getD (sets l i vs) j 0 ≡ getD l j 0
+sets-ahead [] l i j h = refl
+sets-ahead (v ∷ vs) l i j h =
+    sets-ahead vs (set l i v) (suc i) j (omega arith) ∙ getD-set-other l i j v 0 (λ e. absurd (omega arith))
+
+pub sets-behind : (vs l : List ℕ) (i j : ℕ) → i + length vs ≤ j → getD (sets l i vs) j 0 ≡ getD l j 0
+sets-behind [] l i j h = refl
+sets-behind (v ∷ vs) l i j h =
+    sets-behind vs (set l i v) (suc i) j (omega arith) ∙ getD-set-other l i j v 0 (λ e. absurd (omega arith))
+
+pub sets-drop : (vs l : List ℕ) (i n : ℕ) → i + length vs ≤ n → drop n (sets l i vs) ≡ drop n l
+sets-drop [] l i n h = refl
+sets-drop (v ∷ vs) l i n h = sets-drop vs (set l i v) (suc i) n (omega arith) ∙ drop-set-lt n l i v (omega arith)
+
+-- what is stored stands there
+pub sets-there : (vs l : List ℕ) (i : ℕ) → i + length vs ≤ length l → drop i (sets l i vs) ≡ vs ++ drop (i + length vs) l
+sets-there vs l i h =
+    ap (drop i) (sets-eq vs l i h ∙ assoc (take i l) vs (drop (i + length vs) l))
+    ∙ drop-at (take i l) (vs ++ drop (i + length vs) l) i (length-take-le i l (omega arith))
+  where
+    assoc : (a b c : List ℕ) → (a ++ b) ++ c ≡ a ++ (b ++ c)
+    assoc [] b c = refl
+    assoc (x ∷ a) b c = ap (λ t. x ∷ t) (assoc a b c)
+
+-- what stands in front of a list after stores from 0 on
+pub sets-front : (vs l : List ℕ) → length vs ≤ length l → take (length vs) (sets l 0 vs) ≡ vs
+sets-front vs l h =
+    let e : drop 0 (sets l 0 vs) ≡ vs ++ drop (0 + length vs) l = sets-there vs l 0 (omega arith) in
+    ap (take (length vs)) e ∙ take-at vs (drop (0 + length vs) l) (length vs) refl
+
+-- numbers that agree in the eight places declare the same
+pub declared-same : (xs ns ms : List ℕ) → ((i : ℕ) → 0 < i → i < 8 → getD ns i 0 ≡ getD ms i 0) → declaredBy xs ns ≡ declaredBy xs ms
+unfolding declaredBy defaultBy
+declared-same xs ns ms h =
+    rw (
+      h 1 (omega arith) (omega arith),
+      h 2 (omega arith) (omega arith),
+      h 3 (omega arith) (omega arith),
+      h 4 (omega arith) (omega arith),
+      h 5 (omega arith) (omega arith),
+      h 6 (omega arith) (omega arith),
+      h 7 (omega arith) (omega arith),
+    ) refl
+
+pub record-same : (xs rs rs′ : List ℕ) (k : ℕ) → ((i : ℕ) → 0 < i → i < 8 → getD rs (8 * k + i) 0 ≡ getD rs′ (8 * k + i) 0) → recordIn xs rs k ≡ recordIn xs rs′ k
+record-same xs rs rs′ k h =
+    declared-same xs (drop (8 * k) rs) (drop (8 * k) rs′) (λ i a b. getD-drop (8 * k) rs i 0 ∙ (h i a b ∙ sym (getD-drop (8 * k) rs′ i 0)))
+
+-- stores as another record leave a record as it is
+pub record-other : (xs rs vs : List ℕ) (k j : ℕ) → length vs ≡ 8 → (j ≡ k → ⊥) → recordIn xs (sets rs (8 * k) vs) j ≡ recordIn xs rs j
+record-other xs rs vs k j l n =
+    record-same xs (sets rs (8 * k) vs) rs j (λ i a b. side i b)
+  where
+    side : (i : ℕ) → i < 8 → getD (sets rs (8 * k) vs) (8 * j + i) 0 ≡ getD rs (8 * j + i) 0
+    side i b =
+        by (ltb j k)
+        (λ e. let h : j < k = ltb-true j k e in sets-ahead vs rs (8 * k) (8 * j + i) (omega arith))
+        (λ e. let h : k ≤ j = ltb-false j k e in let m : k < j = omega (arith, n) in sets-behind vs rs (8 * k) (8 * j + i) (omega arith))
+
+-- the numbers of a part as record k declare what the part declares
+pub record-put : (xs rs : List ℕ) (k : ℕ) (p : Part) → 8 * k + 8 ≤ length rs → recordIn xs (sets rs (8 * k) (partNumbers p)) k ≡ declaredBy xs (partNumbers p)
+unfolding partNumbers declaredBy defaultBy
+record-put xs rs k p h = rw (sets-there (partNumbers p) rs (8 * k) h) refl
+
+-- ---- several records
+
+-- as many as asked for
+pub from-length : (xs rs : List ℕ) (k n : ℕ) → length (recordsFrom xs rs k n) ≡ n
+unfolding recordsFrom
+from-length xs rs k zero = refl
+from-length xs rs k (suc n) = ap suc (from-length xs rs (suc k) n)
+
+pub from-same : (xs rs rs′ : List ℕ) (k n : ℕ) → ((j : ℕ) → k ≤ j → recordIn xs rs j ≡ recordIn xs rs′ j) → recordsFrom xs rs k n ≡ recordsFrom xs rs′ k n
+unfolding recordsFrom
+from-same xs rs rs′ k zero h = refl
+from-same xs rs rs′ k (suc n) h = rw (h k (omega arith), from-same xs rs rs′ (suc k) n (λ j a. h j (omega arith))) refl
+
+module _ (xs rs rs′ : List ℕ) (d : Declared) where
+  -- record s + k is replaced
+  pub from-replaced : (k n s : ℕ) → k < n → recordIn xs rs′ (s + k) ≡ d → ((j : ℕ) → (j ≡ s + k → ⊥) → recordIn xs rs′ j ≡ recordIn xs rs j)
+      → recordsFrom xs rs′ s n ≡ take k (recordsFrom xs rs s n) ++ (d ∷ drop (suc k) (recordsFrom xs rs s n))
+  unfolding recordsFrom
+  from-replaced k zero s h e f = absurd (omega arith)
+  from-replaced zero (suc n) s h e f =
+      let z : s + 0 ≡ s = omega arith in
+      rw (sym (rw z at e), from-same xs rs rs′ (suc s) n (λ j a. sym (f j (λ q. absurd (omega arith))))) refl
+  from-replaced (suc k) (suc n) s h e f =
+      let z : s + suc k ≡ suc s + k = omega arith in
+      rw (f s (λ q. absurd (omega arith)), from-replaced k n (suc s) (le-of-suc-le-suc h) (rw z at e) (λ j q. f j (λ r. q (r ∙ z)))) refl
+
+  -- record s + n is added
+  pub from-added : (n s : ℕ) → recordIn xs rs′ (s + n) ≡ d → ((j : ℕ) → (j ≡ s + n → ⊥) → recordIn xs rs′ j ≡ recordIn xs rs j)
+      → recordsFrom xs rs′ s (suc n) ≡ take n (recordsFrom xs rs s n) ++ (d ∷ drop (suc n) (recordsFrom xs rs s n))
+  unfolding recordsFrom
+  from-added zero s e f =
+      let z : s + 0 ≡ s = omega arith in
+      rw (sym (rw z at e)) refl
+  from-added (suc n) s e f =
+      let z : s + suc n ≡ suc s + n = omega arith in
+      rw (f s (λ q. absurd (omega arith)), from-added n (suc s) (rw z at e) (λ j q. f j (λ r. q (r ∙ z)))) refl

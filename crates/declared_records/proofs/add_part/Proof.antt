@@ -1,0 +1,76 @@
+use native.Mathlib.Omega.{arith}
+use mathlib.Core.Path.{_≡_, refl, _∙_}
+use Prim.Native.Nat.{_-_}
+use lib.ListN.{take, drop}
+use Rattle.declared_records.specs.Held.{recordsFrom, placeOf}
+use Rattle.declared_records.proofs.GatherLaws.{add-none, add-full, add-replaced, add-new}
+use borrow.Author.Needs.{needs}
+use Rattle.declared_records.proofs.add_part.Statement.{statement}
+use Rattle.declared_records.proofs.add_part.Tie as tie
+
+-- where the part's name stands
+found : (c : tie.After-find-name) → c .find-name .result ≡ placeOf (take (c .before .before .before .before .before .before .before .args .p .«name_len») (drop (c .before .before .before .before .before .before .before .args .p .name) (c .before .before .before .before .before .before .before .args .text .now))) (recordsFrom (c .before .before .before .before .before .before .before .args .text .now) (c .before .before .before .before .before .before .before .args .records .now) 1 (c .before .before .before .before .before .before .before .args .count))
+found c = c .find-name .ensures .0 ∙ rw (c .before .before .piece .ensures) refl
+
+returns : tie.Need-returns
+returns c =
+    let a = c .before .before .before .before .args in
+    add-none (a .text .now) (a .records .now) (a .count) (a .p) (c .if1 .taken)
+
+piece-requires : tie.Need-piece-requires
+piece-requires c κs = search needs
+
+find-name-requires : tie.Need-find-name-requires
+find-name-requires c κs = search needs
+
+same-length : tie.Need-same-length
+same-length c = search needs
+
+returns-2 : tie.Need-returns-2
+returns-2 c =
+    let a = c .before .before .before .before .before .before .before .before .args in
+    add-full (a .text .now) (a .records .now) (a .count) (a .p) (c .before .before .before .before .if1 .left) _ (found (c .before)) (omega arith) (c .if2 .taken)
+
+add-put-part : tie.Need-add-put-part
+add-put-part c = search needs
+
+put-part-requires : tie.Need-put-part-requires
+put-part-requires c κs = search needs
+
+add-result : tie.Need-add-result
+add-result c = search needs
+
+same-length-2 : tie.Need-same-length-2
+same-length-2 c = search needs
+
+returns-3 : tie.Need-returns-3
+returns-3 c =
+    let a = c .before .before .before .before .before .before .before .before .before .before .before .before .before .args in
+    let e = add-replaced (a .text .now) (a .records .now) (a .count) (a .p) (c .before .before .before .before .before .before .before .before .before .if1 .left) _ (found (c .before .before .before .before .before .before)) (omega arith) (omega (arith, c .before .before .before .before .before .if2 .left)) (c .if3 .taken) in
+    rw (c .before .before .before .put-part .ensures) e
+
+same-length-3 : tie.Need-same-length-3
+same-length-3 c = search needs
+
+returns-4 : tie.Need-returns-4
+returns-4 c =
+    let a = c .before .before .before .before .before .before .before .before .before .before .before .before .before .args in
+    let e = add-new (a .text .now) (a .records .now) (a .count) (a .p) (c .before .before .before .before .before .before .before .before .before .if1 .left) _ (found (c .before .before .before .before .before .before)) (omega arith) (omega (arith, c .before .before .before .before .before .if2 .left)) (omega arith) in
+    rw (c .before .before .before .put-part .ensures) e
+
+pub add-part-spec : {M : Type 1} → statement M
+add-part-spec =
+    tie.close
+    (tie.spec
+    returns
+    piece-requires
+    find-name-requires
+    same-length
+    returns-2
+    add-put-part
+    put-part-requires
+    add-result
+    same-length-2
+    returns-3
+    same-length-3
+    returns-4)

@@ -1,0 +1,72 @@
+use Rattle.declared_records.proofs.GatherLaws.{place-start}
+use native.Mathlib.Omega.{arith}
+use borrow.Author.Needs.{needs}
+use mathlib.Core.Path.{_≡_, refl, sym, _∙_}
+use Prim.Native.Nat.{_+_, _-_, _≤_}
+use Rattle.spec.specs.Bytes.{isSame}
+use Rattle.declared_records.specs.Held.{recordIn, recordsFrom, placeOf}
+use Rattle.declared_records.proofs.GatherLaws.{place-over, place-hit, place-miss}
+use Rattle.declared_records.proofs.find_name.Statement.{statement}
+use Rattle.declared_records.proofs.find_name.Tie as tie
+
+abbrev Inv-loop : tie.InvT-loop
+Inv-loop text records count name k₀ k = (k ≤ count) × (placeOf name (recordsFrom text records 1 count) ≡ k + placeOf name (recordsFrom text records (k + 1) (count - k)))
+
+abbrev μ-loop : tie.MeasureT-loop
+μ-loop text records count name k₀ k = count - k
+
+-- the test is of the record's name
+tested : (c : tie.After-same-bytes Inv-loop μ-loop) → c .same-bytes .result ≡ isSame (c .before .before .before .before .before .before .before .args .name .now) (recordIn (c .before .before .before .before .before .before .before .args .text .now) (c .before .before .before .before .before .before .before .args .records .now) (c .before .before .before .loop .k + 1) .name)
+tested c = c .same-bytes .ensures ∙ rw (c .before .name-of .ensures) refl
+
+loop-holds : tie.Need-loop-holds Inv-loop μ-loop
+loop-holds c = (omega arith, place-start (c .before .before .before .args .name .now) (c .before .before .before .args .text .now) (c .before .before .before .args .records .now) (c .before .before .before .args .count))
+
+add-name-of : tie.Need-add-name-of Inv-loop μ-loop
+add-name-of c = search needs
+
+name-of-requires : tie.Need-name-of-requires Inv-loop μ-loop
+name-of-requires c κs = search needs
+
+same-bytes-requires : tie.Need-same-bytes-requires Inv-loop μ-loop
+same-bytes-requires c κs = search needs
+
+returns : tie.Need-returns Inv-loop μ-loop
+returns c =
+    let l = c .before .before .before .before .loop in
+    let a = c .before .before .before .before .before .before .before .before .args in
+    (omega (arith, l .inv .1, place-hit (a .name .now) (a .text .now) (a .records .now) (l .k) (a .count) (omega arith) (sym (tested (c .before)) ∙ c .if1 .taken)), omega arith)
+
+add-k : tie.Need-add-k Inv-loop μ-loop
+add-k c = search needs
+
+loop-less : tie.Need-loop-less Inv-loop μ-loop
+loop-less c = search needs
+
+loop-again : tie.Need-loop-again Inv-loop μ-loop
+loop-again c =
+    let l = c .before .before .before .before .loop in
+    let a = c .before .before .before .before .before .before .before .before .args in
+    (omega arith, omega (arith, l .inv .1, place-miss (a .name .now) (a .text .now) (a .records .now) (l .k) (a .count) (omega arith) (sym (tested (c .before)) ∙ c .if1 .left)))
+
+returns-2 : tie.Need-returns-2 Inv-loop μ-loop
+returns-2 c =
+    let l = c .before .loop in
+    let a = c .before .before .before .before .before .args in
+    (omega (arith, l .inv .1, place-over (a .name .now) (a .text .now) (a .records .now) (l .k) (a .count) (omega arith)), omega arith)
+
+pub find-name-spec : {M : Type 1} → statement M
+find-name-spec =
+    tie.close
+    (tie.spec
+    Inv-loop
+    μ-loop
+    loop-holds
+    add-name-of
+    name-of-requires
+    same-bytes-requires
+    returns
+    add-k
+    loop-less
+    loop-again
+    returns-2)

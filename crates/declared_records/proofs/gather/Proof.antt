@@ -1,0 +1,107 @@
+use native.Mathlib.Omega.{arith}
+use borrow.Author.Needs.{needs}
+use mathlib.Core.Path.{_≡_, refl, sym, _∙_}
+use mathlib.Core.List.{[]}
+use Prim.Native.Nat.{_-_, _≤_, _<_}
+use lib.ListN.{length, drop}
+use Rattle.spec.specs.Map.{marked}
+use Rattle.spec.specs.Search.{byteHere, pieces}
+use Rattle.spec.specs.Declarations.{declareAll}
+use Rattle.spec.proofs.MapLaws.{marked-length}
+use Rattle.spec.proofs.WalkLaws.{first-within}
+use Rattle.declared_records.proofs.GatherLaws.{within-more, madeFrom, gathered-start, gathered-last, gathered-over, gathered-next}
+use Rattle.declared_records.proofs.gather.Statement.{statement}
+use Rattle.declared_records.proofs.gather.Tie as tie
+
+abbrev Inv-loop : tie.InvT-loop
+Inv-loop text map records₀ count₀ at₀ records count at = (count ≤ 512) × (at ≤ length text) × (length records ≡ length records₀) × (declareAll (pieces (byteHere 59) (marked text map)) [] ≡ madeFrom text map at records count) × (drop 4104 records ≡ drop 4104 records₀)
+
+abbrev μ-loop : tie.MeasureT-loop
+μ-loop text map records₀ count₀ at₀ records count at = length text - at
+
+-- the next `;` stands within the text
+inside : (c : tie.After-found Inv-loop μ-loop) → (c .before .before .before .loop .at ≤ c .found .given .0 .0) × (c .found .given .0 .0 < length (c .before .before .before .before .before .before .before .args .text .now))
+inside c =
+    let xs = c .before .before .before .before .before .before .before .args .text .now in
+    let ms = c .before .before .before .before .before .before .before .args .map .now in
+    let w = first-within (byteHere 59) (marked xs ms) (c .before .before .before .loop .at) (c .found .given .0 .0) (sym (c .before .before .find-byte-in .ensures) ∙ c .found .given .1) in
+    (w .0, omega (arith, w .1, marked-length xs ms))
+
+loop-holds : tie.Need-loop-holds Inv-loop μ-loop
+loop-holds c = (omega arith, omega arith, refl, gathered-start (c .before .before .before .args .text .now) (c .before .before .before .args .map .now) (c .before .before .before .args .records .now), refl)
+
+find-byte-in-requires : tie.Need-find-byte-in-requires Inv-loop μ-loop
+find-byte-in-requires c κs = search needs
+
+enum-known-found : tie.Need-enum-known-found Inv-loop μ-loop
+enum-known-found c = search needs
+
+enum-told : tie.Need-enum-told Inv-loop μ-loop
+enum-told c = search needs
+
+read-part-requires : tie.Need-read-part-requires Inv-loop μ-loop
+read-part-requires c κs = search needs
+
+add-part-requires : tie.Need-add-part-requires Inv-loop μ-loop
+add-part-requires c κs = (omega arith, (omega arith, within-more _ 65536 _ (omega arith) (c .before .read-part .ensures .1)))
+
+same-length : tie.Need-same-length Inv-loop μ-loop
+same-length c = c .before .before .add-part .kept .1 .0 ∙ c .before .before .before .before .before .before .before .before .loop .inv .2
+
+returns : tie.Need-returns Inv-loop μ-loop
+returns c =
+    let a = c .before .before .before .before .before .before .before .before .before .before .before .before .args in
+    let l = c .before .before .before .before .before .before .before .before .loop in
+    (gathered-last (a .text .now) (a .map .now) (l .at) (l .records) (l .count) (c .before .before .before .before .read-part .result) _ _ (c .before .before .add-part .ensures) (l .inv .3) (sym (c .before .before .before .before .before .before .before .find-byte-in .ensures) ∙ c .before .before .before .before .before .enum-told .given .1) (c .before .before .before .before .read-part .ensures .0), c .before .before .add-part .ensures .behind ∙ l .inv .4)
+
+read-part-requires-2 : tie.Need-read-part-requires-2 Inv-loop μ-loop
+read-part-requires-2 c κs =
+    let w = inside (c .before) in
+    (w .0, (omega arith, omega arith))
+
+add-part-requires-2 : tie.Need-add-part-requires-2 Inv-loop μ-loop
+add-part-requires-2 c κs = (omega arith, (omega arith, within-more _ 65536 _ (omega arith) (c .before .read-part2 .ensures .1)))
+
+same-length-2 : tie.Need-same-length-2 Inv-loop μ-loop
+same-length-2 c = c .before .before .before .add-part2 .kept .1 .0 ∙ c .before .before .before .before .before .before .before .before .before .before .loop .inv .2
+
+returns-2 : tie.Need-returns-2 Inv-loop μ-loop
+returns-2 c =
+    let a = c .before .before .before .before .before .before .before .before .before .before .before .before .before .before .args in
+    let l = c .before .before .before .before .before .before .before .before .before .before .loop in
+    (gathered-over (a .text .now) (a .map .now) (l .at) (l .records) (l .count) (c .before .before .before .before .before .read-part2 .result) _ _ (c .before .before .before .add-part2 .ensures) (l .inv .3) (c .before .before .before .before .before .before .before .found .given .0 .0) (sym (c .before .before .before .before .before .before .before .before .before .find-byte-in .ensures) ∙ c .before .before .before .before .before .before .before .found .given .1) (c .before .before .before .before .before .read-part2 .ensures .0) (c .if1 .taken), c .before .before .before .add-part2 .ensures .behind ∙ l .inv .4)
+
+add-at : tie.Need-add-at Inv-loop μ-loop
+add-at c = let w = inside (c .before .before .before .before .before .before .before) in omega arith
+
+loop-less : tie.Need-loop-less Inv-loop μ-loop
+loop-less c = let w = inside (c .before .before .before .before .before .before .before) in omega arith
+
+loop-again : tie.Need-loop-again Inv-loop μ-loop
+loop-again c =
+    let a = c .before .before .before .before .before .before .before .before .before .before .before .before .before .before .args in
+    let l = c .before .before .before .before .before .before .before .before .before .before .loop in
+    let w = inside (c .before .before .before .before .before .before .before) in
+    (omega arith, omega arith, c .before .before .before .add-part2 .kept .1 .0 ∙ l .inv .2, gathered-next (a .text .now) (a .map .now) (l .at) (l .records) (l .count) (c .before .before .before .before .before .read-part2 .result) _ _ (c .before .before .before .add-part2 .ensures) (l .inv .3) (c .before .before .before .before .before .before .before .found .given .0 .0) (sym (c .before .before .before .before .before .before .before .before .before .find-byte-in .ensures) ∙ c .before .before .before .before .before .before .before .found .given .1) (c .before .before .before .before .before .read-part2 .ensures .0) (omega arith), c .before .before .before .add-part2 .ensures .behind ∙ l .inv .4)
+
+pub gather-spec : {M : Type 1} → statement M
+gather-spec =
+    tie.close
+    (tie.spec
+    Inv-loop
+    μ-loop
+    loop-holds
+    find-byte-in-requires
+    enum-known-found
+    enum-told
+    read-part-requires
+    add-part-requires
+    same-length
+    returns
+    read-part-requires-2
+    add-part-requires-2
+    same-length-2
+    returns-2
+    add-at
+    loop-less
+    loop-again)

@@ -1,0 +1,39 @@
+-- The records while they are read: eight numbers each, as of a record, but the places are in the text of the section.
+-- Assumes nothing.
+use mathlib.Core.Path.{_≡_}
+use Prim.Native.Nat.{ℕ, zero, suc, _*_, _≤_, _<_}
+use mathlib.Core.Bool.{cond}
+use mathlib.Core.List.{List, [], _∷_}
+use lib.ListN.{length, drop}
+use Rattle.spec.specs.Bytes.{isSame}
+use Rattle.spec.specs.Map.{Marked}
+use Rattle.spec.specs.Search.{byteHere, pieces}
+use Rattle.spec.specs.Declarations.{Declared, declareMaybe, declareAll}
+use Rattle.declared_parts.specs.Parts.{declaredBy, readOf}
+use Rattle.declared_parts.specs.declared.Part.{Part}
+
+-- record k, and n records from record k on
+abbrev pub recordIn : List ℕ → List ℕ → ℕ → Declared
+recordIn xs rs k = declaredBy xs (drop (8 * k) rs)
+
+unfoldable pub recordsFrom : List ℕ → List ℕ → ℕ → ℕ → List Declared
+recordsFrom xs rs k zero = []
+recordsFrom xs rs k (suc n) = recordIn xs rs k ∷ recordsFrom xs rs (suc k) n
+
+-- how many records stand ahead of the first of this name
+unfoldable pub placeOf : List ℕ → List Declared → ℕ
+placeOf n [] = 0
+placeOf n (d ∷ ds) =
+    let more = suc (placeOf n ds) in
+    cond (isSame n (d .name)) 0 more
+
+-- r records are what a part makes of `count`; over 512 nothing is known of them
+pub record Added (xs rs : List ℕ) (count : ℕ) (p : Part) (rs′ : List ℕ) (r : ℕ) : Type 0 where
+  pub number : r ≡ length (declareMaybe (readOf xs p) (recordsFrom xs rs 1 count))
+  pub records : r ≤ 512 → recordsFrom xs rs′ 1 r ≡ declareMaybe (readOf xs p) (recordsFrom xs rs 1 count)
+  pub behind : drop 4104 rs′ ≡ drop 4104 rs
+
+-- r records are those of the section t; over 512, too many are declared
+pub record Gathered (xs : List ℕ) (t : List Marked) (rs : List ℕ) (r : ℕ) : Type 0 where
+  pub records : r ≤ 512 → recordsFrom xs rs 1 r ≡ declareAll (pieces (byteHere 59) t) []
+  pub over : 512 < r → 512 < length (declareAll (pieces (byteHere 59) t) [])

@@ -1,0 +1,149 @@
+// The records of a section while they are read: each holds the places of its last declaration in the section's text.
+use declared_parts::Part;
+use declared_parts::piece;
+use declared_parts::read_part;
+use declared_parts::same_bytes;
+use scanner::find_byte_in;
+use spec::Found;
+ghost use mathlib.Core.Path.{_≡_};
+ghost use mathlib.Core.List.{_∷_, []};
+ghost use Prim.Native.Nat.{_*_, _^_, _≤_, _<_};
+ghost use lib.ListN.{length, getD, drop};
+ghost use lib.Seq.{sets};
+ghost use Rattle.spec.specs.Map.{marked};
+ghost use Rattle.declared_parts.specs.Parts.{Within, partNumbers};
+ghost use Rattle.declared_records.specs.Held.{recordIn, recordsFrom, placeOf, Added, Gathered};
+
+// Number j of record k.
+pub fn number(records: &[u32], k: usize, j: usize) -> usize
+    requires { ⌜ k ≤ 512 ⌝ }
+    requires { ⌜ j < 8 ⌝ }
+    requires { ⌜ 4104 ≤ length (now records) ⌝ }
+    ensures { λ r. ⌜ r ≡ getD (drop (8 * k) (now (records .entry))) j 0 ⌝ }
+    ensures { λ r. ⌜ r < 2 ^ 32 ⌝ }
+{
+    records[8 * k + j] as usize
+}
+
+// The name of record k.
+pub fn name_of<'a>(text: &'a [u8], records: &[u32], k: usize) -> &'a [u8]
+    requires { ⌜ k ≤ 512 ⌝ }
+    requires { ⌜ 4104 ≤ length (now records) ⌝ }
+    ensures { λ r. ⌜ now r ≡ recordIn (now (text .entry)) (now (records .entry)) k .name ⌝ }
+{
+    let at = number(records, k, 1);
+    let n = number(records, k, 2);
+    piece(text, at, n)
+}
+
+// The eight numbers of record k.
+pub fn put_numbers(
+    records: &mut [u32],
+    k: usize,
+    next: u32,
+    name: u32,
+    name_len: u32,
+    kind: u32,
+    kind_len: u32,
+    present: u32,
+    value: u32,
+    value_len: u32,
+)
+    requires { ⌜ k ≤ 512 ⌝ }
+    requires { ⌜ 4104 ≤ length (now records) ⌝ }
+    ensures { λ _. ⌜ now (records .exit) ≡ sets (now (records .entry)) (8 * k) (next ∷ name ∷ «name_len» ∷ kind ∷ «kind_len» ∷ present ∷ value ∷ «value_len» ∷ []) ⌝ }
+{
+    let at = 8 * k;
+    records[at] = next;
+    records[at + 1] = name;
+    records[at + 2] = name_len;
+    records[at + 3] = kind;
+    records[at + 4] = kind_len;
+    records[at + 5] = present;
+    records[at + 6] = value;
+    records[at + 7] = value_len;
+}
+
+// The places of a part as record k.
+fn put_part(records: &mut [u32], k: usize, p: Part)
+    requires { ⌜ k ≤ 512 ⌝ }
+    requires { ⌜ 4104 ≤ length (now records) ⌝ }
+    requires { ⌜ Within 65536 p ⌝ }
+    ensures { λ _. ⌜ now (records .exit) ≡ sets (now (records .entry)) (8 * k) (partNumbers p) ⌝ }
+{
+    put_numbers(
+        records,
+        k,
+        0,
+        p.name as u32,
+        p.name_len as u32,
+        p.kind as u32,
+        p.kind_len as u32,
+        p.present as u32,
+        p.value as u32,
+        p.value_len as u32,
+    );
+}
+
+// How many records stand ahead of the first one of this name.
+fn find_name(text: &[u8], records: &[u32], count: usize, name: &[u8]) -> usize
+    requires { ⌜ count ≤ 512 ⌝ }
+    requires { ⌜ 4104 ≤ length (now records) ⌝ }
+    ensures { λ r. ⌜ r ≡ placeOf (now (name .entry)) (recordsFrom (now (text .entry)) (now (records .entry)) 1 count) ⌝ }
+    ensures { λ r. ⌜ r ≤ count ⌝ }
+{
+    let mut k: usize = 0;
+    while k < count {
+        let here = name_of(text, records, k + 1);
+        if same_bytes(name, here) {
+            return k;
+        } else {
+            k += 1;
+        }
+    }
+    k
+}
+
+// The records with what a part declares; 513 if there would be more than 512.
+fn add_part(text: &[u8], records: &mut [u32], count: usize, p: Part) -> usize
+    requires { ⌜ count ≤ 512 ⌝ }
+    requires { ⌜ 4104 ≤ length (now records) ⌝ }
+    requires { ⌜ Within 65536 p ⌝ }
+    ensures { λ r. ⌜ Added (now (text .entry)) (now (records .entry)) count p (now (records .exit)) r ⌝ }
+{
+    if p.kind_len == 0 {
+        return count;
+    }
+    let name = piece(text, p.name, p.name_len);
+    let k = find_name(text, records, count, name);
+    if k == 512 {
+        return 513;
+    }
+    put_part(records, k + 1, p);
+    if k < count { count } else { k + 1 }
+}
+
+// The records of a section, as places in its text; 513 if more than 512 names are declared.
+pub fn gather(text: &[u8], map: &[u8], records: &mut [u32]) -> usize
+    requires { ⌜ length (now text) ≤ 65536 ⌝ }
+    requires { ⌜ length (now text) ≤ length (now map) ⌝ }
+    requires { ⌜ 4104 ≤ length (now records) ⌝ }
+    ensures { λ r. ⌜ Gathered (now (text .entry)) (marked (now (text .entry)) (now (map .entry))) (now (records .exit)) r ⌝ }
+    ensures { λ _. ⌜ drop 4104 (now (records .exit)) ≡ drop 4104 (now (records .entry)) ⌝ }
+{
+    let mut count: usize = 0;
+    let mut at: usize = 0;
+    loop {
+        let found = find_byte_in(text, map, b';', at);
+        let Found::At(end) = found else {
+            let last = read_part(text, map, at, text.len());
+            return add_part(text, records, count, last);
+        };
+        let p = read_part(text, map, at, end);
+        count = add_part(text, records, count, p);
+        if 512 < count {
+            return count;
+        }
+        at = end + 1;
+    }
+}
