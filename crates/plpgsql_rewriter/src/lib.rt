@@ -8,6 +8,7 @@ ghost use mathlib.Core.Path.{_≡_};
 ghost use mathlib.Core.List.{[], _∷_};
 ghost use lib.ListN.{length, getD};
 ghost use Rattle.spec.specs.Answers.{mapExit, regionsAnswer, keywordAnswer, byteAnswer, needleAnswer, wordAnswer, wordPart, searchNumbers, handlerAnswer, unterminatedAnswer, splitAnswer, splitMapExit, splitExit, requoteAnswer, requoteExit, refusalNumber, refusalPlace, bodyCheck, bodyAnswer, bodyOutput, workExit};
+ghost use Rattle.closed.specs.Answer.{closedAnswer};
 ghost use Rattle.plpgsql_rewriter.specs.Four.{narrow, four, fourFound, fourFilled, fourCalled};
 
 // A number in 32 bits.
@@ -231,4 +232,13 @@ pub extern "C" fn plpgsql_transform_body(
 {
     let r = preprocessor::transform_body(text, output, work, spare);
     put_called(answer, r);
+}
+
+#[no_mangle]
+pub extern "C" fn plpgsql_is_closed(text: &[u8], map: &mut [u8], answer: &mut [u32; 4])
+    ensures { λ _. ⌜ now (map .exit) ≡ mapExit (now (text .entry)) (now (map .entry)) [] ⌝ }
+    ensures { λ _. ⌜ now (answer .exit) ≡ fourFound (closedAnswer (now (text .entry)) (now (map .entry))) ⌝ }
+{
+    let s = closed::is_closed(text, map);
+    put_found(answer, s);
 }

@@ -2,10 +2,10 @@
 
 use std::io::Write;
 
+use texts::parts;
+use texts::random::Random;
+
 use crate::question::Question;
-use crate::random::Random;
-use crate::texts;
-use crate::tokens;
 use crate::Stop;
 
 type Maker = fn(&mut Random) -> Question;
@@ -57,7 +57,7 @@ fn unknown_kind(kind: &str) -> String {
     format!("unknown kind `{kind}`, the kinds are: {}", kinds().join(" "))
 }
 
-fn number(word: &str, what: &str) -> Result<u64, Stop> {
+pub fn number(word: &str, what: &str) -> Result<u64, Stop> {
     word.parse().map_err(|_| Stop::Usage(format!("{what} must be a number, not `{word}`")))
 }
 
@@ -68,77 +68,31 @@ fn any_search(random: &mut Random) -> Question {
 
 fn find_keyword(random: &mut Random) -> Question {
     let text = texts::any(random);
-    let keyword = match random.weighted(&[40, 25, 18, 12, 5]) {
-        0 => tokens::letter_case(&word_of(&text, random), random),
-        1 => tokens::keyword(random),
-        2 => part_of(&text, random),
-        3 => random.pick(&["a", "b", ":=", "1", "$", "_", ";", "a.b"]).to_string(),
-        _ => String::new(),
-    };
-    let from = start(&text, random);
+    let keyword = parts::keyword_for(&text, random);
+    let from = parts::start(&text, random);
     Question::FindKeyword(text, keyword, from)
 }
 
 fn find_in_code(random: &mut Random) -> Question {
     let text = texts::any(random);
-    let byte = byte_for(&text, random);
+    let byte = parts::byte_for(&text, random);
     Question::FindInCode(text, byte)
 }
 
 fn find_str_in_code(random: &mut Random) -> Question {
     let text = texts::any(random);
-    let needle = match random.weighted(&[45, 25, 15, 10, 5]) {
-        0 => part_of(&text, random),
-        1 => ":=".to_string(),
-        2 => tokens::token(random),
-        3 => format!("{text}{}", tokens::token(random)),
-        _ => String::new(),
-    };
+    let needle = parts::needle_for(&text, random);
     Question::FindStrInCode(text, needle)
 }
 
 fn next_word_in_code(random: &mut Random) -> Question {
     let text = texts::any(random);
-    let from = start(&text, random);
+    let from = parts::start(&text, random);
     Question::NextWordInCode(text, from)
 }
 
 fn split_in_code(random: &mut Random) -> Question {
     let text = texts::any(random);
-    let byte = byte_for(&text, random);
+    let byte = parts::byte_for(&text, random);
     Question::SplitInCode(text, byte)
-}
-
-/// A start up to two past the end, often at the front.
-fn start(text: &str, random: &mut Random) -> usize {
-    match random.percent(45) {
-        true => 0,
-        false => random.between(0, text.len() + 2),
-    }
-}
-
-/// A byte that is sought: a separator, one of the text, or any byte at all.
-fn byte_for(text: &str, random: &mut Random) -> u8 {
-    match random.weighted(&[40, 52, 8]) {
-        0 => b";;,.:="[random.below(6)],
-        1 if !text.is_empty() => text.as_bytes()[random.below(text.len())],
-        _ => random.below(256) as u8,
-    }
-}
-
-/// A short part of the text, which may be empty.
-fn part_of(text: &str, random: &mut Random) -> String {
-    let from = random.below(text.len() + 1);
-    let length = random.between(0, 6).min(text.len() - from);
-    text[from..from + length].to_string()
-}
-
-/// One of the text's runs of letters, digits and `_`, if there is any.
-fn word_of(text: &str, random: &mut Random) -> String {
-    let is_edge = |letter: char| !letter.is_ascii_alphanumeric() && letter != '_';
-    let words: Vec<&str> = text.split(is_edge).filter(|word| !word.is_empty()).collect();
-    match words.is_empty() {
-        true => String::new(),
-        false => random.pick(&words).to_string(),
-    }
 }

@@ -3,23 +3,19 @@
 mod answer;
 mod answers;
 mod declarations;
-mod declare;
 mod generate;
 mod hex;
-mod mutate;
 mod question;
-mod random;
 #[cfg(test)]
 mod rows;
-mod shape;
-mod statements;
-mod texts;
-mod tokens;
+mod stored;
+mod stored_limits;
 
 use std::io::{self, BufWriter, ErrorKind, Write};
 use std::process::ExitCode;
 
-const USAGE: &str = "commands: `answers` (questions on standard input), `generate KIND COUNT SEED`";
+const USAGE: &str = "commands: `answers` (questions on standard input), \
+                     `generate KIND COUNT SEED`, `stored COUNT SEED`";
 
 /// Why a command stopped: each kind has its own exit status.
 pub enum Stop {
@@ -66,8 +62,10 @@ fn run(words: &[String], out: &mut impl Write) -> Result<(), Stop> {
             answers::run(io::stdin().lock(), out)
         }
         ["generate", kind, count, seed] => generate::run(kind, count, seed, out),
+        ["stored", count, seed] => stored::run(count, seed, out),
         ["answers", ..] => Err(Stop::Usage("`answers` takes no words behind it".into())),
         ["generate", ..] => Err(Stop::Usage("`generate` takes three words behind it".into())),
+        ["stored", ..] => Err(Stop::Usage("`stored` takes two words behind it".into())),
         [other, ..] => Err(Stop::Usage(format!("unknown command `{other}`"))),
         [] => Err(Stop::Usage("no command given".into())),
     }

@@ -3,6 +3,7 @@
 use crate::answers;
 use crate::generate;
 use crate::hex;
+use crate::stored;
 
 /// A question about one text, with the answer it must get.
 fn check(kind: &str, text: &str, more: &str, expected: &str) {
@@ -121,4 +122,14 @@ fn every_generated_question_is_answered() {
         assert_eq!(replies.lines().count(), 2000, "{kind}");
         assert!(!replies.contains("panic"), "{kind}");
     }
+}
+
+#[test]
+fn a_stored_text_has_a_line_of_every_search() {
+    let mut out = Vec::new();
+    assert!(stored::run("200", "7", &mut out).is_ok());
+    let list = String::from_utf8(out).unwrap();
+    let kinds: String = list.lines().filter_map(|line| line.chars().next()).collect();
+    assert!(kinds.starts_with(&"tmkbswpquh".repeat(200)), "{kinds}");
+    assert!(!list.contains("panic"));
 }

@@ -1,14 +1,20 @@
-//! The script `run` refuses a wrong source folder before it builds anything.
+//! The scripts refuse a wrong source folder before they build anything.
 
 use std::process::{Command, Output};
 
-fn run(words: &[&str]) -> Output {
-    let script = concat!(env!("CARGO_MANIFEST_DIR"), "/../run");
+fn run(script: &str, words: &[&str]) -> Output {
+    let script = format!("{}/../{script}", env!("CARGO_MANIFEST_DIR"));
     Command::new(script).args(words).output().expect("the script starts")
 }
 
 fn check_refused(words: &[&str], part: &str) {
-    let output = run(words);
+    for script in ["run", "compare-run"] {
+        check_script(script, words, part);
+    }
+}
+
+fn check_script(script: &str, words: &[&str], part: &str) {
+    let output = run(script, words);
     let message = String::from_utf8(output.stderr).unwrap();
     assert_eq!(output.status.code(), Some(2), "{message}");
     assert_eq!(message.lines().count(), 1, "{message}");

@@ -1,9 +1,16 @@
 //! Random texts, each made for one family of questions.
 
+mod declare;
+mod mutate;
+pub mod parts;
+pub mod random;
+mod shape;
+mod statements;
+pub mod tokens;
+
 use crate::mutate::mutate;
 use crate::random::Random;
 use crate::shape::Shape;
-use crate::tokens;
 
 /// A body: mostly statements, whole or changed, else a row of tokens or noise.
 pub fn body(random: &mut Random) -> String {

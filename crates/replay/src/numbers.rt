@@ -1,0 +1,60 @@
+// The numbers that an answer stands for: number, found, place, and the length of what was found or written.
+use spec::Filled;
+use spec::Refusal;
+use spec::Search;
+
+pub struct Numbers {
+    pub number: usize,
+    pub found: usize,
+    pub place: usize,
+    pub length: usize,
+}
+
+pub fn four(number: usize, found: usize, place: usize, length: usize) -> Numbers {
+    Numbers {
+        number,
+        found,
+        place,
+        length,
+    }
+}
+
+pub fn of_refusal(r: Refusal) -> Numbers {
+    match r {
+        Refusal::TextTooLong => four(1, 0, 0, 0),
+        Refusal::BufferTooShort => four(3, 0, 0, 0),
+        Refusal::NotAscii(i) => four(2, 0, i, 0),
+    }
+}
+
+pub fn of_search(s: Search) -> Numbers {
+    match s {
+        Search::Found(i) => four(0, 1, i, 0),
+        Search::NotFound => four(0, 0, 0, 0),
+        Search::Refused(r) => of_refusal(r),
+    }
+}
+
+pub fn of_filled(f: Filled) -> Numbers {
+    match f {
+        Filled::Count(n) => four(0, 0, 0, n),
+        Filled::Refused(r) => of_refusal(r),
+    }
+}
+
+pub fn same_numbers(a: Numbers, b: Numbers) -> bool {
+    if a.number != b.number {
+        return false;
+    }
+    if a.found != b.found {
+        return false;
+    }
+    if a.place != b.place {
+        return false;
+    }
+    a.length == b.length
+}
+
+pub fn wide(n: u32) -> usize {
+    n as usize
+}

@@ -1,0 +1,4 @@
+// The rows of the report: one for each search, in the order of their letters, and two more.
+pub const UNKNOWN: usize = 9;
+
+pub const LIMITS: usize = 10;
