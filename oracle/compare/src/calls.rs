@@ -67,7 +67,7 @@ const fn with_map(
     Call { name, limit: SEARCH_LIMIT, enough: |n| vec![n], has_needle, place_at: 2, run }
 }
 
-pub const CALLS: [Call; 10] = [
+pub const CALLS: [Call; 11] = [
     with_map("regions", false, |text, lent, _| library::regions(text, lent.bytes[0].lend())),
     with_map("find_keyword", true, |text, lent, keyword| {
         library::find_keyword(text, lent.bytes[0].lend(), keyword, 0)
@@ -110,6 +110,7 @@ pub const CALLS: [Call; 10] = [
     with_map("has_exception_handler", false, |text, lent, _| {
         library::has_exception_handler(text, lent.bytes[0].lend())
     }),
+    with_map("is_closed", false, |text, lent, _| library::is_closed(text, lent.bytes[0].lend())),
     Call {
         name: "transform_body",
         limit: TEXT_LIMIT,

@@ -3,6 +3,7 @@
 use texts::random::Random;
 
 use crate::bodies;
+use crate::joined;
 use crate::report::{Report, Row};
 use crate::searches;
 use crate::subject::Subject;
@@ -10,7 +11,7 @@ use crate::subject::Subject;
 /// A name, and what is asked about one text.
 type Comparison = (&'static str, fn(&mut Subject, &mut Row));
 
-const COMPARISONS: [Comparison; 10] = [
+const COMPARISONS: [Comparison; 11] = [
     ("regions", searches::regions),
     ("find_keyword", searches::find_keyword),
     ("find_in_code", searches::find_in_code),
@@ -21,6 +22,7 @@ const COMPARISONS: [Comparison; 10] = [
     ("has_unterminated_dollar_quote", searches::unterminated),
     ("has_exception_handler", searches::handler),
     ("transform_body", bodies::transform_body),
+    ("joined", joined::joined),
 ];
 
 /// A report that holds nothing yet.

@@ -43,6 +43,9 @@ extern "C" {
     fn plpgsql_has_exception_handler(
         text: *const u8, text_length: usize, map: *mut u8, map_length: usize, answer: *mut Answer,
     );
+    fn plpgsql_is_closed(
+        text: *const u8, text_length: usize, map: *mut u8, map_length: usize, answer: *mut Answer,
+    );
     fn plpgsql_transform_body(
         text: *const u8, text_length: usize, output: *mut u8, output_length: usize,
         work: *mut u8, work_length: usize, spare: *mut u8, spare_length: usize,
@@ -109,16 +112,16 @@ pub fn has_exception_handler(text: &[u8], map: &mut [u8]) -> Answer {
     answer(|out| unsafe { plpgsql_has_exception_handler(t, text.len(), m, m_length, out) })
 }
 
-pub fn transform_body(
-    text: &[u8],
-    output: &mut [u8],
-    work: &mut [u8],
-    spare: &mut [u8],
-) -> Answer {
+pub fn transform_body(text: &[u8], output: &mut [u8], work: &mut [u8], spare: &mut [u8]) -> Answer {
     let (t, o, o_length) = (text.as_ptr(), output.as_mut_ptr(), output.len());
     let (w, w_length) = (work.as_mut_ptr(), work.len());
     let (s, s_length) = (spare.as_mut_ptr(), spare.len());
     answer(|out| unsafe {
         plpgsql_transform_body(t, text.len(), o, o_length, w, w_length, s, s_length, out)
     })
+}
+
+pub fn is_closed(text: &[u8], map: &mut [u8]) -> Answer {
+    let (t, m, m_length) = (text.as_ptr(), map.as_mut_ptr(), map.len());
+    answer(|out| unsafe { plpgsql_is_closed(t, text.len(), m, m_length, out) })
 }

@@ -4,6 +4,7 @@ mod bodies;
 mod calls;
 mod comparisons;
 mod every;
+mod joined;
 mod lent;
 mod library;
 mod limits;
