@@ -11,6 +11,7 @@ use native.Mathlib.Omega.{arith}
 use denote.Enum.Declared.{tagOf}
 use lib.ListN.{length, take, drop, set, length-append, length-drop, length-reverse, take-append-drop}
 use lib.Seq.{sets, sets-eq, take-at}
+use Rattle.spec.proofs.RefusalBounds.{bytes-length}
 use Rattle.spec.specs.Bytes.{ascii, isIdent, isW}
 use Rattle.spec.specs.Lists.{isEmpty, takeWhile, dropWhile}
 use Rattle.spec.specs.Map.{Marked, mark, marked, live, bytes, lives, ofByte}
@@ -31,7 +32,7 @@ use Rattle.output.proofs.Pass as pass
 use Rattle.output.proofs.StoreLaws.{sets-append}
 use Rattle.targets.specs.Tells.{Tells}
 use Rattle.targets.specs.declared.TargetFound.the-variants as target
-use Rattle.targets.proofs.ByteLaws.{bytes-take, bytes-drop, bytes-length}
+use Rattle.targets.proofs.ByteLaws.{bytes-take, bytes-drop}
 use Rattle.assignments.specs.Written.{answerFrom, LeavesFrom}
 use Rattle.assignments.proofs.SetLaws.{bytes-append}
 

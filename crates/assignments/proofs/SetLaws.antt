@@ -8,6 +8,7 @@ use borrow.Author.Tests.{eq-eqb, ne-eqb}
 use lib.Dec.{eqb}
 use lib.ListN.{length, take, drop, length-append, length-drop}
 use lib.Seq.{sets}
+use Rattle.spec.proofs.RefusalBounds.{bytes-length}
 use Rattle.spec.specs.Bytes.{ascii, isIdent, isW}
 use Rattle.spec.specs.Lists.{isEmpty}
 use Rattle.spec.specs.Map.{Marked, byte, bytes, lives, live, frontLive}
@@ -20,7 +21,7 @@ use Rattle.spec.proofs.MapLaws.{map-append}
 use Rattle.spec.proofs.WalkLaws.{starts-exact}
 use Rattle.output.proofs.StoreLaws.{sets-append}
 use Rattle.scanner.proofs.KeywordLaws.{prefix-by-len}
-use Rattle.targets.proofs.ByteLaws.{empty-length, bytes-take, bytes-drop, bytes-length}
+use Rattle.targets.proofs.ByteLaws.{empty-length, bytes-take, bytes-drop}
 use Rattle.targets.proofs.RunLaws.{longBefore, back-part, back-rest}
 use Rattle.assignments.specs.Written.{setText, Writes}
 

@@ -7,12 +7,13 @@ use native.Mathlib.Omega.{arith}
 use lib.Dec.{eqb·suc-zero}
 use lib.ListN.{length, take, drop, getD, length-reverse}
 use lib.Seq.{take-all}
+use Rattle.spec.proofs.RefusalBounds.{bytes-length}
 use Rattle.spec.specs.Bytes.{isW, isDigit, isIdent}
 use Rattle.spec.specs.Lists.{isEmpty, dropWhile, dropEnd}
 use Rattle.spec.specs.Map.{Marked, bytes, ofByte}
 use Rattle.spec.specs.Assignments.{trimEnd, trim, startsName}
 use Rattle.spec.proofs.Choice.{by}
-use Rattle.targets.proofs.ByteLaws.{empty-length, bytes-take, bytes-drop, bytes-length, front-byte}
+use Rattle.targets.proofs.ByteLaws.{empty-length, bytes-take, bytes-drop, front-byte}
 use Rattle.targets.proofs.RunLaws.{endFrom, longBefore, run-rest, back-rest}
 
 module _ {A : Type 0} (f : A → Bool) where

@@ -20,7 +20,8 @@ use Rattle.declared_parts.proofs.SizeLaws.{packed-part}
 use Rattle.declared_records.specs.Held.{recordIn, recordsFrom, Gathered}
 use Rattle.declarations.specs.Records.{recordsOfSection, nextNumber, Linked, otherNumbers, finalNumbers, Holds, parsedOf}
 use Rattle.declarations.specs.declared.Parsed.the-variants.{Count, TooManyNames}
-use Rattle.declared_records.proofs.HeldLaws.{sets-behind, sets-drop, sets-front, record-other, from-same, from-length}
+use Rattle.output.proofs.StoreLaws.{front-stored}
+use Rattle.declared_records.proofs.HeldLaws.{sets-behind, sets-drop, record-other, from-same, from-length}
 
 -- ---- the texts are at most twice as long as the section
 
@@ -134,8 +135,8 @@ module _ (xs : List ℕ) (t : List Marked) (count : ℕ) (low : count ≤ 512) (
         record {
           accepted = λ _. record {
             texts = p₁;
-            front = rw p₁ (sets-front (packed ds) out (omega (arith, packed-small t)));
-            numbers = rw (stored rs₄ q) (sets-front (numbersOf ds) rs₂ (omega (arith, n, count-length)));
+            front = rw p₁ (front-stored out _ (packed ds) _ refl (omega (arith, packed-small t)) refl);
+            numbers = rw (stored rs₄ q) (front-stored rs₂ _ (numbersOf ds) _ refl (omega (arith, n, count-length)) refl);
           };
           refused = λ h. absurd (omega (arith, count-length));
           behind = rw (stored rs₄ q) (sets-drop (numbersOf ds) rs₂ 0 4104 (omega (arith, n, count-length))) ∙ (l .behind ∙ b);

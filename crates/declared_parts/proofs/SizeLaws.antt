@@ -8,6 +8,7 @@ use native.Mathlib.Omega.{arith}
 use lib.Dec.{eqb}
 use lib.ListN.{length, take, drop, length-append, length-drop, length-map}
 use lib.Seq.{length-take-le}
+use Rattle.spec.proofs.RefusalBounds.{bytes-length}
 use Rattle.output.proofs.StoreLaws.{long-quoted, doubled-le}
 use Rattle.spec.proofs.Apart.{apart}
 use Rattle.spec.proofs.Choice.{by, cond-case}
@@ -40,10 +41,6 @@ requoted-le xs =
       length-take-le (length xs - n - n) (drop n xs) (omega (arith, length-drop n xs)),
     ))
     (λ e. omega (arith, ap length (other-text xs n refl e)))
-
-bytes-length : (t : List Marked) → length (bytes t) ≡ length t
-unfolding bytes
-bytes-length t = length-map t byte
 
 value-le : (p : ℕ) (t : List Marked) → length (textOr (valueOf p (bytes t))) ≤ 2 * length t
 value-le p t =

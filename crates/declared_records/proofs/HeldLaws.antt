@@ -8,7 +8,7 @@ use borrow.Author.Tests.{ltb-true, ltb-false}
 use lib.Dec.{ltb}
 use Rattle.spec.proofs.Choice.{by}
 use lib.ListN.{length, getD, take, drop, set}
-use lib.Seq.{sets, sets-eq, getD-set-other, getD-drop, length-take-le, drop-at, take-at, drop-set-lt}
+use lib.Seq.{sets, sets-eq, getD-set-other, getD-drop, length-take-le, drop-at, drop-set-lt}
 use Rattle.declared_parts.specs.Parts.{defaultBy, declaredBy, partNumbers}
 use Rattle.declared_parts.specs.declared.Part.{Part}
 use Rattle.spec.specs.Declarations.{Declared}
@@ -38,12 +38,6 @@ sets-there vs l i h =
     assoc : (a b c : List ℕ) → (a ++ b) ++ c ≡ a ++ (b ++ c)
     assoc [] b c = refl
     assoc (x ∷ a) b c = ap (λ t. x ∷ t) (assoc a b c)
-
--- what stands in front of a list after stores from 0 on
-pub sets-front : (vs l : List ℕ) → length vs ≤ length l → take (length vs) (sets l 0 vs) ≡ vs
-sets-front vs l h =
-    let e : drop 0 (sets l 0 vs) ≡ vs ++ drop (0 + length vs) l = sets-there vs l 0 (omega arith) in
-    ap (take (length vs)) e ∙ take-at vs (drop (0 + length vs) l) (length vs) refl
 
 -- numbers that agree in the eight places declare the same
 pub declared-same : (xs ns ms : List ℕ) → ((i : ℕ) → 0 < i → i < 8 → getD ns i 0 ≡ getD ms i 0) → declaredBy xs ns ≡ declaredBy xs ms

@@ -8,6 +8,7 @@ use borrow.Author.Tests.{lt-leb, le-leb, leb-true, leb-false}
 use lib.Dec.{eqb, leb}
 use lib.ListN.{length, take, drop, getD, length-map, length-drop}
 use lib.Seq.{take-suc, take-take, drop-drop}
+use Rattle.spec.proofs.RefusalBounds.{bytes-length}
 use Rattle.spec.proofs.Choice.{by, and-right}
 use Rattle.spec.proofs.WalkLaws.{map-take, prefixBy, while-drop, while-length, while-length-end, while-length-hit, while-length-miss}
 use Rattle.spec.specs.Bytes.{isW}
@@ -127,10 +128,6 @@ prefix-within f (a ∷ w) [] h = absurd (false≢true h)
 prefix-within f (a ∷ w) (x ∷ xs) h = suc-le-suc (prefix-within f w xs (and-right (eqb (f x) (f a)) (prefixBy f w xs) h))
 
 -- ---- a marked text and its bytes
-
-pub bytes-length : (t : List Marked) → length (bytes t) ≡ length t
-unfolding bytes
-bytes-length t = length-map t byte
 
 pub bytes-lives : (xs : List ℕ) → bytes (lives xs) ≡ xs
 unfolding bytes lives

@@ -8,7 +8,7 @@ use native.Mathlib.Omega.{arith}
 use borrow.Author.Tests.{eq-eqb, ne-eqb}
 use lib.Dec.{eqb}
 use lib.ListN.{length, length-append, take, drop, getD, set, replicate, drop-of-length-le, length-set}
-use lib.Seq.{sets, set-out, sets-eq, take-append-seam}
+use lib.Seq.{sets, set-out, sets-eq, take-at}
 use Rattle.spec.proofs.AheadLaws.{drop-one}
 use Rattle.spec.proofs.Choice.{cond-case}
 use Rattle.spec.specs.Requote.{doubled, singleQuoted}
@@ -96,6 +96,8 @@ doubled-le [] = omega arith
 doubled-le (c ∷ cs) =
     cond-case (λ (l : List ℕ). length l ≤ 2 * suc (length cs)) (eqb c 39) _ _ (λ _. omega (arith, doubled-le cs)) (λ _. omega (arith, doubled-le cs))
 
--- a whole result that fits stands in front
-pub front-stored : (d vs : List ℕ) → length vs ≤ length d → take (length vs) (sets d 0 vs) ≡ vs
-front-stored d vs h = ap (take (length vs)) (sets-eq vs d 0 (omega arith)) ∙ take-append-seam vs _
+-- what is stored at the front of a buffer that is long enough stands there
+pub front-stored : (d d′ c : List ℕ) (n : ℕ) → length c ≡ n → n ≤ length d → d′ ≡ sets d 0 c → take n d′ ≡ c
+front-stored d d′ c n e h p =
+    let k : 0 + length c ≤ length d = omega arith in
+    ap (take n) (p ∙ sets-eq c d 0 k) ∙ take-at c (drop (0 + length c) d) n e

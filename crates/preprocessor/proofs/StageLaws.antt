@@ -8,6 +8,7 @@ use borrow.Author.Tests.{ltb-true, ltb-false, leb-true, leb-false, lt-ltb, le-lt
 use lib.Dec.{leb, ltb}
 use lib.ListN.{length, take, drop, length-take, length-map}
 use lib.Seq.{sets, take-at, take-all, take-length, length-take-le}
+use Rattle.spec.proofs.RefusalBounds.{bytes-length}
 use Rattle.spec.proofs.Choice.{by, cond-case}
 use Rattle.spec.proofs.Apart.{apart}
 use Rattle.spec.proofs.LengthLaws.{requoted-length, two-length, limited-same, three-fits, five-passes}
@@ -38,13 +39,7 @@ front-map xs m d e = ap (marked xs) (ap (take (length xs)) e ∙ take-at (mapOf 
 
 -- bytes copied to the front
 pub front-copied : (d d′ f : List ℕ) (k : ℕ) → k ≤ length d → k ≤ length f → d′ ≡ sets d 0 (take k f) → take k d′ ≡ take k f
-front-copied d d′ f k a b e =
-    let n = length-take-le k f b in
-    ap (take k) e ∙ (ap (λ (m : ℕ). take m (sets d 0 (take k f))) (sym n) ∙ front-stored d (take k f) (omega (arith, n)))
-
-bytes-length : (t : List Marked) → length (bytes t) ≡ length t
-unfolding bytes
-bytes-length t = length-map t byte
+front-copied d d′ f k a b e = front-stored d d′ (take k f) k (length-take-le k f b) a e
 
 -- an outcome's end: the answer, how many bytes it holds, and those bytes
 pub end-answer : (o : Outcome) → finished (passAnswer o) ≡ resultOf [] (limited (forget o)) .answer
@@ -76,7 +71,7 @@ end-held (done t) d e l h =
     let n = bytes-length t in
     by (ltb 65536 (length t))
     (λ q. rw (n, q) refl)
-    (λ q. rw (n, q) (ap (take (length t)) l ∙ (ap (λ (k : ℕ). take k (sets d 0 (bytes t))) (sym n) ∙ front-stored d (bytes t) (omega (arith, n, ltb-false 65536 (length t) q)))))
+    (λ q. rw (n, q) (front-stored d e (bytes t) (length t) n (omega (arith, ltb-false 65536 (length t) q)) l))
 end-held (qualified q n) d e l h = l
 end-held (clause c) d e l h = l
 
@@ -159,7 +154,7 @@ assign-done g d e out r (done t) k a l h long fits =
     (λ q. record { answered = long (omega (arith, ltb-true 65536 (length t) q)) ∙ rw (n, q) refl; held = rw (n, q) refl })
     (λ q.
     let m : length t ≤ 65536 = ltb-false 65536 (length t) q in
-    let w : take k e ≡ bytes t = ap (λ (i : ℕ). take i e) (sym j ∙ sym n) ∙ (ap (take (length (bytes t))) l ∙ front-stored d (bytes t) (omega (arith, n))) in
+    let w : take k e ≡ bytes t = front-stored d e (bytes t) k (n ∙ j) (omega arith) l in
     rw (n, q) (rw w at (fits (omega arith))))
 assign-done g d e out r (qualified p n) k a l h long fits = absurd (apart (cc))
 assign-done g d e out r (clause c) k a l h long fits = absurd (apart (cc))
@@ -174,10 +169,6 @@ five xs out r h g =
     let s : limited a ≡ a = limited-same a (λ zs e. three-fits xs zs h e) in
     rw (five-passes xs h, ← s) g
 
--- a result stored in front of a buffer is read again as long as it is
-pub stored-front : (d e xs : List ℕ) (k : ℕ) → k ≡ length xs → length xs ≤ length d → e ≡ sets d 0 xs → take k e ≡ xs
-stored-front d e xs k a h s = ap (λ (i : ℕ). take i e) a ∙ (ap (take (length xs)) s ∙ front-stored d xs h)
-
 -- pass 4's result fits, stands in front, and pass 5 follows
 pub select-goes : (ys d e out : List ℕ) (k : ℕ) (r : Rewritten)
     → k ≡ counted (length (bytes (selectInto (quoteWalk 0 ys)))) → k ≤ 65536
@@ -187,17 +178,17 @@ pub select-goes : (ys d e out : List ℕ) (k : ℕ) (r : Rewritten)
 select-goes ys d e out k r a b s h g =
     let m = length (bytes (selectInto (quoteWalk 0 ys))) in
     let f = counted-fits m (rw (← a) b) in
-    select-then ys out r (f .0) (rw (stored-front d e (bytes (selectInto (quoteWalk 0 ys))) k (a ∙ f .1) (omega (arith, f .0)) (s (f .0))) at g)
+    select-then ys out r (f .0) (rw (front-stored d e (bytes (selectInto (quoteWalk 0 ys))) k (sym (a ∙ f .1)) (omega (arith, b)) (s (f .0))) at g)
 
 -- the first two passes' results fit, and stand where the third reads
 pub one-goes : (xs d e : List ℕ) (k : ℕ) → length xs ≤ 16384 → k ≡ length (requoted xs) → length d ≡ 65536 → e ≡ sets d 0 (requoted xs) → (k ≤ 65536) × (take k e ≡ requoted xs)
 one-goes xs d e k h a l s =
     let m = requoted-length xs in
-    (omega (arith, m, a), stored-front d e (requoted xs) k a (omega (arith, m)) s)
+    (omega (arith, m, a), front-stored d e (requoted xs) k (sym a) (omega (arith, m, a)) s)
 
 pub two-goes : (xs d e ys out : List ℕ) (n : ℕ) (r : Rewritten) → length xs ≤ 16384 → ys ≡ requoted xs → n ≡ length (bytes (elsif (markedText ys))) → length d ≡ 65536
     → e ≡ sets d 0 (bytes (elsif (markedText ys)))
     → Gives (resultOf [] (andThen (andThen (limited (assignPass (take n e))) selectPass) raisePass)) r out → Gives (resultOf [] (rewriting xs)) r out
 two-goes xs d e ys out n r h y a l s g =
-    let q : take n e ≡ bytes (elsif (markedText (requoted xs))) = rw (← y) (stored-front d e (bytes (elsif (markedText ys))) n a (omega (arith, rw (← y) at (two-length xs))) s) in
+    let q : take n e ≡ bytes (elsif (markedText (requoted xs))) = rw (← y) (front-stored d e (bytes (elsif (markedText ys))) n (sym a) (omega (arith, a, rw (← y) at (two-length xs))) s) in
     five xs out r h (rw q at g)

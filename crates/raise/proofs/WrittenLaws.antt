@@ -4,7 +4,7 @@ use mathlib.Core.List.{List, _++_}
 use Prim.Native.Nat.{ℕ, _+_, _-_, _*_, _≤_}
 use native.Mathlib.Omega.{arith}
 use lib.ListN.{length, take, drop, length-append, length-take}
-use lib.Seq.{sets, sets-eq, take-at}
+use lib.Seq.{sets}
 use Rattle.spec.specs.Bytes.{ascii}
 use Rattle.messages.specs.Readings.{aborting, FateWithin}
 use Rattle.messages.specs.declared.RaiseFate.{RaiseFate}
@@ -38,9 +38,3 @@ written-le (Rewritten s l) n xs h = omega (arith, aborting-length (take l (drop 
 written-le Dropped n xs h = omega arith
 written-le Passed n xs h = omega (arith, length-take n xs)
 written-le (Refused s l) n xs h = omega arith
-
--- what is stored at the front of a list that is long enough stands there
-pub front-stored : (d d′ c : List ℕ) (n : ℕ) → length c ≡ n → n ≤ length d → d′ ≡ sets d 0 c → take n d′ ≡ c
-front-stored d d′ c n e h p =
-    let k : 0 + length c ≤ length d = omega arith in
-    ap (take n) (p ∙ sets-eq c d 0 k) ∙ take-at c (drop (0 + length c) d) n e

@@ -56,11 +56,6 @@ pub bytes-reverse : (t : List Marked) → bytes (reverse t) ≡ reverse (bytes t
 unfolding bytes
 bytes-reverse t = map-reverse-onto byte t []
 
-pub bytes-length : (t : List Marked) → length (bytes t) ≡ length t
-unfolding bytes
-bytes-length [] = refl
-bytes-length (x ∷ t) = ap suc (bytes-length t)
-
 -- the byte in front, at i, and before i
 pub front-byte : (t : List Marked) → frontByte t ≡ getD (bytes t) 0 0
 unfolding frontByte bytes

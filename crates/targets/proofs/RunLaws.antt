@@ -6,10 +6,11 @@ use Prim.Native.Nat.{ℕ, _+_, _-_, _≤_, _<_}
 use native.Mathlib.Omega.{arith}
 use lib.ListN.{length, take, drop, getD, length-drop}
 use lib.Seq.{drop-drop}
+use Rattle.spec.proofs.RefusalBounds.{bytes-length}
 use Rattle.spec.specs.Lists.{takeWhile, dropWhile}
 use Rattle.spec.specs.Map.{Marked, bytes, ofByte}
 use Rattle.spec.proofs.WalkLaws.{back-step, while-take, while-drop, while-length, while-length-end, while-length-hit, while-length-miss}
-use Rattle.targets.proofs.ByteLaws.{back-take, back-drop, bytes-take, bytes-drop, bytes-reverse, bytes-length, while-bytes}
+use Rattle.targets.proofs.ByteLaws.{back-take, back-drop, bytes-take, bytes-drop, bytes-reverse, while-bytes}
 
 -- ---- one step of each loop
 

@@ -2,13 +2,13 @@ use native.Mathlib.Omega.{arith}
 use mathlib.Core.List.{_∷_, _++_}
 use lib.ListN.{length, take, drop, length-append, length-drop}
 use lib.Seq.{length-take-le}
+use Rattle.spec.proofs.RefusalBounds.{bytes-length}
 use Rattle.spec.specs.Map.{marked}
 use Rattle.spec.specs.Assignments.{statementTarget, assignment}
 use Rattle.spec.proofs.MapLaws.{marked-length}
 use Rattle.output.specs.declared.Pass.the-variants.{Done}
 use Rattle.targets.specs.Tells.{Tells}
 use Rattle.targets.specs.declared.TargetFound.the-variants as target
-use Rattle.targets.proofs.ByteLaws.{bytes-length}
 use Rattle.assignments.proofs.RestLaws.{told-qualified, told-none}
 use mathlib.Core.Path.{_≡_, ap, _∙_}
 use Prim.Native.Nat.{ℕ, _+_, _-_}

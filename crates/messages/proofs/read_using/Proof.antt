@@ -4,6 +4,7 @@ use mathlib.Core.List.{List}
 use Prim.Native.Nat.{ℕ, _≤_, _<_, _+_, _-_}
 use lib.ListN.{length, take, drop, length-drop}
 use borrow.Author.Tests.{eq-eqb, ne-eqb}
+use Rattle.spec.proofs.RefusalBounds.{bytes-length}
 use Rattle.spec.specs.Bytes.{ascii, upper, isW}
 use Rattle.spec.specs.Map.{Marked, bytes, lives}
 use Rattle.spec.specs.Body.{accepted}
@@ -12,7 +13,7 @@ use Rattle.spec.proofs.AheadLaws.{rest-of}
 use Rattle.spec.proofs.SpanLaws.{seen}
 use Rattle.spec.proofs.WalkLaws.{prefixBy}
 use Rattle.messages.specs.Readings.{aborting}
-use Rattle.messages.proofs.TextLaws.{run-within, run-le, bytes-lives, bytes-drop, bytes-length}
+use Rattle.messages.proofs.TextLaws.{run-within, run-le, bytes-lives, bytes-drop}
 use Rattle.messages.proofs.MessageLaws.{message-le}
 use Rattle.messages.proofs.UsingLaws.{no-message, no-equals, no-quote, more-behind, only-message, quote-front}
 use borrow.Author.Needs.{needs}

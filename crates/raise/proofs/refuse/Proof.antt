@@ -4,7 +4,7 @@ use Prim.Native.Nat.{_+_, _-_}
 use lib.ListN.{length, take, drop, length-drop}
 use lib.Seq.{sets, length-take-le}
 use Rattle.output.specs.declared.Pass.the-variants.{Clause}
-use Rattle.raise.proofs.WrittenLaws.{front-stored}
+use Rattle.output.proofs.StoreLaws.{front-stored}
 use borrow.Author.Needs.{needs}
 use Rattle.raise.proofs.refuse.Statement.{statement}
 use Rattle.raise.proofs.refuse.Tie as tie
