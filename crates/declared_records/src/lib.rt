@@ -7,8 +7,8 @@ use scanner::find_byte_in;
 use spec::Found;
 ghost use mathlib.Core.Path.{_≡_};
 ghost use mathlib.Core.List.{_∷_, []};
-ghost use Prim.Native.Nat.{_*_, _^_, _≤_, _<_};
-ghost use lib.ListN.{length, getD, drop};
+ghost use Prim.Native.Nat.{_-_, _*_, _^_, _≤_, _<_};
+ghost use lib.ListN.{length, getD, drop, replicate};
 ghost use lib.Seq.{sets};
 ghost use Rattle.spec.specs.Map.{marked};
 ghost use Rattle.declared_parts.specs.Parts.{Within, partNumbers};
@@ -62,6 +62,21 @@ pub fn put_numbers(
     records[at + 5] = present;
     records[at + 6] = value;
     records[at + 7] = value_len;
+}
+
+// Zeros in place of the numbers from `from` up to `to`, as far as the buffer reaches.
+pub fn clear(records: &mut [u32], from: usize, to: usize)
+    ensures { λ _. ⌜ now (records .exit) ≡ sets (now (records .entry)) from (replicate (to - from) 0) ⌝ }
+{
+    let mut i = from;
+    while i < to {
+        if i < records.len() {
+            records[i] = 0;
+            i += 1;
+        } else {
+            return;
+        }
+    }
 }
 
 // The places of a part as record k.

@@ -1,5 +1,6 @@
 // The C interface. A slice is a pointer and a length. Each function's last parameter takes four numbers: for a search its
-// number, the found flag, the place, and the length of what was found or written.
+// number, the found flag, the place, and the length of what was found or written; for a call its number, the place, the
+// output length and the number of records.
 use spec::Filled;
 use spec::Refusal;
 use spec::Rewritten;
@@ -7,7 +8,7 @@ use spec::Search;
 ghost use mathlib.Core.Path.{_≡_};
 ghost use mathlib.Core.List.{[], _∷_};
 ghost use lib.ListN.{length, getD};
-ghost use Rattle.spec.specs.Answers.{mapExit, regionsAnswer, keywordAnswer, byteAnswer, needleAnswer, wordAnswer, wordPart, searchNumbers, handlerAnswer, unterminatedAnswer, splitAnswer, splitMapExit, splitExit, requoteAnswer, requoteExit, refusalNumber, refusalPlace, bodyCheck, bodyAnswer, bodyOutput, workExit};
+ghost use Rattle.spec.specs.Answers.{mapExit, regionsAnswer, keywordAnswer, byteAnswer, needleAnswer, wordAnswer, wordPart, searchNumbers, handlerAnswer, unterminatedAnswer, splitAnswer, splitMapExit, splitExit, requoteAnswer, requoteExit, refusalNumber, refusalPlace, bodyCheck, bodyAnswer, bodyOutput, workExit, functionCheck, functionAnswer, functionOutput, functionText, functionRecords};
 ghost use Rattle.closed.specs.Answer.{closedAnswer};
 ghost use Rattle.plpgsql_rewriter.specs.Four.{narrow, four, fourFound, fourFilled, fourCalled};
 
@@ -231,6 +232,27 @@ pub extern "C" fn plpgsql_transform_body(
     ensures { λ _. ⌜ now (answer .exit) ≡ fourCalled (bodyAnswer (now (text .entry)) (now (output .entry)) (now (work .entry)) (now (spare .entry))) ⌝ }
 {
     let r = preprocessor::transform_body(text, output, work, spare);
+    put_called(answer, r);
+}
+
+#[no_mangle]
+pub extern "C" fn plpgsql_preprocess(
+    text: &[u8],
+    output: &mut [u8],
+    work: &mut [u8],
+    spare: &mut [u8],
+    declared: &mut [u8],
+    records: &mut [u32],
+    answer: &mut [u32; 4],
+)
+    ensures { λ _. ⌜ now (output .exit) ≡ functionOutput (now (text .entry)) (now (output .entry)) (now (work .entry)) (now (spare .entry)) (now (declared .entry)) (now (records .entry)) ⌝ }
+    ensures { λ _. ⌜ now (work .exit) ≡ workExit (functionCheck (now (text .entry)) (now (output .entry)) (now (work .entry)) (now (spare .entry)) (now (declared .entry)) (now (records .entry))) (now (work .entry)) ⌝ }
+    ensures { λ _. ⌜ now (spare .exit) ≡ workExit (functionCheck (now (text .entry)) (now (output .entry)) (now (work .entry)) (now (spare .entry)) (now (declared .entry)) (now (records .entry))) (now (spare .entry)) ⌝ }
+    ensures { λ _. ⌜ now (declared .exit) ≡ functionText (now (text .entry)) (now (output .entry)) (now (work .entry)) (now (spare .entry)) (now (declared .entry)) (now (records .entry)) ⌝ }
+    ensures { λ _. ⌜ now (records .exit) ≡ functionRecords (now (text .entry)) (now (output .entry)) (now (work .entry)) (now (spare .entry)) (now (declared .entry)) (now (records .entry)) ⌝ }
+    ensures { λ _. ⌜ now (answer .exit) ≡ fourCalled (functionAnswer (now (text .entry)) (now (output .entry)) (now (work .entry)) (now (spare .entry)) (now (declared .entry)) (now (records .entry))) ⌝ }
+{
+    let r = preprocessor::preprocess(text, output, work, spare, declared, records);
     put_called(answer, r);
 }
 

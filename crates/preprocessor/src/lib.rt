@@ -1,231 +1,32 @@
 // The two rewriting calls.
-use assignments::transform_assignments;
 use checks::check_texts;
-use elsif::transform_elsif;
-use output::Pass;
+use declarations::Parsed;
+use declarations::body_start;
+use declarations::parse_declarations;
+use declared_records::clear;
 use output::fill;
-use output::put_all;
-use quotes::map_quotes;
-use raise::transform_raise_statements;
-use requote::requote;
+use passes::run_body;
 use scanner::map_text;
-use select_into::transform_select_into;
 use spec::Check;
 use spec::Rewritten;
 ghost use mathlib.Core.Path.{_≡_};
 ghost use mathlib.Core.Bool.{_&&_};
-ghost use mathlib.Core.List.{[], _++_};
-ghost use Prim.Native.Nat.{_-_, _≤_, _<_};
+ghost use mathlib.Core.List.{[]};
+ghost use Prim.Native.Nat.{_≤_};
 ghost use lib.Dec.{leb};
-ghost use lib.ListN.{length, take, replicate};
-ghost use Rattle.spec.specs.Body.{assignPass, selectPass, raisePass, limited, andThen, rewriting};
-ghost use Rattle.spec.specs.Answers.{resultOf, bodyResult, zeroedTo, callNumbers, bodyCheck, bodyAnswer, bodyOutput, workExit};
-ghost use Rattle.spec.specs.declared.Rewritten.the-variants.{Accepted, QualifiedTarget, UsingClause, ResultTooLong};
-ghost use Rattle.output.specs.declared.Pass.the-variants.{Done};
-ghost use Rattle.preprocessor.specs.Gives.{Gives, finished, heldBy};
-ghost use lib.Seq.{sets};
-ghost use Rattle.spec.specs.Map.{markedText, bytes};
-ghost use Rattle.spec.specs.Elsif.{elsif};
-ghost use Rattle.spec.specs.SelectInto.{quoteWalk, selectInto};
-ghost use Rattle.spec.specs.Assignments.{assignments};
-ghost use Rattle.spec.specs.Raise.{raise};
-ghost use Rattle.output.specs.Passes.{passAnswer, Leaves};
-ghost use Rattle.set_lines.specs.Writes.{counted};
+ghost use lib.ListN.{length};
+ghost use Rattle.spec.specs.Answers.{zeroedTo, functionResult, bodyCheck, bodyAnswer, bodyOutput, workExit, functionCheck, functionAnswer, functionOutput, functionText, functionRecords};
+ghost use Rattle.spec.specs.declared.Rewritten.the-variants.{TooManyNames};
+ghost use Rattle.preprocessor.specs.Records.{withRecords, ifAccepted};
 
 // The most bytes that a call's text may have.
 const TEXT_LIMIT: usize = 16384;
 
-// What is lent for the output, and for each work buffer.
+// What is lent for the output, for each work buffer and for the declarations' text.
 const BUFFER_SIZE: usize = 65536;
 
-// The k bytes at the front of `from` go to the front of `out`.
-fn copy_front(out: &mut [u8], from: &[u8], k: usize)
-    requires { ⌜ length (now out) ≡ 65536 ⌝ }
-    requires { ⌜ length (now from) ≡ 65536 ⌝ }
-    requires { ⌜ k ≤ 65536 ⌝ }
-    ensures { λ _. ⌜ take k (now (out .exit)) ≡ take k (now (from .entry)) ⌝ }
-{
-    put_all(out, 0, &from[..k]);
-}
-
-// The call's answer where the passes end in p, whose bytes stand in `from`.
-fn finish(out: &mut [u8], from: &[u8], p: Pass) -> Rewritten
-    requires { ⌜ length (now out) ≡ 65536 ⌝ }
-    requires { ⌜ length (now from) ≡ 65536 ⌝ }
-    requires { ⌜ heldBy p ≤ 65536 ⌝ }
-    ensures { λ r. ⌜ r ≡ finished p ⌝ }
-    ensures { λ _. ⌜ take (heldBy p) (now (out .exit)) ≡ take (heldBy p) (now (from .entry)) ⌝ }
-{
-    match p {
-        Pass::Done(k) => finish_done(out, from, k),
-        Pass::Qualified(q, k) => finish_qualified(out, from, q, k),
-        Pass::Clause(k) => finish_clause(out, from, k),
-    }
-}
-
-// Accepted, or refusal 6.
-fn finish_done(out: &mut [u8], from: &[u8], k: usize) -> Rewritten
-    requires { ⌜ length (now out) ≡ 65536 ⌝ }
-    requires { ⌜ length (now from) ≡ 65536 ⌝ }
-    ensures { λ r. ⌜ r ≡ finished (Done k) ⌝ }
-    ensures { λ _. ⌜ take (heldBy (Done k)) (now (out .exit)) ≡ take (heldBy (Done k)) (now (from .entry)) ⌝ }
-{
-    if 65536 < k {
-        return Rewritten::ResultTooLong;
-    }
-    copy_front(out, from, k);
-    Rewritten::Accepted {
-        length: k,
-        records: 0,
-    }
-}
-
-// Refusal 4.
-fn finish_qualified(out: &mut [u8], from: &[u8], q: usize, k: usize) -> Rewritten
-    requires { ⌜ length (now out) ≡ 65536 ⌝ }
-    requires { ⌜ length (now from) ≡ 65536 ⌝ }
-    requires { ⌜ k ≤ 65536 ⌝ }
-    ensures { λ r. ⌜ r ≡ QualifiedTarget q k ⌝ }
-    ensures { λ _. ⌜ take k (now (out .exit)) ≡ take k (now (from .entry)) ⌝ }
-{
-    copy_front(out, from, k);
-    Rewritten::QualifiedTarget {
-        qualifier: q,
-        length: k,
-    }
-}
-
-// Refusal 5.
-fn finish_clause(out: &mut [u8], from: &[u8], k: usize) -> Rewritten
-    requires { ⌜ length (now out) ≡ 65536 ⌝ }
-    requires { ⌜ length (now from) ≡ 65536 ⌝ }
-    requires { ⌜ k ≤ 65536 ⌝ }
-    ensures { λ r. ⌜ r ≡ UsingClause k ⌝ }
-    ensures { λ _. ⌜ take k (now (out .exit)) ≡ take k (now (from .entry)) ⌝ }
-{
-    copy_front(out, from, k);
-    Rewritten::UsingClause { length: k }
-}
-
-// Pass 2 of a text; `map` takes its map.
-fn elsif_pass(text: &[u8], map: &mut [u8], out: &mut [u8]) -> usize
-    requires { ⌜ length (now text) ≤ 65536 ⌝ }
-    requires { ⌜ length (now text) ≤ length (now map) ⌝ }
-    ensures { λ r. ⌜ r ≡ length (bytes (elsif (markedText (now (text .entry))))) ⌝ }
-    ensures { λ _. ⌜ now (out .exit) ≡ sets (now (out .entry)) 0 (bytes (elsif (markedText (now (text .entry))))) ⌝ }
-{
-    let n = text.len();
-    map_text(text, map);
-    transform_elsif(text, &map[..n], out)
-}
-
-// Pass 3 of a text; `map` takes its map.
-fn assign_pass(text: &[u8], map: &mut [u8], out: &mut [u8]) -> Pass
-    requires { ⌜ length (now text) ≤ 65536 ⌝ }
-    requires { ⌜ length (now text) ≤ length (now map) ⌝ }
-    requires { ⌜ length (now text) ≤ length (now out) ⌝ }
-    ensures { λ r. ⌜ r ≡ passAnswer (assignments (markedText (now (text .entry)))) ⌝ }
-    ensures { λ _. ⌜ Leaves (assignments (markedText (now (text .entry)))) (now (out .entry)) (now (out .exit)) ⌝ }
-{
-    let n = text.len();
-    map_text(text, map);
-    transform_assignments(text, &map[..n], out)
-}
-
-// Pass 4 of a text; `map` takes its map of quotes.
-fn select_pass(text: &[u8], map: &mut [u8], out: &mut [u8]) -> usize
-    requires { ⌜ length (now text) ≤ 65536 ⌝ }
-    requires { ⌜ length (now text) ≤ length (now map) ⌝ }
-    ensures { λ r. ⌜ r ≡ counted (length (bytes (selectInto (quoteWalk 0 (now (text .entry)))))) ⌝ }
-    ensures { λ r. ⌜ (length (bytes (selectInto (quoteWalk 0 (now (text .entry))))) ≤ 65536 → now (out .exit) ≡ sets (now (out .entry)) 0 (bytes (selectInto (quoteWalk 0 (now (text .entry)))))) ⌝ }
-{
-    let n = text.len();
-    map_quotes(text, map);
-    transform_select_into(text, &map[..n], out)
-}
-
-// Pass 5 of a text; `map` takes its map.
-fn raise_pass(text: &[u8], map: &mut [u8], out: &mut [u8]) -> Pass
-    requires { ⌜ length (now text) ≤ 65536 ⌝ }
-    requires { ⌜ length (now text) ≤ length (now map) ⌝ }
-    requires { ⌜ length (now text) ≤ length (now out) ⌝ }
-    ensures { λ r. ⌜ r ≡ passAnswer (raise (markedText (now (text .entry)))) ⌝ }
-    ensures { λ _. ⌜ Leaves (raise (markedText (now (text .entry)))) (now (out .entry)) (now (out .exit)) ⌝ }
-{
-    let n = text.len();
-    map_text(text, map);
-    transform_raise_statements(text, &map[..n], out)
-}
-
-// Pass 5 over the n bytes in `out`, and what the call gives then; `b` takes the pass's result.
-fn raise_stage(out: &mut [u8], a: &mut [u8], b: &mut [u8], n: usize) -> Rewritten
-    requires { ⌜ length (now out) ≡ 65536 ⌝ }
-    requires { ⌜ length (now a) ≡ 65536 ⌝ }
-    requires { ⌜ length (now b) ≡ 65536 ⌝ }
-    requires { ⌜ n ≤ 65536 ⌝ }
-    ensures { λ r. ⌜ Gives (resultOf [] (limited (raisePass (take n (now (out .entry)))))) r (now (out .exit)) ⌝ }
-{
-    let p = raise_pass(&out[..n], a, b);
-    finish(out, b, p)
-}
-
-// Pass 4 over the n bytes in `b`, and what follows; `out` takes the pass's result.
-fn select_stage(out: &mut [u8], a: &mut [u8], b: &mut [u8], n: usize) -> Rewritten
-    requires { ⌜ length (now out) ≡ 65536 ⌝ }
-    requires { ⌜ length (now a) ≡ 65536 ⌝ }
-    requires { ⌜ length (now b) ≡ 65536 ⌝ }
-    requires { ⌜ n ≤ 65536 ⌝ }
-    ensures { λ r. ⌜ Gives (resultOf [] (andThen (limited (selectPass (take n (now (b .entry))))) raisePass)) r (now (out .exit)) ⌝ }
-{
-    let k = select_pass(&b[..n], a, out);
-    if 65536 < k {
-        return Rewritten::ResultTooLong;
-    }
-    raise_stage(out, a, b, k)
-}
-
-// Pass 3 over the n bytes in `out`, and what follows; `b` takes the pass's result.
-fn assign_stage(out: &mut [u8], a: &mut [u8], b: &mut [u8], n: usize) -> Rewritten
-    requires { ⌜ length (now out) ≡ 65536 ⌝ }
-    requires { ⌜ length (now a) ≡ 65536 ⌝ }
-    requires { ⌜ length (now b) ≡ 65536 ⌝ }
-    requires { ⌜ n ≤ 65536 ⌝ }
-    ensures { λ r. ⌜ Gives (resultOf [] (andThen (andThen (limited (assignPass (take n (now (out .entry))))) selectPass) raisePass)) r (now (out .exit)) ⌝ }
-{
-    let p = assign_pass(&out[..n], a, b);
-    match p {
-        Pass::Done(k) => select_if_fits(out, a, b, k),
-        Pass::Qualified(q, k) => finish_qualified(out, b, q, k),
-        Pass::Clause(k) => finish_clause(out, b, k),
-    }
-}
-
-// Pass 4 over the k bytes of pass 3's result, or refusal 6 if there are too many.
-fn select_if_fits(out: &mut [u8], a: &mut [u8], b: &mut [u8], k: usize) -> Rewritten
-    requires { ⌜ length (now out) ≡ 65536 ⌝ }
-    requires { ⌜ length (now a) ≡ 65536 ⌝ }
-    requires { ⌜ length (now b) ≡ 65536 ⌝ }
-    ensures { λ r. ⌜ (65536 < k → r ≡ ResultTooLong) ⌝ }
-    ensures { λ r. ⌜ (k ≤ 65536 → Gives (resultOf [] (andThen (limited (selectPass (take k (now (b .entry))))) raisePass)) r (now (out .exit))) ⌝ }
-{
-    if 65536 < k {
-        return Rewritten::ResultTooLong;
-    }
-    select_stage(out, a, b, k)
-}
-
-// All five passes over the text.
-fn run_passes(text: &[u8], out: &mut [u8], a: &mut [u8], b: &mut [u8]) -> Rewritten
-    requires { ⌜ length (now text) ≤ 16384 ⌝ }
-    requires { ⌜ length (now out) ≡ 65536 ⌝ }
-    requires { ⌜ length (now a) ≡ 65536 ⌝ }
-    requires { ⌜ length (now b) ≡ 65536 ⌝ }
-    ensures { λ r. ⌜ Gives (resultOf [] (rewriting (now (text .entry)))) r (now (out .exit)) ⌝ }
-{
-    let k = requote(text, a);
-    let n = elsif_pass(&a[..k], b, out);
-    assign_stage(out, a, b, n)
-}
+// What is lent for the numbers of the records.
+const RECORD_NUMBERS: usize = 4104;
 
 // Whether output and work buffers are long enough.
 fn are_lent(output: usize, work: usize, spare: usize) -> bool
@@ -238,51 +39,6 @@ fn are_lent(output: usize, work: usize, spare: usize) -> bool
         return false;
     }
     65536 <= spare
-}
-
-// How many bytes the output holds with this answer.
-fn output_length(r: Rewritten) -> usize
-    ensures { λ n. ⌜ n ≡ callNumbers r .length ⌝ }
-{
-    match r {
-        Rewritten::Accepted { length, records } => length,
-        Rewritten::QualifiedTarget { qualifier, length } => length,
-        Rewritten::UsingClause { length } => length,
-        Rewritten::Refused(r) => 0,
-        Rewritten::TooManyNames => 0,
-        Rewritten::ResultTooLong => 0,
-    }
-}
-
-// The passes, and zeros behind the result and in the work buffers.
-fn run_body(
-    text: &[u8],
-    output: &mut [u8],
-    work: &mut [u8],
-    spare: &mut [u8],
-    size: usize,
-) -> Rewritten
-    requires { ⌜ size ≡ 65536 ⌝ }
-    requires { ⌜ length (now text) ≤ 16384 ⌝ }
-    requires { ⌜ size ≤ length (now output) ⌝ }
-    requires { ⌜ size ≤ length (now work) ⌝ }
-    requires { ⌜ size ≤ length (now spare) ⌝ }
-    ensures { λ r. ⌜ r ≡ bodyResult (now (text .entry)) .answer ⌝ }
-    ensures { λ _. ⌜ now (output .exit) ≡ zeroedTo size (bodyResult (now (text .entry)) .output) (now (output .entry)) ⌝ }
-    ensures { λ _. ⌜ now (work .exit) ≡ zeroedTo size [] (now (work .entry)) ⌝ }
-    ensures { λ _. ⌜ now (spare .exit) ≡ zeroedTo size [] (now (spare .entry)) ⌝ }
-{
-    let r = run_passes(
-        text,
-        &mut output[..size],
-        &mut work[..size],
-        &mut spare[..size],
-    );
-    let n = output_length(r);
-    fill(output, n, size, 0);
-    fill(work, 0, size, 0);
-    fill(spare, 0, size, 0);
-    r
 }
 
 // The body call: the five passes over a trigger's body. The output holds the result and then zeros; the work buffers
@@ -302,6 +58,161 @@ pub fn transform_body(
     let check = check_texts(TEXT_LIMIT, enough, text, &text[..0]);
     let Check::Refused(r) = check else {
         return run_body(text, output, work, spare, BUFFER_SIZE);
+    };
+    Rewritten::Refused(r)
+}
+
+// Whether all five buffers are long enough.
+fn all_lent(output: usize, work: usize, spare: usize, declared: usize, records: usize) -> bool
+    ensures { λ r. ⌜ r ≡ ((leb 65536 output && (leb 65536 work && leb 65536 spare)) && (leb 65536 declared && leb 4104 records)) ⌝ }
+{
+    if are_lent(output, work, spare) {
+        if declared < 65536 {
+            return false;
+        }
+        4104 <= records
+    } else {
+        false
+    }
+}
+
+// The answer with this number of records, if it is accepted.
+fn with_records(r: Rewritten, count: usize) -> Rewritten
+    ensures { λ s. ⌜ s ≡ withRecords count r ⌝ }
+{
+    match r {
+        Rewritten::Accepted { length, records } => Rewritten::Accepted {
+            length,
+            records: count,
+        },
+        Rewritten::QualifiedTarget { qualifier, length } => r,
+        Rewritten::UsingClause { length } => r,
+        Rewritten::Refused(f) => r,
+        Rewritten::TooManyNames => r,
+        Rewritten::ResultTooLong => r,
+    }
+}
+
+// n if the answer is accepted, else 0: a refusal leaves no records.
+fn if_accepted(r: Rewritten, n: usize) -> usize
+    ensures { λ k. ⌜ k ≡ ifAccepted r n ⌝ }
+{
+    match r {
+        Rewritten::Accepted { length, records } => n,
+        Rewritten::QualifiedTarget { qualifier, length } => 0,
+        Rewritten::UsingClause { length } => 0,
+        Rewritten::Refused(f) => 0,
+        Rewritten::TooManyNames => 0,
+        Rewritten::ResultTooLong => 0,
+    }
+}
+
+// Refusal 7, with zeros in all buffers.
+fn refuse_names(
+    output: &mut [u8],
+    work: &mut [u8],
+    spare: &mut [u8],
+    declared: &mut [u8],
+    records: &mut [u32],
+    size: usize,
+    numbers: usize,
+) -> Rewritten
+    requires { ⌜ size ≤ length (now output) ⌝ }
+    requires { ⌜ size ≤ length (now work) ⌝ }
+    requires { ⌜ size ≤ length (now spare) ⌝ }
+    requires { ⌜ size ≤ length (now declared) ⌝ }
+    requires { ⌜ numbers ≤ length (now records) ⌝ }
+    ensures { λ r. ⌜ r ≡ TooManyNames ⌝ }
+    ensures { λ _. ⌜ now (output .exit) ≡ zeroedTo size [] (now (output .entry)) ⌝ }
+    ensures { λ _. ⌜ now (work .exit) ≡ zeroedTo size [] (now (work .entry)) ⌝ }
+    ensures { λ _. ⌜ now (spare .exit) ≡ zeroedTo size [] (now (spare .entry)) ⌝ }
+    ensures { λ _. ⌜ now (declared .exit) ≡ zeroedTo size [] (now (declared .entry)) ⌝ }
+    ensures { λ _. ⌜ now (records .exit) ≡ zeroedTo numbers [] (now (records .entry)) ⌝ }
+{
+    fill(output, 0, size, 0);
+    fill(work, 0, size, 0);
+    fill(spare, 0, size, 0);
+    fill(declared, 0, size, 0);
+    clear(records, 0, numbers);
+    Rewritten::TooManyNames
+}
+
+// The records, then the passes over the body, and zeros behind what the buffers hold; `work` takes the text's map first.
+fn run_function(
+    text: &[u8],
+    output: &mut [u8],
+    work: &mut [u8],
+    spare: &mut [u8],
+    declared: &mut [u8],
+    records: &mut [u32],
+    size: usize,
+    numbers: usize,
+) -> Rewritten
+    requires { ⌜ size ≡ 65536 ⌝ }
+    requires { ⌜ numbers ≡ 4104 ⌝ }
+    requires { ⌜ length (now text) ≤ 16384 ⌝ }
+    requires { ⌜ size ≤ length (now output) ⌝ }
+    requires { ⌜ size ≤ length (now work) ⌝ }
+    requires { ⌜ size ≤ length (now spare) ⌝ }
+    requires { ⌜ size ≤ length (now declared) ⌝ }
+    requires { ⌜ numbers ≤ length (now records) ⌝ }
+    ensures { λ r. ⌜ r ≡ functionResult (now (text .entry)) .answer ⌝ }
+    ensures { λ _. ⌜ now (output .exit) ≡ zeroedTo size (functionResult (now (text .entry)) .output) (now (output .entry)) ⌝ }
+    ensures { λ _. ⌜ now (work .exit) ≡ zeroedTo size [] (now (work .entry)) ⌝ }
+    ensures { λ _. ⌜ now (spare .exit) ≡ zeroedTo size [] (now (spare .entry)) ⌝ }
+    ensures { λ _. ⌜ now (declared .exit) ≡ zeroedTo size (functionResult (now (text .entry)) .declared) (now (declared .entry)) ⌝ }
+    ensures { λ _. ⌜ now (records .exit) ≡ zeroedTo numbers (functionResult (now (text .entry)) .records) (now (records .entry)) ⌝ }
+{
+    map_text(text, work);
+    let start = body_start(text, work);
+    let parsed = parse_declarations(text, work, declared, records);
+    let Parsed::Count(count, packed) = parsed else {
+        return refuse_names(output, work, spare, declared, records, size, numbers);
+    };
+    let r = run_body(&text[start..], output, work, spare, size);
+    let n = if_accepted(r, packed);
+    let k = if_accepted(r, 8 * count + 8);
+    fill(declared, n, size, 0);
+    clear(records, k, numbers);
+    with_records(r, count)
+}
+
+// The function call: the declarations' records, and the five passes over the body. The output holds the result and then
+// zeros, `declared` and `records` the declarations and then zeros; the work buffers hold zeros.
+pub fn preprocess(
+    text: &[u8],
+    output: &mut [u8],
+    work: &mut [u8],
+    spare: &mut [u8],
+    declared: &mut [u8],
+    records: &mut [u32],
+) -> Rewritten
+    ensures { λ r. ⌜ r ≡ functionAnswer (now (text .entry)) (now (output .entry)) (now (work .entry)) (now (spare .entry)) (now (declared .entry)) (now (records .entry)) ⌝ }
+    ensures { λ _. ⌜ now (output .exit) ≡ functionOutput (now (text .entry)) (now (output .entry)) (now (work .entry)) (now (spare .entry)) (now (declared .entry)) (now (records .entry)) ⌝ }
+    ensures { λ _. ⌜ now (work .exit) ≡ workExit (functionCheck (now (text .entry)) (now (output .entry)) (now (work .entry)) (now (spare .entry)) (now (declared .entry)) (now (records .entry))) (now (work .entry)) ⌝ }
+    ensures { λ _. ⌜ now (spare .exit) ≡ workExit (functionCheck (now (text .entry)) (now (output .entry)) (now (work .entry)) (now (spare .entry)) (now (declared .entry)) (now (records .entry))) (now (spare .entry)) ⌝ }
+    ensures { λ _. ⌜ now (declared .exit) ≡ functionText (now (text .entry)) (now (output .entry)) (now (work .entry)) (now (spare .entry)) (now (declared .entry)) (now (records .entry)) ⌝ }
+    ensures { λ _. ⌜ now (records .exit) ≡ functionRecords (now (text .entry)) (now (output .entry)) (now (work .entry)) (now (spare .entry)) (now (declared .entry)) (now (records .entry)) ⌝ }
+{
+    let enough = all_lent(
+        output.len(),
+        work.len(),
+        spare.len(),
+        declared.len(),
+        records.len(),
+    );
+    let check = check_texts(TEXT_LIMIT, enough, text, &text[..0]);
+    let Check::Refused(r) = check else {
+        return run_function(
+            text,
+            output,
+            work,
+            spare,
+            declared,
+            records,
+            BUFFER_SIZE,
+            RECORD_NUMBERS,
+        );
     };
     Rewritten::Refused(r)
 }

@@ -3,32 +3,22 @@ use Rattle.plpgsql_rewriter.specs.Four.{fourCalled}
 use borrow.Author.Needs.{needs}
 use Rattle.plpgsql_rewriter.proofs.plpgsql_transform_body.Statement.{statement}
 use Rattle.plpgsql_rewriter.proofs.plpgsql_transform_body.Tie as tie
-use Rattle.plpgsql_rewriter.proofs.plpgsql_transform_body.Reads as reads
-use Rattle.plpgsql_rewriter.proofs.plpgsql_transform_body.Lts as lts
-use Rattle.plpgsql_rewriter.proofs.put_called.Reads as put-called-reads
-use Rattle.preprocessor.proofs.transform_body.Reads as transform-body-reads
 
--- src/lib.rt:226:9
 transform-body-requires : tie.Need-transform-body-requires
 transform-body-requires c κs = search needs
 
--- src/lib.rt:227:5
 put-called-requires : tie.Need-put-called-requires
 put-called-requires c κs = search needs
 
--- src/lib.rt:213:1
 same-length : tie.Need-same-length
 same-length c = search needs
 
--- src/lib.rt:213:1
 same-length-2 : tie.Need-same-length-2
 same-length-2 c = search needs
 
--- src/lib.rt:213:1
 same-length-3 : tie.Need-same-length-3
 same-length-3 c = search needs
 
--- src/lib.rt:213:1
 returns : tie.Need-returns
 returns c = let e = c .before .before .before .before .before .before .before .before .transform-body .ensures in
     (e .1 .0, (e .1 .1 .0, (e .1 .1 .1, c .put-called .ensures ∙ ap fourCalled (e .0))))

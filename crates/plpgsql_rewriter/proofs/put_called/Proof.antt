@@ -2,80 +2,58 @@ use mathlib.Core.Path.{refl, _∙_}
 use borrow.Author.Needs.{needs}
 use Rattle.plpgsql_rewriter.proofs.put_called.Statement.{statement}
 use Rattle.plpgsql_rewriter.proofs.put_called.Tie as tie
-use Rattle.plpgsql_rewriter.proofs.put_called.Reads as reads
-use Rattle.plpgsql_rewriter.proofs.put_called.Lts as lts
-use Rattle.plpgsql_rewriter.proofs.put_numbers.Reads as put-numbers-reads
-use Rattle.plpgsql_rewriter.proofs.put_refused.Reads as put-refused-reads
 
--- src/lib.rt:87:31
 enum-known-r : tie.Need-enum-known-r
 enum-known-r c = search needs
 
--- src/lib.rt:87:52
 put-numbers-requires : tie.Need-put-numbers-requires
 put-numbers-requires c κs = search needs
 
--- src/lib.rt:88:28
 enum-known-r-2 : tie.Need-enum-known-r-2
 enum-known-r-2 c = search needs
 
--- src/lib.rt:88:34
 put-refused-requires : tie.Need-put-refused-requires
 put-refused-requires c κs = search needs
 
--- src/lib.rt:89:48
 enum-told : tie.Need-enum-told
 enum-told c = search needs
 
--- src/lib.rt:89:36
 put-numbers-requires-2 : tie.Need-put-numbers-requires-2
 put-numbers-requires-2 c κs = search needs
 
--- src/lib.rt:90:38
 enum-known-r-3 : tie.Need-enum-known-r-3
 enum-known-r-3 c = search needs
 
--- src/lib.rt:90:61
 put-numbers-requires-3 : tie.Need-put-numbers-requires-3
 put-numbers-requires-3 c κs = search needs
 
--- src/lib.rt:91:34
 enum-known-r-4 : tie.Need-enum-known-r-4
 enum-known-r-4 c = search needs
 
--- src/lib.rt:91:46
 put-numbers-requires-4 : tie.Need-put-numbers-requires-4
 put-numbers-requires-4 c κs = search needs
 
--- src/lib.rt:92:49
 enum-told-2 : tie.Need-enum-told-2
 enum-told-2 c = search needs
 
--- src/lib.rt:92:37
 put-numbers-requires-5 : tie.Need-put-numbers-requires-5
 put-numbers-requires-5 c κs = search needs
 
--- src/lib.rt:83:1
 returns : tie.Need-returns
 returns c = c .put-numbers .ensures ∙ rw (c .before .before .before .r .given .1) refl
 
--- src/lib.rt:83:1
 returns-2 : tie.Need-returns-2
 returns-2 c = c .put-refused .ensures ∙ rw (c .before .before .before .r2 .given .1) refl
 
--- src/lib.rt:83:1
 returns-3 : tie.Need-returns-3
 returns-3 c = c .put-numbers2 .ensures ∙ rw (c .before .before .enum-told .given .1) refl
 
--- src/lib.rt:83:1
 returns-4 : tie.Need-returns-4
 returns-4 c = c .put-numbers3 .ensures ∙ rw (c .before .before .before .r3 .given .1) refl
 
--- src/lib.rt:83:1
 returns-5 : tie.Need-returns-5
 returns-5 c = c .put-numbers4 .ensures ∙ rw (c .before .before .before .r4 .given .1) refl
 
--- src/lib.rt:83:1
 returns-6 : tie.Need-returns-6
 returns-6 c = c .put-numbers5 .ensures ∙ rw (c .before .before .enum-told2 .given .1) refl
 

@@ -2,43 +2,31 @@ use mathlib.Core.Path.{refl, _∙_}
 use borrow.Author.Needs.{needs}
 use Rattle.plpgsql_rewriter.proofs.put_refused.Statement.{statement}
 use Rattle.plpgsql_rewriter.proofs.put_refused.Tie as tie
-use Rattle.plpgsql_rewriter.proofs.put_refused.Reads as reads
-use Rattle.plpgsql_rewriter.proofs.put_refused.Lts as lts
-use Rattle.plpgsql_rewriter.proofs.put_numbers.Reads as put-numbers-reads
 
--- src/lib.rt:76:45
 enum-told : tie.Need-enum-told
 enum-told c = search needs
 
--- src/lib.rt:76:33
 put-numbers-requires : tie.Need-put-numbers-requires
 put-numbers-requires c κs = search needs
 
--- src/lib.rt:77:48
 enum-told-2 : tie.Need-enum-told-2
 enum-told-2 c = search needs
 
--- src/lib.rt:77:36
 put-numbers-requires-2 : tie.Need-put-numbers-requires-2
 put-numbers-requires-2 c κs = search needs
 
--- src/lib.rt:78:27
 enum-known-r : tie.Need-enum-known-r
 enum-known-r c = search needs
 
--- src/lib.rt:78:33
 put-numbers-requires-3 : tie.Need-put-numbers-requires-3
 put-numbers-requires-3 c κs = search needs
 
--- src/lib.rt:72:1
 returns : tie.Need-returns
 returns c = c .put-numbers .ensures ∙ rw (c .before .before .enum-told .given .1) refl
 
--- src/lib.rt:72:1
 returns-2 : tie.Need-returns-2
 returns-2 c = c .put-numbers2 .ensures ∙ rw (c .before .before .enum-told2 .given .1) refl
 
--- src/lib.rt:72:1
 returns-3 : tie.Need-returns-3
 returns-3 c = c .put-numbers3 .ensures ∙ rw (c .before .before .before .r .given .1) refl
 

@@ -1,4 +1,4 @@
-use Rattle.preprocessor.proofs.EndLaws.{all-lent}
+use Rattle.preprocessor.proofs.LentLaws.{three-lent}
 use Rattle.spec.proofs.SearchLaws.{check-only}
 use Rattle.spec.specs.declared.Check.the-variants.{Passed}
 use Rattle.spec.specs.Answers.{textLimit, areLent, bodyCheck, bodyAnswer, bodyOutput, workExit}
@@ -27,7 +27,7 @@ enum-told c = search needs
 run-body-requires : tie.Need-run-body-requires
 run-body-requires c κs = let s = c .before .before .before .before .before .before .before .before .before .before .before .before .args in
     let h = check-only 16384 (c .before .before .before .before .before .before .before .are-lent .result) (s .text .now) [] Passed (sym (c .before .before .before .before .before .check-texts .ensures) ∙ c .before .before .before .enum-told .given .1) in
-    let l = all-lent _ _ _ (sym (c .before .before .before .before .before .before .before .are-lent .ensures) ∙ h .1) in
+    let l = three-lent _ _ _ (sym (c .before .before .before .before .before .before .before .are-lent .ensures) ∙ h .1) in
     (refl, (h .0, (l .0, (l .1, l .2))))
 
 same-length : tie.Need-same-length

@@ -1,0 +1,194 @@
+-- What the function call answers and leaves, from its declarations and its passes. Assumes nothing.
+use mathlib.Core.Path.{_≡_, refl, sym, ap, subst, _∙_}
+use mathlib.Core.Bool.{true, false, cond}
+use mathlib.Core.List.{List, [], _++_}
+use Prim.Native.Nat.{ℕ, _+_, _-_, _*_, _≤_, _<_}
+use native.Mathlib.Omega.{arith}
+use borrow.Author.Tests.{ltb-true, ltb-false, lt-ltb, le-ltb}
+use lib.Dec.{ltb}
+use lib.ListN.{length, take, drop}
+use lib.Seq.{drop-append-add, drop-drop}
+use Rattle.spec.proofs.Apart.{apart}
+use Rattle.spec.proofs.Choice.{by}
+use Rattle.spec.proofs.MapLaws.{map-length, text-length}
+use Rattle.spec.proofs.RecordLaws.{numbers-length}
+use Rattle.spec.proofs.WalkLaws.{marked-behind}
+use Rattle.spec.specs.Bytes.{ascii}
+use Rattle.spec.specs.Search.{first, keywordHere}
+use Rattle.spec.specs.Map.{mapOf, marked, markedText}
+use Rattle.spec.specs.Body.{Rewriting, accepted, qualifiedTarget, usingClause, resultTooLong, rewriting}
+use Rattle.spec.specs.Declarations.{Declared, recordLimit, recordWidth, recordsOf, bodyFrom, bodyOf, packed, numbersOf}
+use Rattle.spec.specs.Answers.{Result, resultOf, bodyResult, functionResult, withoutRecords, keptBehind, zeroedTo}
+use Rattle.spec.specs.declared.Rewritten.{Rewritten}
+use Rattle.spec.specs.declared.Rewritten.the-variants as rewritten
+use Rattle.declared_parts.specs.Parts.{between}
+use Rattle.declared_parts.proofs.BetweenLaws.{between-length}
+use Rattle.declared_records.proofs.HeldLaws.{sets-drop}
+use Rattle.declarations.proofs.SectionLaws.{records-in, section-in}
+use Rattle.declarations.proofs.PackedLaws.{packed-small}
+use Rattle.declarations.specs.Records.{recordsOfSection, recordsIn, sectionOf, parsedOf, Packed, Holds}
+use Rattle.declarations.specs.declared.Parsed.the-variants.{Count, TooManyNames}
+use Rattle.preprocessor.specs.Records.{withRecords, ifAccepted}
+
+-- what the declarations' answer tells
+pub parsed-count : (ds : List Declared) (c n : ℕ) → parsedOf ds ≡ Count c n → (length ds ≤ 512) × (length ds ≡ c) × (length (packed ds) ≡ n)
+unfolding parsedOf
+parsed-count ds c n e =
+    by (ltb 512 (length ds))
+    (λ p. let q : TooManyNames ≡ Count c n = rw p at e in absurd (apart (cc)))
+    (λ p. let q : Count (length ds) (length (packed ds)) ≡ Count c n = rw p at e in (ltb-false 512 (length ds) p, cc, cc))
+
+pub parsed-names : (ds : List Declared) → parsedOf ds ≡ TooManyNames → 512 < length ds
+unfolding parsedOf
+parsed-names ds e = by (ltb 512 (length ds)) (λ p. ltb-true 512 (length ds) p) (λ p. let q : Count (length ds) (length (packed ds)) ≡ TooManyNames = rw p at e in absurd (apart (cc)))
+
+-- the call's result, with few names and with too many
+pub function-ran : (xs : List ℕ) → length (recordsOf xs) ≤ 512 → functionResult xs ≡ resultOf (recordsOf xs) (rewriting (bodyOf xs))
+unfolding functionResult recordLimit
+function-ran xs h = rw (le-ltb 512 (length (recordsOf xs)) h) refl
+
+pub function-refused : (xs : List ℕ) → 512 < length (recordsOf xs) → functionResult xs ≡ withoutRecords rewritten.TooManyNames []
+unfolding functionResult recordLimit
+function-refused xs h = rw (lt-ltb 512 (length (recordsOf xs)) h) refl
+
+-- the records change an accepted answer's count, and no output
+pub records-answer : (ds : List Declared) (w : Rewriting) → withRecords (length ds) (resultOf [] w .answer) ≡ resultOf ds w .answer
+unfolding resultOf
+records-answer ds (accepted ys) = refl
+records-answer ds (qualifiedTarget q n) = refl
+records-answer ds (usingClause c) = refl
+records-answer ds resultTooLong = refl
+
+pub records-output : (ds : List Declared) (w : Rewriting) → resultOf [] w .output ≡ resultOf ds w .output
+unfolding resultOf
+records-output ds (accepted ys) = refl
+records-output ds (qualifiedTarget q n) = refl
+records-output ds (usingClause c) = refl
+records-output ds resultTooLong = refl
+
+-- with an accepted answer the texts and numbers stay, with a refusal nothing does
+pub texts-held : (ds : List Declared) (w : Rewriting) (d : List ℕ) → take (length (packed ds)) d ≡ packed ds
+    → take (ifAccepted (resultOf [] w .answer) (length (packed ds))) d ≡ resultOf ds w .declared
+unfolding resultOf
+texts-held ds (accepted ys) d h = h
+texts-held ds (qualifiedTarget q n) d h = refl
+texts-held ds (usingClause c) d h = refl
+texts-held ds resultTooLong d h = refl
+
+pub numbers-held : (ds : List Declared) (w : Rewriting) (rs : List ℕ) → take (length (numbersOf ds)) rs ≡ numbersOf ds
+    → take (ifAccepted (resultOf [] w .answer) (8 * length ds + 8)) rs ≡ resultOf ds w .records
+unfolding resultOf recordWidth
+numbers-held ds (accepted ys) rs h =
+    let n : 8 * length ds + 8 ≡ length (numbersOf ds) = omega (arith, numbers-length ds) in
+    rw n h
+numbers-held ds (qualifiedTarget q n) rs h = refl
+numbers-held ds (usingClause c) rs h = refl
+numbers-held ds resultTooLong rs h = refl
+
+pub at-most : (r : Rewritten) (n m : ℕ) → n ≤ m → ifAccepted r n ≤ m
+at-most (rewritten.Accepted l k) n m h = h
+at-most (rewritten.Refused f) n m h = omega arith
+at-most rewritten.TooManyNames n m h = omega arith
+at-most (rewritten.QualifiedTarget q l) n m h = omega arith
+at-most (rewritten.UsingClause l) n m h = omega arith
+at-most rewritten.ResultTooLong n m h = omega arith
+
+-- the map in front of the work buffer is the text's, and what is behind the size stays
+pub work-map : (xs d : List ℕ) → marked xs (keptBehind (mapOf xs) d) ≡ markedText xs
+unfolding keptBehind markedText
+work-map xs d = marked-behind xs (mapOf xs) (drop (length (mapOf xs)) d) (omega (arith, map-length xs))
+
+pub kept-drop : (ms d : List ℕ) (n : ℕ) → length ms ≤ n → drop n (keptBehind ms d) ≡ drop n d
+unfolding keptBehind
+kept-drop ms d n h =
+    let k : n ≡ length ms + (n - length ms) = omega arith in
+    ap (λ (i : ℕ). drop i (ms ++ drop (length ms) d)) k
+    ∙ (drop-append-add ms (drop (length ms) d) (n - length ms) ∙ (drop-drop (n - length ms) (length ms) d ∙ ap (λ (i : ℕ). drop i d) (sym k)))
+
+-- what is written behind the size is all that a buffer's entry contents decide
+pub zeroed-same : (n : ℕ) (ys d e : List ℕ) → drop n d ≡ drop n e → zeroedTo n ys d ≡ zeroedTo n ys e
+unfolding zeroedTo
+zeroed-same n ys d e h = rw h refl
+
+-- the texts are at most twice as long as the text
+packed-fits : (xs : List ℕ) → length (packed (recordsOf xs)) ≤ 2 * length xs
+packed-fits xs =
+    let t = markedText xs in
+    let f = first (keywordHere (ascii "DECLARE")) 0 t in
+    let g = first (keywordHere (ascii "BEGIN")) 0 t in
+    let s = section-in t f g refl refl in
+    let a = sectionOf f g .from in
+    let b = sectionOf f g .to in
+    let e : length (packed (recordsOfSection (between a b t))) ≡ length (packed (recordsOf xs)) =
+    ap (λ (ds : List Declared). length (packed ds)) (s .found ∙ records-in xs) in
+    omega (arith, packed-small (between a b t), between-length t a b (s .ordered) (s .within), text-length xs, s .within, e)
+
+-- `work` held the text's map when the declarations were read
+module _ (xs work work′ : List ℕ) (m : work′ ≡ keptBehind (mapOf xs) work) where
+  mapped : marked xs work′ ≡ markedText xs
+  mapped = ap (marked xs) m ∙ work-map xs work
+
+  the-records : recordsIn (marked xs work′) ≡ recordsOf xs
+  the-records = ap recordsIn mapped ∙ records-in xs
+
+  -- there are c records, whose texts have n bytes, and the passes ran over the body, which starts at `start`
+  module _ (start c n : ℕ) (b : drop start xs ≡ bodyFrom (first (keywordHere (ascii "BEGIN")) 0 (marked xs work′)) xs)
+      (q : parsedOf (recordsIn (marked xs work′)) ≡ Count c n) where
+    told : (length (recordsOf xs) ≤ 512) × (length (recordsOf xs) ≡ c) × (length (packed (recordsOf xs)) ≡ n)
+    told = parsed-count (recordsOf xs) c n (ap parsedOf (sym the-records) ∙ q)
+
+    the-body : bodyOf xs ≡ drop start xs
+    unfolding bodyOf
+    the-body = sym (b ∙ ap (λ t. bodyFrom (first (keywordHere (ascii "BEGIN")) 0 t) xs) mapped)
+
+    result : functionResult xs ≡ resultOf (recordsOf xs) (rewriting (drop start xs))
+    result = function-ran xs (told .0) ∙ ap (λ ys. resultOf (recordsOf xs) (rewriting ys)) the-body
+
+    pub count-small : c ≤ 512
+    count-small = omega (arith, told .0, told .1)
+
+    pub numbers-small : 8 * c + 8 ≤ 4104
+    numbers-small = omega (arith, count-small)
+
+    pub texts-small : length xs ≤ 16384 → n ≤ 65536
+    texts-small h = omega (arith, packed-fits xs, told .2, h)
+
+    pub output-is : bodyResult (drop start xs) .output ≡ functionResult xs .output
+    unfolding bodyResult
+    output-is = records-output (recordsOf xs) (rewriting (drop start xs)) ∙ sym (ap (λ (f : Result). f .output) result)
+
+    module _ (r : Rewritten) (a : r ≡ bodyResult (drop start xs) .answer) where
+      pub answer-is : withRecords c r ≡ functionResult xs .answer
+      unfolding bodyResult
+      answer-is =
+          rw (← told .1, a) (records-answer (recordsOf xs) (rewriting (drop start xs)) ∙ sym (ap (λ (f : Result). f .answer) result))
+
+      module _ (d d′ rs rs′ : List ℕ) (held : Holds (recordsIn (marked xs work′)) d d′ rs rs′) where
+        packed-as : Packed (recordsOf xs) d d′ rs′
+        packed-as = (subst (λ (ds : List Declared). Holds ds d d′ rs rs′) the-records held) .accepted (told .0)
+
+        pub texts-are : take (ifAccepted r n) d′ ≡ functionResult xs .declared
+        unfolding bodyResult
+        texts-are =
+            rw (← told .2, a)
+            (texts-held (recordsOf xs) (rewriting (drop start xs)) d′ (packed-as .front) ∙ sym (ap (λ (f : Result). f .declared) result))
+
+        pub numbers-are : take (ifAccepted r (8 * c + 8)) rs′ ≡ functionResult xs .records
+        unfolding bodyResult
+        numbers-are =
+            rw (← told .1, a)
+            (numbers-held (recordsOf xs) (rewriting (drop start xs)) rs′ (packed-as .numbers) ∙ sym (ap (λ (f : Result). f .records) result))
+
+        pub texts-kept : length xs ≤ 16384 → drop 65536 d′ ≡ drop 65536 d
+        texts-kept h = ap (drop 65536) (packed-as .texts) ∙ sets-drop (packed (recordsOf xs)) d 0 65536 (omega (arith, packed-fits xs, h))
+
+  -- there are too many names
+  module _ (q : parsedOf (recordsIn (marked xs work′)) ≡ TooManyNames) where
+    many : 512 < length (recordsOf xs)
+    many = parsed-names (recordsOf xs) (ap parsedOf (sym the-records) ∙ q)
+
+    pub refused-is : functionResult xs ≡ withoutRecords rewritten.TooManyNames []
+    refused-is = function-refused xs many
+
+    pub texts-same : (d d′ rs rs′ : List ℕ) → Holds (recordsIn (marked xs work′)) d d′ rs rs′ → d′ ≡ d
+    texts-same d d′ rs rs′ held = (subst (λ (ds : List Declared). Holds ds d d′ rs rs′) the-records held) .refused many

@@ -1,0 +1,78 @@
+use mathlib.Core.Path.{_≡_, refl, sym, ap, _∙_}
+use mathlib.Core.List.{[]}
+use Rattle.preprocessor.proofs.LentLaws.{three-lent, two-lent}
+use Rattle.spec.proofs.SearchLaws.{check-only}
+use Rattle.spec.specs.declared.Check.the-variants.{Passed}
+use Rattle.spec.specs.Answers.{textLimit, areLent, functionCheck, functionAnswer, functionOutput, functionText, functionRecords, workExit}
+use Rattle.spec.specs.Body.{bufferSize}
+use Rattle.spec.specs.Declarations.{recordNumbers}
+use borrow.Author.Needs.{needs}
+use Rattle.preprocessor.proofs.preprocess.Statement.{statement}
+use Rattle.preprocessor.proofs.preprocess.Tie as tie
+
+all-lent-requires : tie.Need-all-lent-requires
+all-lent-requires c κs = search needs
+
+slice-aggregate-check-texts : tie.Need-slice-aggregate-check-texts
+slice-aggregate-check-texts c = search needs
+
+check-texts-requires : tie.Need-check-texts-requires
+check-texts-requires c κs = search needs
+
+enum-known-check : tie.Need-enum-known-check
+enum-known-check c = search needs
+
+enum-told : tie.Need-enum-told
+enum-told c = search needs
+
+run-function-requires : tie.Need-run-function-requires
+run-function-requires c κs = let s = c .before .before .before .before .before .before .before .before .before .before .before .before .before .before .before .before .args in
+    let h = check-only 16384 (c .before .before .before .before .before .before .before .before .before .all-lent .result) (s .text .now) [] Passed (sym (c .before .before .before .before .before .before .before .check-texts .ensures) ∙ c .before .before .before .before .before .enum-told .given .1) in
+    let t = two-lent _ _ _ (sym (c .before .before .before .before .before .before .before .before .before .all-lent .ensures) ∙ h .1) in
+    let l = three-lent _ _ _ (t .0) in
+    (refl, (refl, (h .0, (l .0, (l .1, (l .2, (t .1, t .2)))))))
+
+same-length : tie.Need-same-length
+same-length c = search needs
+
+same-length-2 : tie.Need-same-length-2
+same-length-2 c = search needs
+
+same-length-3 : tie.Need-same-length-3
+same-length-3 c = search needs
+
+same-length-4 : tie.Need-same-length-4
+same-length-4 c = search needs
+
+same-length-5 : tie.Need-same-length-5
+same-length-5 c = search needs
+
+returns : tie.Need-returns
+unfolding functionAnswer functionOutput functionText functionRecords workExit functionCheck areLent bufferSize textLimit recordNumbers
+returns c = let e = c .before .before .before .before .before .before .before .before .before .before .before .before .before .before .before .before .before .before .before .before .all-lent .ensures in
+    let p = sym (c .before .before .before .before .before .before .before .before .before .before .before .before .before .before .before .before .before .before .check-texts .ensures) ∙ c .before .before .before .before .before .before .before .before .before .before .before .before .before .before .before .before .enum-told .given .1 in
+    rw (← e, p) (c .before .before .before .before .before .before .before .before .before .before .run-function .ensures)
+
+returns-2 : tie.Need-returns-2
+unfolding functionAnswer functionOutput functionText functionRecords workExit functionCheck areLent bufferSize textLimit recordNumbers
+returns-2 c = let e = c .before .before .before .before .before .all-lent .ensures in
+    let p = sym (c .before .before .before .check-texts .ensures) ∙ c .before .check .given .1 in
+    rw (← e, p) (refl, (refl, (refl, (refl, (refl, refl)))))
+
+pub preprocess-spec : {M : Type 1} → statement M
+preprocess-spec =
+    tie.close
+    (tie.spec
+    all-lent-requires
+    slice-aggregate-check-texts
+    check-texts-requires
+    enum-known-check
+    enum-told
+    run-function-requires
+    same-length
+    same-length-2
+    same-length-3
+    same-length-4
+    same-length-5
+    returns
+    returns-2)

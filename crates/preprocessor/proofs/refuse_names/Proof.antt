@@ -1,0 +1,57 @@
+use mathlib.Core.Path.{_≡_, refl, sym, ap, _∙_}
+use mathlib.Core.List.{[]}
+use native.Mathlib.Omega.{arith}
+use Rattle.passes.proofs.EndLaws.{zeros-behind}
+use borrow.Author.Needs.{needs}
+use Rattle.preprocessor.proofs.refuse_names.Statement.{statement}
+use Rattle.preprocessor.proofs.refuse_names.Tie as tie
+
+fill-requires : tie.Need-fill-requires
+fill-requires c κs = search needs
+
+fill-requires-2 : tie.Need-fill-requires-2
+fill-requires-2 c κs = search needs
+
+fill-requires-3 : tie.Need-fill-requires-3
+fill-requires-3 c κs = search needs
+
+fill-requires-4 : tie.Need-fill-requires-4
+fill-requires-4 c κs = search needs
+
+clear-requires : tie.Need-clear-requires
+clear-requires c κs = search needs
+
+same-length : tie.Need-same-length
+same-length c = search needs
+
+same-length-2 : tie.Need-same-length-2
+same-length-2 c = search needs
+
+same-length-3 : tie.Need-same-length-3
+same-length-3 c = search needs
+
+same-length-4 : tie.Need-same-length-4
+same-length-4 c = search needs
+
+same-length-5 : tie.Need-same-length-5
+same-length-5 c = search needs
+
+returns : tie.Need-returns
+returns c = let s = c .before .before .before .before .before .before .before .before .before .before .before .before .before .before .before .before .before .before .before .before .before .before .before .before .before .args in
+    let p = c .before .before .before .before .before .before .before .before .before .before .before .before .before .before .before .before .before .before .before .before .before .before .before .before .before .pre in (refl, (c .before .before .before .before .before .before .before .before .before .before .before .before .before .before .before .before .before .before .fill .ensures ∙ zeros-behind (s .size) 0 (s .output .now) (s .output .now) [] (p .0) (omega arith) refl refl, (c .before .before .before .before .before .before .before .before .before .before .before .before .before .before .fill2 .ensures ∙ zeros-behind (s .size) 0 (s .work .now) (s .work .now) [] (p .1 .0) (omega arith) refl refl, (c .before .before .before .before .before .before .before .before .before .before .fill3 .ensures ∙ zeros-behind (s .size) 0 (s .spare .now) (s .spare .now) [] (p .1 .1 .0) (omega arith) refl refl, (c .before .before .before .before .before .before .fill4 .ensures ∙ zeros-behind (s .size) 0 (s .declared .now) (s .declared .now) [] (p .1 .1 .1 .0) (omega arith) refl refl, c .before .before .clear .ensures ∙ zeros-behind (s .numbers) 0 (s .records .now) (s .records .now) [] (p .1 .1 .1 .1) (omega arith) refl refl)))))
+
+pub refuse-names-spec : {M : Type 1} → statement M
+refuse-names-spec =
+    tie.close
+    (tie.spec
+    fill-requires
+    fill-requires-2
+    fill-requires-3
+    fill-requires-4
+    clear-requires
+    same-length
+    same-length-2
+    same-length-3
+    same-length-4
+    same-length-5
+    returns)

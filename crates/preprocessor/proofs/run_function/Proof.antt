@@ -1,0 +1,199 @@
+use mathlib.Core.Path.{_≡_, refl, sym, ap, subst, _∙_}
+use mathlib.Core.List.{List, []}
+use Prim.Native.Nat.{ℕ, _-_}
+use native.Mathlib.Omega.{arith}
+use lib.ListN.{length, take, drop, length-drop}
+use lib.Seq.{take-all}
+use Rattle.spec.specs.Map.{mapOf}
+use Rattle.spec.proofs.MapLaws.{map-length}
+use Rattle.spec.specs.Answers.{bodyResult, functionResult, zeroedTo}
+use Rattle.passes.proofs.EndLaws.{zeros-behind}
+use Rattle.preprocessor.proofs.FunctionLaws.{kept-drop, zeroed-same, at-most, count-small, numbers-small, texts-small, output-is, answer-is, texts-are, numbers-are, texts-kept, refused-is, texts-same}
+use borrow.Author.Needs.{needs}
+use Rattle.preprocessor.proofs.run_function.Statement.{statement}
+use Rattle.preprocessor.proofs.run_function.Tie as tie
+
+map-text-requires : tie.Need-map-text-requires
+map-text-requires c κs = search needs
+
+body-start-requires : tie.Need-body-start-requires
+body-start-requires c κs = search needs
+
+parse-declarations-requires : tie.Need-parse-declarations-requires
+parse-declarations-requires c κs = search needs
+
+enum-known-parsed : tie.Need-enum-known-parsed
+enum-known-parsed c = search needs
+
+enum-told : tie.Need-enum-told
+enum-told c = search needs
+
+refuse-names-requires : tie.Need-refuse-names-requires
+refuse-names-requires c κs = let p = c .before .before .before .before .before .before .before .before .before .before .before .before .before .before .before .before .before .before .before .before .before .before .before .before .before .before .before .pre in
+    let h = c .before .before .before .before .before .before .before .before .before .before .before .parse-declarations .kept in
+    (p .1 .1 .1 .0, (omega (arith, p .1 .1 .1 .1 .0, c .before .before .before .before .before .before .before .before .before .before .before .before .before .before .before .before .before .before .before .map-text .kept .1 .0), (p .1 .1 .1 .1 .1 .0, (omega (arith, p .1 .1 .1 .1 .1 .1 .0, h .1 .1 .0), omega (arith, p .1 .1 .1 .1 .1 .1 .1, h .1 .1 .1 .0)))))
+
+same-length : tie.Need-same-length
+same-length c = search needs
+
+same-length-2 : tie.Need-same-length-2
+same-length-2 c = search needs
+
+same-length-3 : tie.Need-same-length-3
+same-length-3 c = search needs
+
+same-length-4 : tie.Need-same-length-4
+same-length-4 c = search needs
+
+same-length-5 : tie.Need-same-length-5
+same-length-5 c = search needs
+
+returns : tie.Need-returns
+returns c = let s = c .before .before .before .before .before .before .before .before .before .before .before .before .before .before .before .before .before .before .before .before .before .before .before .before .before .before .before .before .before .before .before .before .before .before .before .before .before .before .args in
+    let p = c .before .before .before .before .before .before .before .before .before .before .before .before .before .before .before .before .before .before .before .before .before .before .before .before .before .before .before .before .before .before .before .before .before .before .before .before .before .before .pre in
+    let xs = s .text .now in
+    let m = c .before .before .before .before .before .before .before .before .before .before .before .before .before .before .before .before .before .before .before .before .before .before .before .before .before .before .before .before .before .before .map-text .ensures in
+    let e = c .before .before .before .before .before .before .before .before .before .before .before .before .before .before .before .before .before .before .before .before .before .before .parse-declarations .ensures in
+    let q = sym (e .0) ∙ c .before .before .before .before .before .before .before .before .before .before .before .before .before .before .before .before .enum-told .given .1 in
+    let f = c .before .before .before .before .before .before .before .before .before .before .refuse-names .ensures in
+    let w : drop (s .size) (c .before .before .before .before .before .before .before .before .before .before .before .before .before .before .before .before .before .before .before .before .before .before .before .before .before .before .before .before .before .before .map-text .last .1 .0) ≡ drop (s .size) (s .work .now) = ap (drop (s .size)) m ∙ kept-drop (mapOf xs) (s .work .now) (s .size) (omega (arith, map-length xs, p .0, p .1 .1 .0)) in
+    let d = ap (drop (s .size)) (texts-same xs (s .work .now) _ m q (s .declared .now) _ (s .records .now) _ (e .1)) in
+    let n = subst (λ (k : ℕ). drop k (c .before .before .before .before .before .before .before .before .before .before .before .before .before .before .before .before .before .before .before .before .before .before .parse-declarations .last .1 .1 .1 .0) ≡ drop k (s .records .now)) (sym (p .1 .0)) (e .1 .behind) in
+    rw (refused-is xs (s .work .now) _ m q) (f .0, (f .1 .0, (f .1 .1 .0 ∙ zeroed-same (s .size) [] _ (s .work .now) w, (f .1 .1 .1 .0, (f .1 .1 .1 .1 .0 ∙ zeroed-same (s .size) [] _ (s .declared .now) d, f .1 .1 .1 .1 .1 ∙ zeroed-same (s .numbers) [] _ (s .records .now) n)))))
+
+sub-run-body : tie.Need-sub-run-body
+sub-run-body c = search needs
+
+part-run-body-start : tie.Need-part-run-body-start
+part-run-body-start c = search needs
+
+part-run-body-end : tie.Need-part-run-body-end
+part-run-body-end c = search needs
+
+run-body-requires : tie.Need-run-body-requires
+run-body-requires c κs = let s = c .before .before .before .before .before .before .before .before .before .before .before .before .before .before .before .before .before .before .before .before .before .before .before .before .before .before .before .args in
+    let p = c .before .before .before .before .before .before .before .before .before .before .before .before .before .before .before .before .before .before .before .before .before .before .before .before .before .before .before .pre in
+    (p .0, (omega (arith, p .1 .1 .0, length-drop (c .before .before .before .before .before .before .before .before .before .before .before .before .before .before .before .body-start .result) (s .text .now)), (p .1 .1 .1 .0, (omega (arith, p .1 .1 .1 .1 .0, c .before .before .before .before .before .before .before .before .before .before .before .before .before .before .before .before .before .before .before .map-text .kept .1 .0), p .1 .1 .1 .1 .1 .0))))
+
+if-accepted-requires : tie.Need-if-accepted-requires
+if-accepted-requires c κs = search needs
+
+mul-if-accepted : tie.Need-mul-if-accepted
+mul-if-accepted c = let s = c .before .before .before .before .before .before .before .before .before .before .before .before .before .before .before .before .before .before .before .before .before .before .before .before .before .before .before .before .before .before .before .before .before .before .before .args in
+    let k = count-small (s .text .now) (s .work .now) _ (c .before .before .before .before .before .before .before .before .before .before .before .before .before .before .before .before .before .before .before .before .before .before .before .before .before .before .before .map-text .ensures) (c .before .before .before .before .before .before .before .before .before .before .before .before .before .before .before .before .before .before .before .before .before .before .before .body-start .result) _ _ (c .before .before .before .before .before .before .before .before .before .before .before .before .before .before .before .before .before .before .before .before .before .before .before .body-start .ensures .0) (sym (c .before .before .before .before .before .before .before .before .before .before .before .before .before .before .before .before .before .before .before .parse-declarations .ensures .0) ∙ c .before .before .before .before .before .before .before .before .before .before .before .before .before .parsed .given .1) in
+    omega (arith, k)
+
+add-if-accepted : tie.Need-add-if-accepted
+add-if-accepted c = let s = c .before .before .before .before .before .before .before .before .before .before .before .before .before .before .before .before .before .before .before .before .before .before .before .before .before .before .before .before .before .before .before .before .before .before .before .args in
+    let k = count-small (s .text .now) (s .work .now) _ (c .before .before .before .before .before .before .before .before .before .before .before .before .before .before .before .before .before .before .before .before .before .before .before .before .before .before .before .map-text .ensures) (c .before .before .before .before .before .before .before .before .before .before .before .before .before .before .before .before .before .before .before .before .before .before .before .body-start .result) _ _ (c .before .before .before .before .before .before .before .before .before .before .before .before .before .before .before .before .before .before .before .before .before .before .before .body-start .ensures .0) (sym (c .before .before .before .before .before .before .before .before .before .before .before .before .before .before .before .before .before .before .before .parse-declarations .ensures .0) ∙ c .before .before .before .before .before .before .before .before .before .before .before .before .before .parsed .given .1) in
+    omega (arith, k)
+
+if-accepted-requires-2 : tie.Need-if-accepted-requires-2
+if-accepted-requires-2 c κs = search needs
+
+fill-requires : tie.Need-fill-requires
+fill-requires c κs = search needs
+
+clear-requires : tie.Need-clear-requires
+clear-requires c κs = search needs
+
+with-records-requires : tie.Need-with-records-requires
+with-records-requires c κs = search needs
+
+same-length-6 : tie.Need-same-length-6
+same-length-6 c = search needs
+
+same-length-7 : tie.Need-same-length-7
+same-length-7 c = c .before .before .before .before .before .before .before .before .before .before .before .before .before .before .before .before .before .run-body .kept .1 .1 .0 ∙ c .before .before .before .before .before .before .before .before .before .before .before .before .before .before .before .before .before .before .before .before .before .before .before .before .before .before .before .before .before .before .before .before .before .before .before .before .before .map-text .kept .1 .0
+
+same-length-8 : tie.Need-same-length-8
+same-length-8 c = search needs
+
+same-length-9 : tie.Need-same-length-9
+same-length-9 c = search needs
+
+same-length-10 : tie.Need-same-length-10
+same-length-10 c = search needs
+
+returns-2 : tie.Need-returns-2
+returns-2 c = let s = c .before .before .before .before .before .before .before .before .before .before .before .before .before .before .before .before .before .before .before .before .before .before .before .before .before .before .before .before .before .before .before .before .before .before .before .before .before .before .before .before .before .before .before .before .before .args in
+    let p = c .before .before .before .before .before .before .before .before .before .before .before .before .before .before .before .before .before .before .before .before .before .before .before .before .before .before .before .before .before .before .before .before .before .before .before .before .before .before .before .before .before .before .before .before .before .pre in
+    let xs = s .text .now in
+    let m = c .before .before .before .before .before .before .before .before .before .before .before .before .before .before .before .before .before .before .before .before .before .before .before .before .before .before .before .before .before .before .before .before .before .before .before .before .before .map-text .ensures in
+    let at = c .before .before .before .before .before .before .before .before .before .before .before .before .before .before .before .before .before .before .before .before .before .before .before .before .before .before .before .before .before .before .before .before .before .body-start .result in
+    let b = c .before .before .before .before .before .before .before .before .before .before .before .before .before .before .before .before .before .before .before .before .before .before .before .before .before .before .before .before .before .before .before .before .before .body-start .ensures .0 in
+    let e = c .before .before .before .before .before .before .before .before .before .before .before .before .before .before .before .before .before .before .before .before .before .before .before .before .before .before .before .before .before .parse-declarations .ensures in
+    let q = sym (e .0) ∙ c .before .before .before .before .before .before .before .before .before .before .before .before .before .before .before .before .before .before .before .before .before .before .before .parsed .given .1 in
+    let f = c .before .before .before .before .before .before .before .before .before .before .before .before .before .before .before .before .before .run-body .ensures in
+    let w : drop (s .size) (c .before .before .before .before .before .before .before .before .before .before .before .before .before .before .before .before .before .before .before .before .before .before .before .before .before .before .before .before .before .before .before .before .before .before .before .before .before .map-text .last .1 .0) ≡ drop (s .size) (s .work .now) = ap (drop (s .size)) m ∙ kept-drop (mapOf xs) (s .work .now) (s .size) (omega (arith, map-length xs, p .0, p .1 .1 .0)) in
+    let v : take (length xs - at) (drop at xs) ≡ drop at xs = take-all (length xs - at) (drop at xs) (omega (arith, length-drop at xs)) in
+    let f₀ = f .0 ∙ ap (λ (ys : List ℕ). bodyResult ys .answer) v in
+    let r = c .before .before .before .before .before .before .before .before .before .before .before .before .before .before .before .before .before .run-body .result in
+    let d′ = c .before .before .before .before .before .before .before .before .before .before .before .before .before .before .before .before .before .before .before .before .before .before .before .before .before .before .before .before .before .parse-declarations .last .1 .1 .0 in
+    let rs′ = c .before .before .before .before .before .before .before .before .before .before .before .before .before .before .before .before .before .before .before .before .before .before .before .before .before .before .before .before .before .parse-declarations .last .1 .1 .1 .0 in
+    let n = c .before .before .before .before .before .before .before .before .before .before .if-accepted .ensures in
+    let k = c .before .before .before .before .before .before .before .before .before .if-accepted2 .ensures in
+    let small = texts-small xs (s .work .now) _ m at _ _ b q (p .1 .1 .0) in
+    let count = numbers-small xs (s .work .now) _ m at _ _ b q in
+    let texts = texts-are xs (s .work .now) _ m at _ _ b q r f₀ (s .declared .now) d′ (s .records .now) rs′ (e .1) in
+    let numbers = numbers-are xs (s .work .now) _ m at _ _ b q r f₀ (s .declared .now) d′ (s .records .now) rs′ (e .1) in
+    let d = subst (λ (i : ℕ). drop i d′ ≡ drop i (s .declared .now)) (sym (p .0)) (texts-kept xs (s .work .now) _ m at _ _ b q r f₀ (s .declared .now) d′ (s .records .now) rs′ (e .1) (p .1 .1 .0)) in
+    let h = subst (λ (i : ℕ). drop i rs′ ≡ drop i (s .records .now)) (sym (p .1 .0)) (e .1 .behind) in
+    let l = c .before .before .before .before .before .before .before .before .before .before .before .before .before .before .before .before .before .before .before .before .before .before .before .before .before .before .before .before .before .parse-declarations .kept in (
+      c .with-records .ensures ∙ answer-is xs (s .work .now) _ m at _ _ b q r f₀,
+      (
+        f .1 .0 ∙ ap (λ (ys : List ℕ). zeroedTo (s .size) ys (s .output .now)) (ap (λ (ys : List ℕ). bodyResult ys .output) v ∙ output-is xs (s .work .now) _ m at _ _ b q),
+        (
+          f .1 .1 .0 ∙ zeroed-same (s .size) [] _ (s .work .now) w,
+          (
+            f .1 .1 .1,
+            (
+              c .before .before .before .before .before .before .before .fill .ensures
+                  ∙ zeros-behind (s .size) (c .before .before .before .before .before .before .before .before .before .before .if-accepted .result) (s .declared .now) d′ _ (omega (arith, p .1 .1 .1 .1 .1 .1 .0, l .1 .1 .0))
+                  (omega (arith, n, at-most r _ 65536 small, p .0))
+                  d
+                  (ap (λ (i : ℕ). take i d′) n ∙ texts),
+              c .before .before .before .clear .ensures
+                  ∙ zeros-behind (s .numbers) (c .before .before .before .before .before .before .before .before .before .if-accepted2 .result) (s .records .now) rs′ _ (omega (arith, p .1 .1 .1 .1 .1 .1 .1, l .1 .1 .1 .0))
+                  (omega (arith, k, at-most r _ 4104 count, p .1 .0))
+                  h
+                  (ap (λ (i : ℕ). take i rs′) k ∙ numbers),
+            ),
+          ),
+        ),
+      ),
+    )
+
+pub run-function-spec : {M : Type 1} → statement M
+run-function-spec =
+    tie.close
+    (tie.spec
+    map-text-requires
+    body-start-requires
+    parse-declarations-requires
+    enum-known-parsed
+    enum-told
+    refuse-names-requires
+    same-length
+    same-length-2
+    same-length-3
+    same-length-4
+    same-length-5
+    returns
+    sub-run-body
+    part-run-body-start
+    part-run-body-end
+    run-body-requires
+    if-accepted-requires
+    mul-if-accepted
+    add-if-accepted
+    if-accepted-requires-2
+    fill-requires
+    clear-requires
+    with-records-requires
+    same-length-6
+    same-length-7
+    same-length-8
+    same-length-9
+    same-length-10
+    returns-2)
