@@ -103,3 +103,15 @@ eleven-is-not-n = refl
 own-quotes : body "/*'*/ SELECT a INTO v;" ≡ row 0 0 22 0 "/*'*/ SELECT a INTO v;"
 unfolding computed
 own-quotes = refl
+
+-- ---- what a version worth nothing would get wrong
+
+-- each statement is rewritten, not only the first
+two-statements : body "RAISE EXCEPTION 'a';RAISE EXCEPTION 'b';" ≡ row 0 0 50 0 "SELECT RAISE(ABORT, 'a');SELECT RAISE(ABORT, 'b');"
+unfolding computed
+two-statements = refl
+
+-- a RAISE's end is read afresh behind its level: the quote that the level runs over opens nothing there
+read-afresh : body "RAISE NOTICE'a b;';" ≡ row 0 0 2 0 "';"
+unfolding computed
+read-afresh = refl
