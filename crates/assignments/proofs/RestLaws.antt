@@ -4,8 +4,7 @@ use mathlib.Core.Bool.{not, _&&_}
 use mathlib.Core.List.{List, [], _∷_, _++_, reverse}
 use mathlib.Core.Logic.{_⊎_, inl, inr}
 use mathlib.Core.Option.{Option, none, some}
-use Prim.Native.Nat.{ℕ, zero, suc, _+_, _-_, _≤_}
-use native.Mathlib.Nat.{le-of-suc-le-suc}
+use Prim.Native.Nat.{ℕ, _+_, _-_, _≤_}
 use native.Mathlib.Numerals.{add-one}
 use native.Mathlib.Omega.{arith}
 use denote.Enum.Declared.{tagOf}
@@ -14,7 +13,7 @@ use lib.Seq.{sets, sets-eq, take-at}
 use Rattle.spec.proofs.RefusalBounds.{bytes-length}
 use Rattle.spec.specs.Bytes.{ascii, isIdent, isW}
 use Rattle.spec.specs.Lists.{isEmpty, takeWhile, dropWhile}
-use Rattle.spec.specs.Map.{Marked, mark, marked, live, bytes, lives, ofByte}
+use Rattle.spec.specs.Map.{Marked, marked, live, bytes, lives, ofByte}
 use Rattle.spec.specs.Search.{first, byteHere, pieces}
 use Rattle.spec.specs.Assignments.{Outcome, done, qualified, clause, _⊕_, Target, assignHere, rightSide, startsName, assignmentAt, assignment, statementTarget, checkedStatement, statement, joinStatements, assignments}
 use Rattle.spec.specs.declared.Found.{Found}
@@ -24,7 +23,8 @@ use Rattle.spec.proofs.JoinedPieces.{pieces-cons}
 use Rattle.spec.proofs.LengthLaws.{right-le}
 use Rattle.spec.proofs.ListLaws.{while-sum, drop-while-le}
 use Rattle.spec.proofs.MapLaws.{marked-bytes}
-use Rattle.spec.proofs.WalkLaws.{marked-drop, piecesAt, pieces-cut, pieces-last}
+use Rattle.spec.proofs.WalkLaws.{piecesAt, pieces-cut, pieces-last}
+use Rattle.spec.proofs.PartLaws.{bytes-take, bytes-drop}
 use Rattle.output.specs.Passes.{passAnswer, Leaves}
 use Rattle.output.specs.declared.Pass.{Pass}
 use Rattle.output.specs.declared.Pass.the-variants.{Done}
@@ -32,7 +32,6 @@ use Rattle.output.proofs.Pass as pass
 use Rattle.output.proofs.StoreLaws.{sets-append}
 use Rattle.targets.specs.Tells.{Tells}
 use Rattle.targets.specs.declared.TargetFound.the-variants as target
-use Rattle.targets.proofs.ByteLaws.{bytes-take, bytes-drop}
 use Rattle.assignments.specs.Written.{answerFrom, LeavesFrom}
 use Rattle.assignments.proofs.SetLaws.{bytes-append}
 
@@ -94,19 +93,6 @@ rest-turn whole (qualified q d) rest first out out₁ out₂ n m n₂ r e l k p 
 rest-turn whole (clause d) rest first out out₁ out₂ n m n₂ r e l k p = let z : _≡_ {A = ℕ} 0 1 = cc in absurd (omega arith)
 
 -- ---- the statements of a text
-
-marked-take : (k : ℕ) (xs ms : List ℕ) → length xs ≤ length ms → marked (take k xs) (take k ms) ≡ take k (marked xs ms)
-unfolding marked
-marked-take zero xs ms h = refl
-marked-take (suc k) [] ms h = refl
-marked-take (suc k) (c ∷ cs) [] h = absurd (omega arith)
-marked-take (suc k) (c ∷ cs) (m ∷ ms) h = ap (λ (t : List Marked). mark m c ∷ t) (marked-take k cs ms (le-of-suc-le-suc h))
-
--- a part of a text beside the same part of its map
-pub marked-part : (i k : ℕ) (xs ms : List ℕ) → length xs ≤ length ms → marked (take k (drop i xs)) (take k (drop i ms)) ≡ take k (drop i (marked xs ms))
-marked-part i k xs ms h =
-    marked-take k (drop i xs) (drop i ms) (omega (arith, length-drop i xs, length-drop i ms))
-    ∙ ap (λ (t : List Marked). take k t) (sym (marked-drop i xs ms))
 
 join-cut : (s : List Marked) (ps : List (List Marked)) → (p : List Marked) × (qs : List (List Marked)) × (ps ≡ p ∷ qs)
     → joinStatements (s ∷ ps) ≡ statement s ⊕ (done (live 59 ∷ []) ⊕ joinStatements ps)

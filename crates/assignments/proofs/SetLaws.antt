@@ -19,9 +19,10 @@ use Rattle.spec.proofs.Choice.{and-right}
 use Rattle.spec.proofs.FirstLaws.{first-least}
 use Rattle.spec.proofs.MapLaws.{map-append}
 use Rattle.spec.proofs.WalkLaws.{starts-exact}
+use Rattle.spec.proofs.PartLaws.{bytes-take, bytes-drop}
 use Rattle.output.proofs.StoreLaws.{sets-append}
 use Rattle.scanner.proofs.KeywordLaws.{prefix-by-len}
-use Rattle.targets.proofs.ByteLaws.{empty-length, bytes-take, bytes-drop}
+use Rattle.targets.proofs.ByteLaws.{empty-length}
 use Rattle.targets.proofs.RunLaws.{longBefore, back-part, back-rest}
 use Rattle.assignments.specs.Written.{setText, Writes}
 

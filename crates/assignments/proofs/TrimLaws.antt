@@ -13,7 +13,8 @@ use Rattle.spec.specs.Lists.{isEmpty, dropWhile, dropEnd}
 use Rattle.spec.specs.Map.{Marked, bytes, ofByte}
 use Rattle.spec.specs.Assignments.{trimEnd, trim, startsName}
 use Rattle.spec.proofs.Choice.{by}
-use Rattle.targets.proofs.ByteLaws.{empty-length, bytes-take, bytes-drop, front-byte}
+use Rattle.spec.proofs.PartLaws.{bytes-take, bytes-drop}
+use Rattle.targets.proofs.ByteLaws.{empty-length, front-byte}
 use Rattle.targets.proofs.RunLaws.{endFrom, longBefore, run-rest, back-rest}
 
 module _ {A : Type 0} (f : A → Bool) where

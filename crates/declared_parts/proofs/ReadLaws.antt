@@ -3,17 +3,18 @@ use mathlib.Core.Path.{_≡_, refl, sym, ap, _∙_}
 use mathlib.Core.Bool.{Bool, true, false, cond, _&&_}
 use mathlib.Core.List.{List, [], _∷_, map}
 use mathlib.Core.Option.{Option, none, some}
-use Prim.Native.Nat.{ℕ, zero, suc, _+_, _-_, _≤_}
+use Prim.Native.Nat.{ℕ, suc, _+_, _-_, _≤_}
 use native.Mathlib.Omega.{arith}
 use lib.Dec.{eqb, eqb·suc-zero}
 use lib.ListN.{length, take, drop, length-map}
 use lib.Seq.{take-all}
 use Rattle.spec.proofs.Choice.{by}
 use Rattle.spec.proofs.MapLaws.{marked-length}
-use Rattle.spec.proofs.WalkLaws.{map-take, marked-drop, bytes-drop, while-take}
+use Rattle.spec.proofs.PartLaws.{marked-part, bytes-part}
+use Rattle.spec.proofs.WalkLaws.{while-take}
 use Rattle.spec.specs.Bytes.{ascii, isW}
 use Rattle.spec.specs.Lists.{isEmpty, takeWhile, dropWhile, dropEnd}
-use Rattle.spec.specs.Map.{Marked, byte, bytes, mark, marked, live, ofByte}
+use Rattle.spec.specs.Map.{Marked, byte, bytes, marked, ofByte}
 use Rattle.spec.specs.Search.{first, keywordHere}
 use Rattle.spec.specs.Assignments.{trim, trimEnd}
 use Rattle.spec.specs.Declarations.{requotedDefault, words, declaredOf, partAt, declaration}
@@ -27,25 +28,11 @@ use Rattle.declared_parts.proofs.WordsLaws.{space, inWord, declared-wor
 
 -- ---- a marked text and its bytes
 
--- a part of both is a part of the text beside its map
-marked-take : (n : ℕ) (xs ms : List ℕ) → marked (take n xs) (take n ms) ≡ take n (marked xs ms)
-unfolding marked
-marked-take zero xs ms = refl
-marked-take (suc n) [] ms = refl
-marked-take (suc n) (c ∷ cs) [] = ap (λ (t : List Marked). live c ∷ t) (none n cs)
-  where
-    none : (n : ℕ) (cs : List ℕ) → marked (take n cs) [] ≡ take n (marked cs [])
-    none zero cs = refl
-    none (suc n) [] = refl
-    none (suc n) (c ∷ cs) = ap (λ (t : List Marked). live c ∷ t) (none n cs)
-marked-take (suc n) (c ∷ cs) (m ∷ ms) = ap (λ (t : List Marked). mark m c ∷ t) (marked-take n cs ms)
-
 pub marked-between : (xs ms : List ℕ) (a b : ℕ) → marked (between a b xs) (between a b ms) ≡ between a b (marked xs ms)
-marked-between xs ms a b = marked-take (b - a) (drop a xs) (drop a ms) ∙ ap (take (b - a)) (sym (marked-drop a xs ms))
+marked-between xs ms a b = marked-part a (b - a) xs ms
 
 pub bytes-between : (xs ms : List ℕ) (a b : ℕ) → bytes (between a b (marked xs ms)) ≡ between a b xs
-unfolding bytes
-bytes-between xs ms a b = map-take byte (b - a) (drop a (marked xs ms)) ∙ ap (take (b - a)) (bytes-drop xs ms a)
+bytes-between xs ms a b = bytes-part a (b - a) xs ms
 
 -- the front and the end are as long as those of the bytes
 front-bytes : (f : ℕ → Bool) (t : List Marked) → length (takeWhile (ofByte f) t) ≡ length (takeWhile f (bytes t))

@@ -9,12 +9,14 @@ use native.Mathlib.Omega.{arith}
 use borrow.Author.Tests.{ltb-true, ltb-false}
 use lib.Dec.{ltb}
 use lib.ListN.{length, take, drop, getD, length-append, length-drop, length-map, drop-of-length-le}
-use lib.Seq.{sets, drop-length}
+use lib.Seq.{sets}
 use Rattle.spec.proofs.Choice.{by}
+use Rattle.spec.proofs.CopyLaws.{copied, copied-all}
 use Rattle.spec.proofs.FirstLaws.{first-least}
 use Rattle.spec.proofs.LengthLaws.{word-in}
 use Rattle.spec.proofs.MapLaws.{map-append, marked-length}
-use Rattle.spec.proofs.WalkLaws.{starts-case, drop-step, back-step, map-take, bytes-drop, passesAt}
+use Rattle.spec.proofs.PartLaws.{bytes-part}
+use Rattle.spec.proofs.WalkLaws.{starts-case, drop-step, back-step, bytes-drop, passesAt}
 use Rattle.spec.specs.Bytes.{ascii, upper, isWord}
 use Rattle.spec.specs.Elsif.{elsifFrom, elsif}
 use Rattle.spec.specs.Map.{Marked, live, byte, marked, bytes, lives, frontByte}
@@ -22,7 +24,6 @@ use Rattle.spec.specs.Search.{Test, first, startsIgnoringCase, wordHere, keywor
 use Rattle.scanner.proofs.KeywordLaws.{prefix-by-len}
 use Rattle.spec.specs.declared.Found.the-variants.{At, Nothing}
 use Rattle.output.proofs.StoreLaws.{sets-more}
-use Rattle.elsif.proofs.CopyLaws.{copied, copied-all}
 
 abbrev pub keyword : Test
 keyword = keywordHere (ascii "ELSIF")
@@ -108,10 +109,10 @@ module _ (t : List Marked) where
         (r .from, omega (arith, length-drop j t, r .inside))
 
   -- without a keyword nothing changes
-  pub elsif-last : (i : ℕ) → i ≤ length t → first keyword i t ≡ Nothing → elsifAt t i ≡ drop i t
-  elsif-last i h e =
-      copied-all (λ (l m : List Marked). l ++ m) (λ b. refl) (λ x l b. refl) keyword t (elsifAt t) copies i h e
-      ∙ (ap (λ (l : List Marked). drop i t ++ l) (from-end 0 _ (drop (length t) t) (drop-length t)) ∙ append-nil (drop i t))
+  pub elsif-last : (i : ℕ) → first keyword i t ≡ Nothing → elsifAt t i ≡ drop i t
+  elsif-last i e =
+      copied-all (λ (l m : List Marked). l ++ m) (λ b. refl) (λ x l b. refl) keyword t (elsifAt t) copies [] (λ k h. from-end 0 _ (drop k t) (drop-of-length-le t h)) i e
+      ∙ append-nil (drop i t)
 
   pub elsif-all : elsif t ≡ elsifAt t 0
   unfolding elsif frontByte
@@ -123,20 +124,15 @@ module _ (xs ms : List ℕ) where
   abbrev pub restAt : ℕ → List ℕ
   restAt i = bytes (elsifAt (marked xs ms) i)
 
-  -- the bytes from i up to j
-  bytes-part : (n i : ℕ) → bytes (take n (drop i (marked xs ms))) ≡ take n (drop i xs)
-  unfolding bytes
-  bytes-part n i = map-take byte n (drop i (marked xs ms)) ∙ ap (take n) (bytes-drop xs ms i)
-
   rest-hit : (i j : ℕ) → first keyword i (marked xs ms) ≡ At j → restAt i ≡ take (j - i) (drop i xs) ++ (ascii "ELSEIF" ++ restAt (j + 5))
   unfolding bytes lives
   rest-hit i j e =
       ap bytes (elsif-hit (marked xs ms) i j e)
       ∙ (map-append byte (take (j - i) (drop i (marked xs ms))) (lives (ascii "ELSEIF") ++ elsifAt (marked xs ms) (j + 5))
-      ∙ ap (λ (l : List ℕ). l ++ (ascii "ELSEIF" ++ restAt (j + 5))) (bytes-part (j - i) i))
+      ∙ ap (λ (l : List ℕ). l ++ (ascii "ELSEIF" ++ restAt (j + 5))) (bytes-part i (j - i) xs ms))
 
-  pub rest-last : (i : ℕ) → i ≤ length xs → first keyword i (marked xs ms) ≡ Nothing → restAt i ≡ drop i xs
-  rest-last i h e = ap bytes (elsif-last (marked xs ms) i (rw marked-length h) e) ∙ bytes-drop xs ms i
+  pub rest-last : (i : ℕ) → first keyword i (marked xs ms) ≡ Nothing → restAt i ≡ drop i xs
+  rest-last i e = ap bytes (elsif-last (marked xs ms) i e) ∙ bytes-drop xs ms i
 
   pub rest-within : (i j : ℕ) → first keyword i (marked xs ms) ≡ At j → (i ≤ j) × (j + 5 ≤ length xs)
   rest-within i j e = rw marked-length at (elsif-within (marked xs ms) i j e)

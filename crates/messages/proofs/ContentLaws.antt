@@ -13,6 +13,7 @@ use Rattle.spec.proofs.Choice.{and-left, and-right}
 use Rattle.spec.proofs.SpanLaws.{by-kind, span-le}
 use Rattle.spec.proofs.MapLaws.{map-step, marked-length, text-bytes, text-length}
 use Rattle.spec.proofs.WalkLaws.{while-take, while-length}
+use Rattle.spec.proofs.PartLaws.{bytes-take}
 use Rattle.spec.specs.Lists.{takeWhile, all}
 use Rattle.spec.specs.Map.{Marked, live, quoted, byte, isLiveByte, mark, marked, markedText, bytes, mapOf}
 use Rattle.spec.specs.Spans.{Kind, spanOf, spanAt, spanLen}
@@ -20,7 +21,6 @@ use Rattle.spec.specs.declared.Span.{Span}
 use Rattle.spec.specs.declared.Span.the-variants.{Verbatim, Dollar, Code}
 use Rattle.spans.proofs.StepLaws.{by-front, Stepped}
 use Rattle.messages.specs.Readings.{endsStatement, contentIn}
-use Rattle.messages.proofs.TextLaws.{bytes-take}
 
 -- a byte of the content
 abbrev goesOn : Marked → Bool

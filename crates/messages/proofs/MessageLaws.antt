@@ -14,13 +14,14 @@ use Rattle.spec.proofs.Choice.{by, cond-case, cond-le, and-left}
 use Rattle.spec.proofs.ListLaws.{drop-end-le, drop-while-le}
 use Rattle.spec.proofs.SpanLaws.{seen}
 use Rattle.spec.proofs.WalkLaws.{while-take, while-length}
+use Rattle.spec.proofs.PartLaws.{bytes-take, bytes-drop}
 use Rattle.spec.specs.Bytes.{isW, within}
 use Rattle.spec.specs.Lists.{takeWhile, dropWhile, dropEnd}
 use Rattle.spec.specs.Map.{Marked, byte, bytes, lives, ofByte}
 use Rattle.spec.specs.Assignments.{trim, trimEnd}
 use Rattle.spec.specs.Raise.{closeLen, message}
 use Rattle.messages.specs.Readings.{trimmed, literalLen}
-use Rattle.messages.proofs.TextLaws.{bytes-lives, bytes-take, bytes-drop, front-bytes, bytes-while, bytes-skip, bytes-end, drop-end-take}
+use Rattle.messages.proofs.TextLaws.{bytes-lives, front-bytes, bytes-while, bytes-skip, bytes-end, drop-end-take}
 
 -- ---- where a literal closes
 

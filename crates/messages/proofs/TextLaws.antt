@@ -10,7 +10,8 @@ use lib.ListN.{length, take, drop, getD, length-map, length-drop}
 use lib.Seq.{take-suc, take-take, drop-drop}
 use Rattle.spec.proofs.RefusalBounds.{bytes-length}
 use Rattle.spec.proofs.Choice.{by, and-right}
-use Rattle.spec.proofs.WalkLaws.{map-take, prefixBy, while-drop, while-length, while-length-end, while-length-hit, while-length-miss}
+use Rattle.spec.proofs.PartLaws.{bytes-drop}
+use Rattle.spec.proofs.WalkLaws.{prefixBy, while-drop, while-length, while-length-end, while-length-hit, while-length-miss}
 use Rattle.spec.specs.Bytes.{isW}
 use Rattle.spec.specs.Lists.{isEmpty, takeWhile, dropWhile, dropEnd}
 use Rattle.spec.specs.Map.{Marked, byte, bytes, lives, frontByte, ofByte}
@@ -138,16 +139,6 @@ pub bytes-append : (s t : List Marked) → bytes (s ++ t) ≡ bytes s ++ bytes t
 unfolding bytes
 bytes-append [] t = refl
 bytes-append (x ∷ s) t = ap (λ (l : List ℕ). byte x ∷ l) (bytes-append s t)
-
-pub bytes-take : (n : ℕ) (t : List Marked) → bytes (take n t) ≡ take n (bytes t)
-unfolding bytes
-bytes-take n t = map-take byte n t
-
-pub bytes-drop : (n : ℕ) (t : List Marked) → bytes (drop n t) ≡ drop n (bytes t)
-unfolding bytes
-bytes-drop zero t = refl
-bytes-drop (suc n) [] = refl
-bytes-drop (suc n) (x ∷ t) = bytes-drop n t
 
 pub front-bytes : (t : List Marked) → frontByte t ≡ getD (bytes t) 0 0
 unfolding frontByte bytes

@@ -13,6 +13,7 @@ use Rattle.spec.proofs.Choice.{by, cond-case}
 use Rattle.spec.proofs.Apart.{apart}
 use Rattle.spec.proofs.LengthLaws.{requoted-length, two-length, limited-same, three-fits, five-passes}
 use Rattle.spec.proofs.MapLaws.{map-length, marked-length}
+use Rattle.spec.proofs.PartLaws.{marked-take}
 use Rattle.spec.specs.Requote.{requoted}
 use Rattle.spec.specs.Elsif.{elsif}
 use Rattle.spec.specs.SelectInto.{quoteWalk, selectInto}
@@ -27,7 +28,6 @@ use Rattle.output.specs.declared.Pass.{Pass}
 use Rattle.output.specs.declared.Pass.the-variants.{Done, Qualified, Clause}
 use Rattle.quotes.specs.QuoteMap.{quoteMap}
 use Rattle.quotes.proofs.QuoteLaws.{quote-marks}
-use Rattle.quotes.proofs.PartLaws.{marked-take}
 use Rattle.output.proofs.StoreLaws.{front-stored}
 use Rattle.passes.specs.Gives.{Gives, finished, heldBy}
 use Rattle.set_lines.specs.Writes.{counted}

@@ -14,6 +14,7 @@ use Rattle.spec.proofs.FirstLaws.{first-least}
 use Rattle.spec.proofs.ListLaws.{drop-end-le}
 use Rattle.spec.proofs.MapLaws.{marked-length}
 use Rattle.spec.proofs.WalkLaws.{marked-drop, drop-step, back-step, while-drop, while-length, while-fails, passesAt, pieces-cut, pieces-last}
+use Rattle.spec.proofs.PartLaws.{bytes-part}
 use Rattle.spec.specs.Assignments.{trim, trimEnd}
 use Rattle.spec.specs.Bytes.{isW}
 use Rattle.spec.specs.Lists.{isEmpty, takeWhile, dropWhile, dropEnd, keep}
@@ -23,7 +24,7 @@ use Rattle.spec.specs.SelectInto.{depthAfter, depthOf, commaHere, listed, place
 use Rattle.spec.specs.declared.Found.{Found}
 use Rattle.spec.specs.declared.Found.the-variants.{At, Nothing}
 use Rattle.quotes.specs.Items.{Listed}
-use Rattle.quotes.proofs.PartLaws.{bytes-part, drop-take, drop-end-take, drop-end-some, take-while-bytes, drop-end-bytes}
+use Rattle.quotes.proofs.PartLaws.{drop-take, drop-end-take, drop-end-some, take-while-bytes, drop-end-bytes}
 
 -- the pieces depend on what stands before only by how many parentheses are open there
 pub same-pieces : (b c u : List Marked) → depthOf b ≡ depthOf c → piecesFrom commaHere b u ≡ piecesFrom commaHere c u

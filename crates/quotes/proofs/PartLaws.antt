@@ -1,4 +1,4 @@
--- Parts of a text beside its map, and what stands at their ends. Assumes nothing.
+-- What stands at the end of a list, by a test on its elements, and on a marked text as on its bytes. Assumes nothing.
 use mathlib.Core.Path.{_≡_, refl, sym, ap, _∙_}
 use mathlib.Core.Bool.{Bool, true, false, _&&_, and-false}
 use mathlib.Core.List.{List, [], _∷_, _++_}
@@ -7,27 +7,8 @@ use native.Mathlib.Omega.{arith}
 use lib.ListN.{length, take, drop, getD}
 use lib.Seq.{take-suc, take-nil}
 use Rattle.spec.proofs.Choice.{by}
-use Rattle.spec.proofs.WalkLaws.{marked-drop, map-take, bytes-drop}
 use Rattle.spec.specs.Lists.{isEmpty, takeWhile, dropEnd}
-use Rattle.spec.specs.Map.{Marked, mark, live, byte, marked, bytes, ofByte}
-
--- a part of both is a part of the marked text
-pub marked-take : (n : ℕ) (xs ms : List ℕ) → marked (take n xs) (take n ms) ≡ take n (marked xs ms)
-unfolding marked
-marked-take zero xs ms = refl
-marked-take (suc n) [] ms = refl
-marked-take (suc n) (c ∷ cs) [] = ap (λ (t : List Marked). live c ∷ t) (rw take-nil at (marked-take n cs []))
-marked-take (suc n) (c ∷ cs) (m ∷ ms) = ap (λ (t : List Marked). mark m c ∷ t) (marked-take n cs ms)
-
-pub marked-part : (a n : ℕ) (xs ms : List ℕ) → marked (take n (drop a xs)) (take n (drop a ms)) ≡ take n (drop a (marked xs ms))
-marked-part a n xs ms = marked-take n (drop a xs) (drop a ms) ∙ ap (take n) (sym (marked-drop a xs ms))
-
--- the bytes of a part
-pub bytes-part : (a n : ℕ) (xs ms : List ℕ) → bytes (take n (drop a (marked xs ms))) ≡ take n (drop a xs)
-unfolding bytes
-bytes-part a n xs ms = map-take byte n (drop a (marked xs ms)) ∙ ap (take n) (bytes-drop xs ms a)
-
--- ---- the end of a list, by a test on its elements
+use Rattle.spec.specs.Map.{Marked, byte, bytes, ofByte}
 
 module _ {A : Type 0} where
   pub drop-take : (m n : ℕ) (l : List A) → drop m (take n l) ≡ take (n - m) (drop m l)

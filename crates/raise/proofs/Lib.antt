@@ -1,4 +1,3 @@
-pub mod CopyLaws
 pub mod OutcomeLaws
 pub mod RaiseLaws
 pub mod WrittenLaws

@@ -7,6 +7,7 @@ use lib.ListN.{length, take, drop, length-drop}
 use lib.Seq.{sets}
 use Rattle.spec.proofs.FirstLaws.{first-least}
 use Rattle.spec.proofs.MapLaws.{marked-length}
+use Rattle.spec.proofs.PartLaws.{bytes-part}
 use Rattle.spec.proofs.WalkLaws.{bytes-drop}
 use Rattle.spec.specs.Map.{Marked, marked, bytes}
 use Rattle.spec.specs.Search.{first}
@@ -16,7 +17,6 @@ use Rattle.spec.specs.Raise.{levelWords, levelIn, fateText}
 use Rattle.spec.specs.declared.Found.the-variants.{At, Nothing}
 use Rattle.messages.specs.Readings.{fateIn, Reads}
 use Rattle.messages.specs.declared.RaiseRead.{RaiseRead}
-use Rattle.messages.proofs.TextLaws.{bytes-take}
 use Rattle.raise.proofs.OutcomeLaws.{Turn, turn-both, turn-front, turn-text, clause-first}
 use Rattle.raise.proofs.RaiseLaws.{raised-pos, raiseHere, raiseOf, leftAt, raise-step, raise-last, left-min}
 
@@ -53,7 +53,7 @@ module _ (xs ms : List ℕ) (from : ℕ) where
           )
 
       front-bytes : bytes (take (at - from) (drop from (marked xs ms))) ≡ take (at - from) (drop from xs)
-      front-bytes = bytes-take (at - from) (drop from (marked xs ms)) ∙ ap (take (at - from)) (bytes-drop xs ms from)
+      front-bytes = bytes-part from (at - from) xs ms
 
       ends-here : leftAt (marked xs ms) (at + raiseOf (drop at (marked xs ms)) .length) ≡ leftAt (marked xs ms) (at + r .end)
       ends-here =

@@ -1,7 +1,7 @@
 -- Pass 5 from an offset on: bytes are kept up to the next RAISE, then that RAISE, then what is behind it. Assumes nothing.
 use mathlib.Core.Path.{_≡_, refl, sym, ap, _∙_}
 use mathlib.Core.Bool.{true, false}
-use mathlib.Core.List.{List, [], _∷_, _++_, map, reverse}
+use mathlib.Core.List.{List, [], _∷_, reverse}
 use mathlib.Core.Option.{Option, none, some}
 use Prim.Native.Nat.{ℕ, zero, suc, _+_, _-_, _≤_, _<_, min}
 use native.Mathlib.Omega.{arith}
@@ -9,6 +9,7 @@ use borrow.Author.Tests.{leb-true, leb-false, ltb-true, ltb-false}
 use lib.Dec.{leb, ltb}
 use lib.ListN.{length, take, drop, getD, drop-of-length-le}
 use Rattle.spec.proofs.Choice.{by}
+use Rattle.spec.proofs.CopyLaws.{copied, copied-all}
 use Rattle.spec.proofs.FirstLaws.{first-least}
 use Rattle.spec.proofs.WalkLaws.{drop-step, back-step, passesAt}
 use Rattle.spec.specs.Bytes.{ascii, isWord}
@@ -17,7 +18,6 @@ use Rattle.spec.specs.Search.{Test, first, wordHere, keywordHere}
 use Rattle.spec.specs.Assignments.{Outcome, done, qualified, clause, _⊕_}
 use Rattle.spec.specs.Raise.{Level, levelWords, levelIn, Raised, raisedAt, Part, kept, raised, raisesFrom, fateText, partText, joinParts, raise}
 use Rattle.spec.specs.declared.Found.the-variants.{At, Nothing}
-use Rattle.raise.proofs.CopyLaws.{copy-to, copy-all}
 
 -- a live RAISE stands here
 abbrev pub raiseHere : Test
@@ -101,39 +101,35 @@ module _ (t : List Marked) where
   done-nothing (qualified q n) = refl
   done-nothing (clause c) = refl
 
-  done-more : (x : Marked) (u : List Marked) (o : Outcome) → done (x ∷ []) ⊕ (done u ⊕ o) ≡ done (x ∷ u) ⊕ o
+  done-more : (x : Marked) (u : List Marked) (o : Outcome) → done (x ∷ u) ⊕ o ≡ done (x ∷ []) ⊕ (done u ⊕ o)
   unfolding _⊕_
   done-more x u (done t) = refl
   done-more x u (qualified q n) = refl
   done-more x u (clause c) = refl
 
-  join-kept : (u : List Marked) (ps : List Part) → joinParts (map kept u ++ ps) ≡ done u ⊕ joinParts ps
-  unfolding joinParts partText
-  join-kept [] ps = sym (done-nothing (joinParts ps))
-  join-kept (x ∷ u) ps = rw (join-kept u ps) (done-more x u (joinParts ps))
-
   -- what is left from i on
   abbrev pub leftAt : ℕ → Outcome
   leftAt i = joinParts (raisesAt t i)
+
+  left-kept : (i : ℕ) → i < length t → passesAt raiseHere t i ≡ false → leftAt i ≡ done (getD t i (live 0) ∷ []) ⊕ leftAt (i + 1)
+  unfolding joinParts partText
+  left-kept i h e = ap joinParts (raise-kept i h e)
+
+  left-end : (i : ℕ) → length t ≤ i → leftAt i ≡ done []
+  unfolding joinParts
+  left-end i h = ap joinParts (raises-end i h)
 
   pub raise-step : (i j : ℕ) → first raiseHere i t ≡ At j
       → leftAt i ≡ done (take (j - i) (drop i t)) ⊕ (fateText (raiseOf (drop j t) .fate) ⊕ leftAt (j + raiseOf (drop j t) .length))
   unfolding joinParts partText
   raise-step i j e =
       let b = first-least raiseHere t i j e in
-      ap joinParts (copy-to raiseHere t kept (raisesAt t) raise-kept raises-end i j e)
-      ∙ (join-kept (take (j - i) (drop i t)) (raisesAt t j)
-      ∙ ap (λ (ps : List Part). done (take (j - i) (drop i t)) ⊕ joinParts ps) (raise-goes j (b .inside) (b .passes)))
+      copied (λ (l : List Marked) (o : Outcome). done l ⊕ o) done-nothing done-more raiseHere t leftAt left-kept i j e
+      ∙ ap (λ (ps : List Part). done (take (j - i) (drop i t)) ⊕ joinParts ps) (raise-goes j (b .inside) (b .passes))
 
   pub raise-last : (i : ℕ) → first raiseHere i t ≡ Nothing → leftAt i ≡ done (drop i t) ⊕ done []
-  unfolding joinParts
-  raise-last i e =
-      ap joinParts (copy-all raiseHere t kept (raisesAt t) raise-kept raises-end i e ∙ nothing-behind (map kept (drop i t)))
-      ∙ join-kept (drop i t) []
-    where
-      nothing-behind : (ps : List Part) → ps ≡ ps ++ []
-      nothing-behind [] = refl
-      nothing-behind (p ∷ ps) = ap (λ (l : List Part). p ∷ l) (nothing-behind ps)
+  raise-last =
+      copied-all (λ (l : List Marked) (o : Outcome). done l ⊕ o) done-nothing done-more raiseHere t leftAt left-kept (done []) left-end
 
   -- past the end it does not matter how far
   pub left-min : (j n k : ℕ) → n ≡ min k (length t - j) → j ≤ length t → leftAt (j + k) ≡ leftAt (j + n)

@@ -12,6 +12,7 @@ use Rattle.spec.proofs.FirstLaws.{first-least}
 use Rattle.spec.proofs.LengthLaws.{word-in}
 use Rattle.spec.proofs.MapLaws.{marked-bytes, marked-length}
 use Rattle.spec.proofs.WalkLaws.{bytes-drop, first-within}
+use Rattle.spec.proofs.PartLaws.{marked-part, bytes-part}
 use Rattle.spec.specs.Bytes.{ascii, isIdent, isW, upper}
 use Rattle.spec.specs.Lists.{dropEnd}
 use Rattle.spec.specs.Map.{Marked, byte, marked, bytes, ofByte, frontByte}
@@ -23,7 +24,6 @@ use Rattle.spec.specs.declared.Found.the-variants.{At, Nothing}
 use Rattle.set_lines.specs.Lines.{Shared, linesText}
 use Rattle.select_into.specs.Pairs.{sharedBy, sharedOf, fromText, pairsText}
 use Rattle.select_into.proofs.EndLaws.{bytes-append, bytes-drop-end, listed-trimmed}
-use Rattle.quotes.proofs.PartLaws.{marked-part, bytes-part}
 use Rattle.select_into.proofs.SetLaws.{lines-bytes, indentation-bytes}
 
 -- ---- where a keyword stands

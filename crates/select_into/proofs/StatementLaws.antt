@@ -11,12 +11,12 @@ use Rattle.spec.proofs.FirstLaws.{first-least}
 use Rattle.spec.proofs.JoinedPieces.{pieces-cons}
 use Rattle.spec.proofs.MapLaws.{marked-length}
 use Rattle.spec.proofs.WalkLaws.{drop-step, bytes-drop, piecesAt, pieces-cut, pieces-last}
+use Rattle.spec.proofs.PartLaws.{marked-part}
 use Rattle.spec.specs.Map.{Marked, live, quoted, marked, bytes, isLiveByte}
 use Rattle.spec.specs.Search.{first, byteHere, pieces}
 use Rattle.spec.specs.SelectInto.{selectStatement, joinSelects, selectInto}
 use Rattle.spec.specs.declared.Found.the-variants.{At, Nothing}
 use Rattle.select_into.proofs.EndLaws.{bytes-append}
-use Rattle.quotes.proofs.PartLaws.{marked-part}
 
 live-byte : (b : ℕ) (x : Marked) → isLiveByte b x ≡ true → x ≡ live b
 live-byte b (live c) h = ap live (eqb-true c b h)

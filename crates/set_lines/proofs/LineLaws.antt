@@ -6,12 +6,12 @@ use Prim.Native.Nat.{ℕ, zero, suc, _+_, _-_, _≤_, zero-le, suc-le-suc}
 use native.Mathlib.Omega.{arith}
 use lib.ListN.{length, take, drop, length-drop}
 use lib.Seq.{length-take-le}
+use Rattle.spec.proofs.PartLaws.{bytes-part}
 use Rattle.spec.specs.Lists.{isEmpty}
 use Rattle.spec.specs.Map.{Marked, marked, bytes}
 use Rattle.spec.specs.SelectInto.{listed}
 use Rattle.quotes.specs.Items.{Listed}
 use Rattle.set_lines.specs.Lines.{lineText, limited, breakText, Shared, shared, sharedLine, linesText}
-use Rattle.quotes.proofs.PartLaws.{bytes-part}
 
 -- a part by its end
 pub part-to : {A : Type 0} (xs : List A) (a k : ℕ) → take (a + k - a) (drop a xs) ≡ take k (drop a xs)

@@ -7,6 +7,7 @@ use native.Mathlib.Omega.{arith}
 use borrow.Author.Tests.{eq-eqb, ne-eqb}
 use lib.Dec.{eqb}
 use lib.ListN.{length, take, drop}
+use Rattle.spec.proofs.PartLaws.{bytes-part}
 use Rattle.spec.specs.Bytes.{isW}
 use Rattle.spec.specs.Lists.{isEmpty, any}
 use Rattle.spec.specs.Map.{Marked, byte, marked, bytes, ofByte}
@@ -14,7 +15,6 @@ use Rattle.spec.specs.SelectInto.{listed, pairUp}
 use Rattle.quotes.specs.Items.{Listed, FirstItem}
 use Rattle.quotes.specs.declared.Item.{Item}
 use Rattle.quotes.specs.declared.Item.the-variants.{Part, Over}
-use Rattle.quotes.proofs.PartLaws.{bytes-part}
 
 -- ---- what `next_item` gave
 

@@ -21,3 +21,5 @@ pub mod RefusalLaws
 pub mod RefusalCalls
 pub mod RefusalBounds
 pub mod SearchLaws
+pub mod CopyLaws
+pub mod PartLaws

@@ -2,7 +2,7 @@
 use mathlib.Core.Path.{_≡_, refl, sym, ap, _∙_}
 use mathlib.Core.Bool.{Bool}
 use mathlib.Core.List.{List, [], _∷_, _++_, map, reverse, reverseAux, reverse-append}
-use Prim.Native.Nat.{ℕ, zero, suc, _+_, _-_, _≤_, _<_}
+use Prim.Native.Nat.{ℕ, suc, _+_, _-_, _≤_, _<_}
 use native.Mathlib.Omega.{arith}
 use lib.Dec.{eqb, eqb·suc-zero}
 use lib.ListN.{length, take, drop, getD, length-reverse, length-drop, List·getD-map}
@@ -10,7 +10,8 @@ use lib.Seq.{length-take-le, take-add, take-at, drop-at, getD-drop}
 use Rattle.spec.specs.Lists.{isEmpty, takeWhile}
 use Rattle.spec.specs.Map.{Marked, live, byte, bytes, frontByte, ofByte}
 use Rattle.spec.proofs.Choice.{by}
-use Rattle.spec.proofs.WalkLaws.{back-step, map-take}
+use Rattle.spec.proofs.PartLaws.{bytes-drop}
+use Rattle.spec.proofs.WalkLaws.{back-step}
 
 -- ---- lists
 
@@ -33,24 +34,11 @@ module _ {A : Type 0} (t : List A) (n r : ℕ) (h : r + n ≤ length t) where
   pub back-drop : drop n (reverse (take (r + n) t)) ≡ reverse (take r t)
   back-drop = rw front (drop-at (reverse (take n (drop r t))) (reverse (take r t)) n size)
 
-map-drop : {A B : Type 0} (f : A → B) (n : ℕ) (l : List A) → map f (drop n l) ≡ drop n (map f l)
-map-drop f zero l = refl
-map-drop f (suc n) [] = refl
-map-drop f (suc n) (x ∷ l) = map-drop f n l
-
 map-reverse-onto : {A B : Type 0} (f : A → B) (l r : List A) → map f (reverseAux l r) ≡ reverseAux (map f l) (map f r)
 map-reverse-onto f [] r = refl
 map-reverse-onto f (x ∷ l) r = map-reverse-onto f l (x ∷ r)
 
 -- ---- a marked text
-
-pub bytes-take : (n : ℕ) (t : List Marked) → bytes (take n t) ≡ take n (bytes t)
-unfolding bytes
-bytes-take n t = map-take byte n t
-
-pub bytes-drop : (n : ℕ) (t : List Marked) → bytes (drop n t) ≡ drop n (bytes t)
-unfolding bytes
-bytes-drop n t = map-drop byte n t
 
 pub bytes-reverse : (t : List Marked) → bytes (reverse t) ≡ reverse (bytes t)
 unfolding bytes

@@ -10,7 +10,8 @@ use Rattle.spec.proofs.RefusalBounds.{bytes-length}
 use Rattle.spec.specs.Lists.{takeWhile, dropWhile}
 use Rattle.spec.specs.Map.{Marked, bytes, ofByte}
 use Rattle.spec.proofs.WalkLaws.{back-step, while-take, while-drop, while-length, while-length-end, while-length-hit, while-length-miss}
-use Rattle.targets.proofs.ByteLaws.{back-take, back-drop, bytes-take, bytes-drop, bytes-reverse, while-bytes}
+use Rattle.spec.proofs.PartLaws.{bytes-take, bytes-drop}
+use Rattle.targets.proofs.ByteLaws.{back-take, back-drop, bytes-reverse, while-bytes}
 
 -- ---- one step of each loop
 

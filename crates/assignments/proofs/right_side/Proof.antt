@@ -5,10 +5,10 @@ use Prim.Native.Nat.{ℕ, _-_}
 use lib.Dec.{eqb}
 use lib.ListN.{take}
 use lib.Seq.{length-take-le}
+use Rattle.spec.proofs.PartLaws.{bytes-take}
 use Rattle.spec.specs.Lists.{dropEnd}
 use Rattle.spec.specs.Map.{bytes, ofByte}
 use Rattle.spec.specs.Assignments.{trim, rightSide}
-use Rattle.targets.proofs.ByteLaws.{bytes-take}
 use Rattle.assignments.proofs.TrimLaws.{end-at}
 use borrow.Author.Needs.{needs}
 use Rattle.assignments.proofs.right_side.Statement.{statement}

@@ -12,9 +12,10 @@ use Rattle.spec.specs.declared.Found.the-variants.{At}
 use Rattle.spec.proofs.AheadLaws.{rest-of}
 use Rattle.spec.proofs.MapLaws.{marked-length}
 use Rattle.spec.proofs.WalkLaws.{marked-drop, first-within}
+use Rattle.spec.proofs.PartLaws.{marked-part}
 use Rattle.output.specs.declared.Pass.the-variants.{Done}
 use Rattle.assignments.specs.Written.{answerFrom, LeavesFrom}
-use Rattle.assignments.proofs.RestLaws.{Rest, rest-start, rest-refused, rest-turn, marked-part, leftFrom, left-cut, left-last, statement-long}
+use Rattle.assignments.proofs.RestLaws.{Rest, rest-start, rest-refused, rest-turn, leftFrom, left-cut, left-last, statement-long}
 use Rattle.assignments.proofs.transform_assignments.Statement.{statement}
 use Rattle.assignments.proofs.transform_assignments.Tie as tie
 
@@ -58,7 +59,7 @@ piece-long c =
     length-take-le _ (drop (c .before .before .before .before .loop .from) t) (omega (arith, length-drop (c .before .before .before .before .loop .from) t, marked-length (c .before .before .before .before .before .before .before .before .args .text .now) (c .before .before .before .before .before .before .before .before .args .map .now)))
 
 piece-same : (c : tie.After-known-told Inv-loop μ-loop) → marked (partTo c (c .before .before .before .before .before .before .before .before .args .text .now)) (partTo c (c .before .before .before .before .before .before .before .before .args .map .now)) ≡ pieceOf c
-piece-same c = marked-part (c .before .before .before .before .loop .from) (c .before .found .given .0 .0 - c .before .before .before .before .loop .from) (c .before .before .before .before .before .before .before .before .args .text .now) (c .before .before .before .before .before .before .before .before .args .map .now) (omega arith)
+piece-same c = marked-part (c .before .before .before .before .loop .from) (c .before .found .given .0 .0 - c .before .before .before .before .loop .from) (c .before .before .before .before .before .before .before .before .args .text .now) (c .before .before .before .before .before .before .before .before .args .map .now)
 
 -- what is made of it, and what is left
 answered : (c : tie.After-put-statement2 Inv-loop μ-loop) → c .put-statement2 .result ≡ answerFrom (c .before .before .before .before .before .before .before .before .loop .n) (outcome (pieceOf (c .before .before .before .before)))

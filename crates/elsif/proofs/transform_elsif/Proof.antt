@@ -86,7 +86,7 @@ returns : tie.Need-returns Inv-loop μ-loop
 returns c =
     let l = c .before .before .before .before .before .before .before .before .before .loop in
     let xs = c .before .before .before .before .before .before .before .before .before .before .before .before .before .args .text .now in
-    let e : restAt xs (c .before .before .before .before .before .before .before .before .before .before .before .before .before .args .map .now) (l .from) ≡ drop (l .from) xs = rest-last xs (c .before .before .before .before .before .before .before .before .before .before .before .before .before .args .map .now) (l .from) (omega arith) (sym (sought-from (c .before .before .before .before .before .before .before)) ∙ c .before .before .before .before .before .enum-told .given .1) in
+    let e : restAt xs (c .before .before .before .before .before .before .before .before .before .before .before .before .before .args .map .now) (l .from) ≡ drop (l .from) xs = rest-last xs (c .before .before .before .before .before .before .before .before .before .before .before .before .before .args .map .now) (l .from) (sym (sought-from (c .before .before .before .before .before .before .before)) ∙ c .before .before .before .before .before .enum-told .given .1) in
     let h : c .before .before .put-all .result ≡ l .n + length (take (length xs - l .from) (drop (l .from) xs)) = c .before .before .put-all .ensures .0 in
     let g : c .before .before .put-all .last .0 ≡ sets (l .out) (l .n) (take (length xs - l .from) (drop (l .from) xs)) = c .before .before .put-all .ensures .1 in
     let k = rw rest-of at h in

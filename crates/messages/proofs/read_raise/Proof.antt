@@ -8,8 +8,8 @@ use Rattle.spec.proofs.RefusalBounds.{bytes-length}
 use Rattle.spec.specs.Map.{Marked, bytes}
 use Rattle.spec.specs.Raise.{Level, levelIn, levelWords}
 use Rattle.spec.proofs.AheadLaws.{rest-of}
+use Rattle.spec.proofs.PartLaws.{bytes-drop}
 use Rattle.messages.specs.Readings.{levelFound, levelReach, Reads}
-use Rattle.messages.proofs.TextLaws.{bytes-drop}
 use Rattle.messages.proofs.ReadingLaws.{found-exception, found-other, found-nothing, level-none, reads-none}
 use borrow.Author.Needs.{needs}
 use Rattle.messages.proofs.read_raise.Statement.{statement}

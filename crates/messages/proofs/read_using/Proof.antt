@@ -12,8 +12,9 @@ use Rattle.spec.specs.Raise.{message}
 use Rattle.spec.proofs.AheadLaws.{rest-of}
 use Rattle.spec.proofs.SpanLaws.{seen}
 use Rattle.spec.proofs.WalkLaws.{prefixBy}
+use Rattle.spec.proofs.PartLaws.{bytes-drop}
 use Rattle.messages.specs.Readings.{aborting}
-use Rattle.messages.proofs.TextLaws.{run-within, run-le, bytes-lives, bytes-drop}
+use Rattle.messages.proofs.TextLaws.{run-within, run-le, bytes-lives}
 use Rattle.messages.proofs.MessageLaws.{message-le}
 use Rattle.messages.proofs.UsingLaws.{no-message, no-equals, no-quote, more-behind, only-message, quote-front}
 use borrow.Author.Needs.{needs}

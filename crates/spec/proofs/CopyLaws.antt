@@ -38,17 +38,15 @@ module _ {B : Type 0} (put : List Marked → B → B)
         (copies k h q ∙ (ap (put (getD t k (live 0) ∷ [])) (rest r) ∙ sym (more _ _ _)))))
         i
 
-    -- where none passes, all of it is copied
-    pub copied-all : (i : ℕ) → i ≤ length t → first p i t ≡ Nothing → made i ≡ put (drop i t) (made (length t))
-    copied-all i =
-        climb (λ (k : ℕ). k ≤ length t → first p k t ≡ Nothing → made k ≡ put (drop k t) (made (length t))) (length t)
-        (λ k h m e.
-        let same : k ≡ length t = omega arith in
-        rw (drop-of-length-le t h) (ap made same ∙ sym (none (made (length t)))))
-        (λ k h rest m e.
+    -- where none passes, all of it is copied, and past the end stands b
+    pub copied-all : (b : B) → ((k : ℕ) → length t ≤ k → made k ≡ b) → (i : ℕ) → first p i t ≡ Nothing → made i ≡ put (drop i t) b
+    copied-all b ends i =
+        climb (λ (k : ℕ). first p k t ≡ Nothing → made k ≡ put (drop k t) b) (length t)
+        (λ k h e. rw (drop-of-length-le t h) (ends k h ∙ sym (none b)))
+        (λ k h rest e.
         by (passesAt p t k)
         (λ q. apart (first p k t) k (first-hit p t k h q) e)
         (λ q.
         rw (drop-step t k (live 0) h)
-        (copies k h q ∙ (ap (put (getD t k (live 0) ∷ [])) (rest (omega arith) (sym (first-miss p t k h q) ∙ e)) ∙ sym (more _ _ _)))))
+        (copies k h q ∙ (ap (put (getD t k (live 0) ∷ [])) (rest (sym (first-miss p t k h q) ∙ e)) ∙ sym (more _ _ _)))))
         i
