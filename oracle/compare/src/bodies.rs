@@ -4,36 +4,42 @@ use reference::context::PlPgSqlContext;
 use reference::preprocessor::PlPgSqlPreprocessor;
 use reference::Error;
 
-use crate::calls::{BUFFER_SIZE, TEXT_LIMIT};
+use crate::calls::BUFFER_SIZE;
+use crate::lent::Lent;
 use crate::library::{self, Answer};
 use crate::report::Row;
 use crate::subject::{Outcome, Subject};
 
 pub fn transform_body(subject: &mut Subject, row: &mut Row) {
-    if subject.text.len() > TEXT_LIMIT {
-        return;
-    }
-    let (expected, front) = expected(subject.text);
-    let [mut output, mut work, mut spare] = [0; 3].map(|_| subject.lend(BUFFER_SIZE));
-    let got = library::transform_body(subject.bytes(), output.lend(), work.lend(), spare.lend());
-    let zeros = vec![0; BUFFER_SIZE];
-    let mut result = front;
-    result.resize(BUFFER_SIZE, 0);
-    let buffers = output.holds(&result) && work.holds(&zeros) && spare.holds(&zeros);
-    subject.judge(row, format_args!(""), Outcome { expected, got, buffers });
+    let lengths = [0; 3].map(|_| BUFFER_SIZE + subject.random.below(4));
+    let outcome = outcome(subject.bytes(), lengths, &expected(subject.text));
+    subject.judge(row, format_args!(""), outcome);
+}
+
+/// What the call makes of a text that its checks let pass, with new buffers of these lengths.
+pub fn outcome(text: &[u8], lengths: [usize; 3], expected: &(Answer, Vec<u8>)) -> Outcome {
+    let [mut output, mut work, mut spare] = lengths.map(Lent::new);
+    let got = library::transform_body(text, output.lend(), work.lend(), spare.lend());
+    let buffers =
+        output.holds_filled(&expected.1) && work.holds_filled(&[]) && spare.holds_filled(&[]);
+    Outcome { expected: expected.0, got, buffers }
 }
 
 /// The numbers of the reference's answer, and what stands in front of the output.
-fn expected(text: &str) -> (Answer, Vec<u8>) {
-    let (number, place, front) =
-        match PlPgSqlPreprocessor::transform_body(text, &PlPgSqlContext::new()) {
-            Ok(output) if output.len() > BUFFER_SIZE => (6, 0, String::new()),
-            Ok(output) => (0, 0, output),
-            Err(Error::QualifiedAssignment { qualifier, name }) => {
-                (4, qualifier.len(), format!("{qualifier}.{name}"))
-            }
-            Err(Error::UnsupportedRaiseUsing { clause }) => (5, 0, clause),
-            Err(other) => panic!("an error that no rewriting gives: {other:?}"),
-        };
+pub fn expected(text: &str) -> (Answer, Vec<u8>) {
+    numbered(PlPgSqlPreprocessor::transform_body(text, &PlPgSqlContext::new()))
+}
+
+/// The same for what the reference gave. A result that is too long for one buffer is refused.
+pub fn numbered(given: Result<String, Error>) -> (Answer, Vec<u8>) {
+    let (number, place, front) = match given {
+        Ok(output) if output.len() > BUFFER_SIZE => (6, 0, String::new()),
+        Ok(output) => (0, 0, output),
+        Err(Error::QualifiedAssignment { qualifier, name }) => {
+            (4, qualifier.len(), format!("{qualifier}.{name}"))
+        }
+        Err(Error::UnsupportedRaiseUsing { clause }) => (5, 0, clause),
+        Err(other) => panic!("an error that no rewriting gives: {other:?}"),
+    };
     ([number, place as u32, front.len() as u32, 0], front.into_bytes())
 }

@@ -12,6 +12,9 @@ pub const TEXT_LIMIT: usize = 16_384;
 /// What is lent for the output, and for each work buffer.
 pub const BUFFER_SIZE: usize = 65_536;
 
+/// The record numbers that are lent: eight for each of 512 records, and the head's.
+pub const RECORD_NUMBERS: usize = 4_104;
+
 pub struct Call {
     pub name: &'static str,
     /// The most bytes of its text.

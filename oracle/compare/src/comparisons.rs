@@ -1,17 +1,16 @@
-//! The list of comparisons. A new call of the library adds one line here and one in `calls`.
+//! The lists of comparisons on one text. A new search adds one line here and one in `calls`.
 
 use texts::random::Random;
 
 use crate::bodies;
-use crate::joined;
 use crate::report::{Report, Row};
 use crate::searches;
 use crate::subject::Subject;
 
 /// A name, and what is asked about one text.
-type Comparison = (&'static str, fn(&mut Subject, &mut Row));
+pub type Comparison = (&'static str, fn(&mut Subject, &mut Row));
 
-const COMPARISONS: [Comparison; 11] = [
+pub const SEARCHES: &[Comparison] = &[
     ("regions", searches::regions),
     ("find_keyword", searches::find_keyword),
     ("find_in_code", searches::find_in_code),
@@ -21,19 +20,19 @@ const COMPARISONS: [Comparison; 11] = [
     ("requote_dollar_literals", searches::requote),
     ("has_unterminated_dollar_quote", searches::unterminated),
     ("has_exception_handler", searches::handler),
-    ("transform_body", bodies::transform_body),
-    ("joined", joined::joined),
 ];
 
-/// A report that holds nothing yet.
-pub fn report() -> Report {
-    Report::new(COMPARISONS.iter().map(|(name, _)| *name))
+pub const BODIES: &[Comparison] = &[("transform_body", bodies::transform_body)];
+
+/// The names of a list, as a report's rows.
+pub fn names(list: &[Comparison]) -> Vec<&'static str> {
+    list.iter().map(|(name, _)| *name).collect()
 }
 
-/// Every comparison on one text.
-pub fn compare(text: &str, random: &mut Random, report: &mut Report) {
+/// Every comparison of a list on one text.
+pub fn compare(list: &[Comparison], text: &str, random: &mut Random, report: &mut Report) {
     let mut subject = Subject::new(text, random);
-    for ((_, ask), row) in COMPARISONS.iter().zip(&mut report.rows) {
+    for ((_, ask), row) in list.iter().zip(&mut report.rows) {
         ask(&mut subject, row);
     }
 }

@@ -12,7 +12,7 @@ const NOT_ASCII: u32 = 2;
 const TOO_SHORT: u32 = 3;
 
 pub fn compare() -> Report {
-    let mut report = Report::new(CALLS.iter().map(|call| call.name));
+    let mut report = Report::new(&CALLS.map(|call| call.name));
     for (call, row) in CALLS.iter().zip(&mut report.rows) {
         let mut limits = Limits { call, row };
         limits.accepted();

@@ -1,33 +1,58 @@
-//! Texts of the greatest length that a search takes, and of one byte less.
+//! Texts of the greatest length that a search or a call takes, and of one byte less.
 
 use texts::random::Random;
 
-use crate::calls::SEARCH_LIMIT;
+use crate::calls::{SEARCH_LIMIT, TEXT_LIMIT};
+use crate::report::grouped;
 
-/// Each is repeated, so that one kind of span or one search takes the whole text.
-const PATTERNS: &[&str] = &[
-    "a", " ", ";", "$", "'", "\"", "/*", "*/", "--", "\\", "''", "$$'", "$a$ ", "$1", "v := 1;\n",
-    "EXCEPTION x WHEN ", "-- c\n", "$t$'$t$",
-];
+/// Long texts for one kind of call.
+pub struct Long {
+    limit: usize,
+    /// Each is repeated, so that one kind of span, one search or one pass takes the whole text.
+    patterns: &'static [&'static str],
+}
+
+pub const SEARCH_TEXTS: Long = Long {
+    limit: SEARCH_LIMIT,
+    patterns: &[
+        "a", " ", ";", "$", "'", "\"", "/*", "*/", "--", "\\", "''", "$$'", "$a$ ", "$1",
+        "v := 1;\n", "EXCEPTION x WHEN ", "-- c\n", "$t$'$t$",
+    ],
+};
+
+pub const BODY_TEXTS: Long = Long {
+    limit: TEXT_LIMIT,
+    patterns: &[
+        "a", " ", ";", "$", "'", "/*", "--", "\\", "$$'", "$a$ ", "-- c\n", "$t$'$t$", "ELSIF ",
+        "a:=1;", ":=", "CASE ", "END ", "THEN a.b ", "SELECT a INTO v;", "SELECT ", "(", ",",
+        "RAISE ", "RAISE LOG;", "RAISE EXCEPTION;", "RAISE EXCEPTION 'a', b;",
+    ],
+};
 
 /// How many long texts are made of random ones.
 const MIXED: usize = 12;
 
-pub fn count() -> u64 {
-    2 * (PATTERNS.len() + MIXED) as u64
-}
-
-/// The text of this number: patterns first, each in both lengths.
-pub fn text(number: u64, random: &mut Random) -> String {
-    let (index, less) = ((number / 2) as usize, (number % 2) as usize);
-    let length = SEARCH_LIMIT - less;
-    let mut text = String::new();
-    while text.len() < length {
-        match PATTERNS.get(index) {
-            Some(pattern) => text.push_str(pattern),
-            None => text.push_str(&texts::any(random)),
-        }
+impl Long {
+    pub fn title(&self) -> String {
+        format!("{} texts of {} bytes and one less", self.count(), grouped(self.limit as u64))
     }
-    text.truncate(length);
-    text
+
+    pub fn count(&self) -> u64 {
+        2 * (self.patterns.len() + MIXED) as u64
+    }
+
+    /// The text of this number: patterns first, each in both lengths.
+    pub fn text(&self, number: u64, random: &mut Random) -> String {
+        let (index, less) = ((number / 2) as usize, (number % 2) as usize);
+        let length = self.limit - less;
+        let mut text = String::new();
+        while text.len() < length {
+            match self.patterns.get(index) {
+                Some(pattern) => text.push_str(pattern),
+                None => text.push_str(&texts::any(random)),
+            }
+        }
+        text.truncate(length);
+        text
+    }
 }

@@ -44,8 +44,8 @@ pub struct Report {
 }
 
 impl Report {
-    pub fn new(names: impl Iterator<Item = &'static str>) -> Self {
-        Self { rows: names.map(Row::new).collect() }
+    pub fn new(names: &[&'static str]) -> Self {
+        Self { rows: names.iter().map(|name| Row::new(name)).collect() }
     }
 
     /// Adds the rows of a report on the same comparisons.

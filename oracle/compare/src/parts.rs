@@ -1,0 +1,134 @@
+//! The parts of a run: which texts each of them takes, and what is compared on them.
+
+use std::time::Instant;
+
+use texts::random::Random;
+
+use crate::comparisons::{compare, names, Comparison, BODIES, SEARCHES};
+use crate::every;
+use crate::joined;
+use crate::limits;
+use crate::long;
+use crate::options::Options;
+use crate::report::{grouped, Report};
+use crate::work::{share, Work};
+
+pub struct Part {
+    pub name: &'static str,
+    /// How many random texts or pairs it takes, if the command line names no number.
+    random: u64,
+    run: fn(&mut Run),
+}
+
+pub const PARTS: [Part; 4] = [
+    Part { name: "limits", random: 0, run: run_limits },
+    Part { name: "searches", random: 2_000_000, run: run_searches },
+    Part { name: "bodies", random: 5_000_000, run: run_bodies },
+    Part { name: "joined", random: 5_000_000, run: run_joined },
+];
+
+impl Part {
+    /// Runs the part; the answer is how many answers differ.
+    pub fn run(&self, options: &Options) -> u64 {
+        let random = options.random.unwrap_or(self.random);
+        let mut run = Run { options, random, differing: 0 };
+        (self.run)(&mut run);
+        run.differing
+    }
+}
+
+fn run_limits(run: &mut Run) {
+    run.section("limits and refusals".to_string(), limits::compare);
+}
+
+fn run_searches(run: &mut Run) {
+    let longest = long::SEARCH_TEXTS;
+    run.texts(SEARCHES, longest.title(), longest.count(), 1, |n, random| longest.text(n, random));
+    run.every(SEARCHES);
+    run.random(SEARCHES, texts::any);
+}
+
+fn run_bodies(run: &mut Run) {
+    let longest = long::BODY_TEXTS;
+    run.texts(BODIES, longest.title(), longest.count(), 1, |n, random| longest.text(n, random));
+    run.every(BODIES);
+    run.random(BODIES, |random| match random.percent(50) {
+        true => texts::body(random),
+        false => texts::any(random),
+    });
+}
+
+fn run_joined(run: &mut Run) {
+    let count = every::count(run.options.longest - 1);
+    let title = format!("pairs with all {} short texts, where closed", grouped(count));
+    run.shared(title, &joined::ROWS, count, 4096, |number, random, report| {
+        joined::short_front(&every::text(number), random, report);
+    });
+    let bodies = run.random.div_ceil(joined::FRONTS);
+    let pairs = grouped(bodies * joined::FRONTS);
+    let title = format!("{pairs} random pairs, seed {}", run.options.seed);
+    run.shared(title, &joined::ROWS, bodies, 1024, |_, random, report| {
+        joined::random_fronts(random, report);
+    });
+}
+
+/// A part that is running.
+pub struct Run<'a> {
+    options: &'a Options,
+    random: u64,
+    differing: u64,
+}
+
+impl Run<'_> {
+    /// Compares, prints the report and counts what differs.
+    fn section(&mut self, title: String, compare: impl FnOnce() -> Report) {
+        let started = Instant::now();
+        let report = compare();
+        println!("{title}: {} s", started.elapsed().as_secs());
+        print!("{report}");
+        self.differing += report.differing();
+    }
+
+    /// The same with the items shared out among threads.
+    fn shared(
+        &mut self,
+        title: String,
+        rows: &[&'static str],
+        count: u64,
+        block: u64,
+        compare: impl Fn(u64, &mut Random, &mut Report) + Sync,
+    ) {
+        let Options { seed, threads, .. } = *self.options;
+        let work = Work { count, block, seed, threads };
+        self.section(title, || share(&work, rows, compare));
+    }
+
+    /// A list of comparisons on each of the texts.
+    fn texts(
+        &mut self,
+        list: &[Comparison],
+        title: String,
+        count: u64,
+        block: u64,
+        text: impl Fn(u64, &mut Random) -> String + Sync,
+    ) {
+        self.shared(title, &names(list), count, block, |number, random, report| {
+            let text = text(number, random);
+            compare(list, &text, random, report);
+        });
+    }
+
+    /// A list of comparisons on every short text.
+    fn every(&mut self, list: &[Comparison]) {
+        let longest = self.options.longest;
+        let count = every::count(longest);
+        let title = format!("all {} texts of up to {longest} bytes", grouped(count));
+        self.texts(list, title, count, 4096, |number, _| every::text(number));
+    }
+
+    /// A list of comparisons on random texts.
+    fn random(&mut self, list: &[Comparison], text: fn(&mut Random) -> String) {
+        let title = format!("{} random texts, seed {}", grouped(self.random), self.options.seed);
+        self.texts(list, title, self.random, 4096, |_, random| text(random));
+    }
+}
