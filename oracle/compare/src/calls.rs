@@ -70,6 +70,18 @@ const fn with_map(
     Call { name, limit: SEARCH_LIMIT, enough: |n| vec![n], has_needle, place_at: 2, run }
 }
 
+pub const TRANSFORM_BODY: Call = Call {
+    name: "transform_body",
+    limit: TEXT_LIMIT,
+    enough: |_| vec![BUFFER_SIZE; 3],
+    has_needle: false,
+    place_at: 1,
+    run: |text, lent, _| {
+        let [output, work, spare] = &mut lent.bytes[..] else { unreachable!() };
+        library::transform_body(text, output.lend(), work.lend(), spare.lend())
+    },
+};
+
 pub const CALLS: [Call; 11] = [
     with_map("regions", false, |text, lent, _| library::regions(text, lent.bytes[0].lend())),
     with_map("find_keyword", true, |text, lent, keyword| {
@@ -114,15 +126,5 @@ pub const CALLS: [Call; 11] = [
         library::has_exception_handler(text, lent.bytes[0].lend())
     }),
     with_map("is_closed", false, |text, lent, _| library::is_closed(text, lent.bytes[0].lend())),
-    Call {
-        name: "transform_body",
-        limit: TEXT_LIMIT,
-        enough: |_| vec![BUFFER_SIZE; 3],
-        has_needle: false,
-        place_at: 1,
-        run: |text, lent, _| {
-            let [output, work, spare] = &mut lent.bytes[..] else { unreachable!() };
-            library::transform_body(text, output.lend(), work.lend(), spare.lend())
-        },
-    },
+    TRANSFORM_BODY,
 ];

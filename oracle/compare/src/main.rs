@@ -13,6 +13,7 @@ mod options;
 mod parts;
 mod questions;
 mod report;
+mod results;
 mod searches;
 mod subject;
 mod work;

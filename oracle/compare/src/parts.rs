@@ -11,6 +11,7 @@ use crate::limits;
 use crate::long;
 use crate::options::Options;
 use crate::report::{grouped, Report};
+use crate::results;
 use crate::work::{share, Work};
 
 pub struct Part {
@@ -39,6 +40,7 @@ impl Part {
 
 fn run_limits(run: &mut Run) {
     run.section("limits and refusals".to_string(), limits::compare);
+    run.section("rewriting calls at their limits".to_string(), results::compare);
 }
 
 fn run_searches(run: &mut Run) {

@@ -1,0 +1,181 @@
+//! The rewriting calls at their limits: results of the greatest length and one byte more, the order of
+//! the refusals, and every buffer one short, just long enough and longer.
+//!
+//! The reference has no limits, so each text stands here with the number that the scope paper's table
+//! gives it. Accepted results and what refusals 4 and 5 hand back are the reference's.
+
+use reference::context::PlPgSqlContext;
+use reference::preprocessor::PlPgSqlPreprocessor;
+
+use crate::bodies;
+use crate::calls::{self, Call, Made, BUFFER_SIZE, TEXT_LIMIT};
+use crate::report::{Report, Row};
+use crate::subject::Outcome;
+
+/// One of the two calls.
+struct Rewriting {
+    call: &'static Call,
+    /// For each buffer a length that is too short, the least one, and a longer one.
+    lengths: &'static [[usize; 3]],
+    cases: fn() -> Vec<Case>,
+    /// The outcome of the call on a text of this number with these buffers, all long enough.
+    outcome: fn(&str, &[usize], u32) -> Outcome,
+}
+
+/// A text that passes the checks, and the number that it gives.
+struct Case {
+    number: u32,
+    title: &'static str,
+    text: String,
+}
+
+const BYTES: [usize; 3] = [BUFFER_SIZE - 1, BUFFER_SIZE, 70_000];
+
+const REWRITINGS: [Rewriting; 1] = [Rewriting {
+    call: &calls::TRANSFORM_BODY,
+    lengths: &[BYTES; 3],
+    cases: body_cases,
+    outcome: bodies::limited,
+}];
+
+pub fn compare() -> Report {
+    let mut report = Report::new(&REWRITINGS.map(|one| one.call.name));
+    for (rewriting, row) in REWRITINGS.iter().zip(&mut report.rows) {
+        for case in (rewriting.cases)() {
+            rewriting.with_all_lengths(&case, row);
+            rewriting.refused_ahead(&case, row);
+        }
+    }
+    report
+}
+
+impl Rewriting {
+    fn with_all_lengths(&self, case: &Case, row: &mut Row) {
+        for lengths in choices(self.lengths) {
+            if self.is_short(&lengths) {
+                self.untouched(case.text.as_bytes(), &lengths, [3, 0, 0, 0], case, row);
+                continue;
+            }
+            let outcome = (self.outcome)(&case.text, &lengths, case.number);
+            let right = outcome.expected == outcome.got && outcome.expected[0] == case.number;
+            row.note(right && outcome.buffers, || {
+                let Case { number, title, text } = case;
+                let held = if outcome.buffers { "right" } else { "wrong" };
+                format!(
+                    "{title}, {} bytes, buffers of {lengths:?}: number {number}, {:?} expected, \
+                     {:?} got, buffers {held}",
+                    text.len(),
+                    outcome.expected,
+                    outcome.got,
+                )
+            });
+        }
+    }
+
+    /// The same text too long, or with bytes over 127 at its front, at its end or alone.
+    fn refused_ahead(&self, case: &Case, row: &mut Row) {
+        let bytes = case.text.as_bytes();
+        let enough: Vec<usize> = self.lengths.iter().map(|[_, least, _]| *least).collect();
+        let too_long = [bytes, &vec![b';'; TEXT_LIMIT + 1 - bytes.len()]].concat();
+        self.untouched(&too_long, &enough, [1, 0, 0, 0], case, row);
+        let (mut first, mut last) = (bytes.to_vec(), bytes.to_vec());
+        first[0] = 0x80;
+        *last.last_mut().expect("no case is empty") = 0xff;
+        self.untouched(&first, &enough, [2, 0, 0, 0], case, row);
+        self.untouched(&last, &enough, [2, bytes.len() as u32 - 1, 0, 0], case, row);
+        self.untouched(&[0xc3], &enough, [2, 0, 0, 0], case, row);
+    }
+
+    /// A call that is refused by its checks writes nothing.
+    fn untouched(
+        &self,
+        text: &[u8],
+        lengths: &[usize],
+        answer: [u32; 4],
+        case: &Case,
+        row: &mut Row,
+    ) {
+        let made = self.call.make(text, lengths, b"");
+        row.note(made == Made { answer, is_untouched: true }, || {
+            let held = if made.is_untouched { "untouched" } else { "written" };
+            format!(
+                "{}, {} bytes, buffers of {lengths:?}: {answer:?} expected, {:?} got, buffers {held}",
+                case.title,
+                text.len(),
+                made.answer,
+            )
+        });
+    }
+
+    fn is_short(&self, lengths: &[usize]) -> bool {
+        lengths.iter().zip(self.lengths).any(|(length, [_, least, _])| length < least)
+    }
+}
+
+/// Every choice of one length for each buffer.
+fn choices(lengths: &[[usize; 3]]) -> Vec<Vec<usize>> {
+    let Some((first, rest)) = lengths.split_first() else {
+        return vec![vec![]];
+    };
+    let behind = choices(rest);
+    let with =
+        |length: &usize| behind.iter().map(|rest| [&[*length], &rest[..]].concat()).collect();
+    first.iter().flat_map(|length| -> Vec<Vec<usize>> { with(length) }).collect()
+}
+
+/// Passes 1 to 3 cannot give 6: their results have at most three times the text's bytes. So 4 is
+/// before 6 only as an earlier pass, and 5 before 6 also in the same pass.
+fn body_cases() -> Vec<Case> {
+    let case = |number, title, text| Case { number, title, text };
+    let growing = "RAISE EXCEPTION;".repeat(20);
+    let using = "RAISE EXCEPTION USING ERRCODE = '1';";
+    let long = "n".repeat(8_000);
+    vec![
+        case(0, "the longest text", "x".repeat(TEXT_LIMIT)),
+        case(0, "assignments of the longest text", "a:=1;".repeat(TEXT_LIMIT / 5)),
+        case(0, "result of 65,535", blown(BUFFER_SIZE - 1, "")),
+        case(0, "result of 65,536", blown(BUFFER_SIZE, "")),
+        case(6, "result of 65,537", blown(BUFFER_SIZE + 1, "")),
+        case(6, "result of 70,000", blown(70_000, "")),
+        case(6, "result of 16 million", "SELECT ".to_string() + &pairs(1_900, 8_000)),
+        case(0, "pass 5 grows to 65,536", blown(BUFFER_SIZE - 6, "RAISE EXCEPTION;")),
+        case(6, "pass 5 grows to 65,537", blown(BUFFER_SIZE - 5, "RAISE EXCEPTION;")),
+        case(6, "pass 5 grows from 65,536", blown(BUFFER_SIZE, "RAISE EXCEPTION;")),
+        case(0, "pass 5 shrinks from 65,536", blown(BUFFER_SIZE, "RAISE LOG;")),
+        case(6, "pass 5 would shrink from 65,537", blown(BUFFER_SIZE + 1, "RAISE LOG;")),
+        case(6, "pass 5 would shrink to 65,536", blown(BUFFER_SIZE + 10, "RAISE LOG;")),
+        case(5, "5 in pass 5 after its output passed 65,536", {
+            blown(BUFFER_SIZE, &format!("{growing}{using}"))
+        }),
+        case(5, "5 in pass 5 before its output passes 65,536", {
+            blown(BUFFER_SIZE, &format!("{using}{growing}"))
+        }),
+        case(5, "5 with a result of 65,536 so far", blown(BUFFER_SIZE, using)),
+        case(6, "6 in pass 4 before 5 in pass 5", blown(BUFFER_SIZE + 1, using)),
+        case(4, "4 in pass 3 before 6 in pass 4", blown(70_000, "") + "NEW.v := 1;"),
+        case(4, "4 in pass 3 before 5 in pass 5", format!("{using}NEW.v := 1;")),
+        case(4, "4 with a target of 16,001 bytes", format!("{long}.{long}:=1;")),
+        case(5, "5 with a clause of 8,007 bytes", format!("RAISE EXCEPTION USING x{long}")),
+    ]
+}
+
+/// A text whose result after pass 4 has exactly `size` bytes, with `rest` at its end. The rest may
+/// hold RAISE statements and nothing else that is rewritten.
+pub fn blown(size: usize, rest: &str) -> String {
+    let inert = rest.replace("RAISE", "RAISX");
+    let front = format!("SELECT {}", pairs(100, 600));
+    let length = rewritten(&format!("{front};{inert}")).len();
+    let filling = "x".repeat(size - length);
+    assert_eq!(rewritten(&format!("{front}{filling};{inert}")).len(), size, "{rest}");
+    format!("{front}{filling};{rest}")
+}
+
+/// So many columns into as many variables, from a table with a name of this length.
+fn pairs(count: usize, table: usize) -> String {
+    let (columns, variables) = (vec!["a"; count].join(","), vec!["v"; count].join(","));
+    format!("{columns} INTO {variables} FROM {};", "t".repeat(table))
+}
+
+fn rewritten(text: &str) -> String {
+    PlPgSqlPreprocessor::transform_body(text, &PlPgSqlContext::new()).expect("nothing to refuse")
+}
