@@ -1,13 +1,16 @@
 //! The answer of the reference to one question, in the line format.
 
 use reference::context::PlPgSqlContext;
+use reference::declarations::{self, Declaration};
 use reference::preprocessor::PlPgSqlPreprocessor;
 use reference::scanner::{Region, Scanner};
 use reference::Error;
 
-use crate::declarations;
 use crate::hex;
 use crate::question::Question;
+
+/// The field of a default that is not present.
+const ABSENT: &str = ".";
 
 pub fn answer(question: &Question) -> Result<String, String> {
     Ok(match question {
@@ -40,11 +43,17 @@ fn function(text: &str) -> Result<String, String> {
     match PlPgSqlPreprocessor::preprocess(text) {
         Ok((output, context)) => {
             let list = declarations::list(&context)?;
-            let fields: String = list.iter().map(|one| format!(" {}", one.fields())).collect();
+            let fields: String = list.iter().map(|one| format!(" {}", fields(one))).collect();
             Ok(accepted(&output, list.len()) + &fields)
         }
         Err(error) => refused(&error),
     }
+}
+
+fn fields(declaration: &Declaration) -> String {
+    let coded = |text: &str| hex::encode(text.as_bytes());
+    let default = declaration.default.as_deref().map_or(ABSENT.to_string(), coded);
+    format!("{} {} {default}", coded(&declaration.name), coded(&declaration.data_type))
 }
 
 fn accepted(output: &str, count: usize) -> String {

@@ -2,7 +2,6 @@
 
 mod answer;
 mod answers;
-mod declarations;
 mod generate;
 mod hex;
 mod question;

@@ -1,7 +1,10 @@
 //! The published reference implementation, built from a folder outside this repository.
 //!
-//! `build.rs` copies the files and writes the module list that is taken in here.
+//! `build.rs` copies the files and writes the module list that is taken in here. The module
+//! `declarations` is ours.
 
 extern crate alloc;
+
+pub mod declarations;
 
 include!(concat!(env!("OUT_DIR"), "/reference.rs"));

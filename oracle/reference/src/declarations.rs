@@ -3,26 +3,15 @@
 //! The Debug form shows the map, so it is read back; each entry is then checked
 //! against the public way to one declaration.
 
-use reference::context::PlPgSqlContext;
-
-use crate::hex;
-
-/// The field of a default that is not present.
-const ABSENT: &str = ".";
+use crate::context::PlPgSqlContext;
 
 pub struct Declaration {
-    name: String,
-    data_type: String,
-    default: Option<String>,
+    pub name: String,
+    pub data_type: String,
+    pub default: Option<String>,
 }
 
 impl Declaration {
-    pub fn fields(&self) -> String {
-        let coded = |text: &str| hex::encode(text.as_bytes());
-        let default = self.default.as_deref().map_or(ABSENT.to_string(), coded);
-        format!("{} {} {default}", coded(&self.name), coded(&self.data_type))
-    }
-
     fn agrees_with(&self, context: &PlPgSqlContext) -> bool {
         context.get_declaration(&self.name).is_some_and(|found| {
             found.name == self.name
