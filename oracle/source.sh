@@ -26,8 +26,9 @@ take_source() {
     export ORACLE_SOURCE
 }
 
+# Builds a package, with the release profile or the one that is named.
 build() {
-    (cd "$here" && cargo build --release --quiet --offline --locked --package "$1" --target-dir "$target") >&2
+    (cd "$here" && cargo build --profile "${2:-release}" --quiet --offline --locked --package "$1" --target-dir "$target") >&2
 }
 
 source_folder="${ORACLE_SOURCE:-$here/../../shared/docs/src}"

@@ -1,12 +1,12 @@
 //! The body call: the four numbers, and every byte of its three buffers.
 
+use library::Answer;
 use reference::context::PlPgSqlContext;
 use reference::preprocessor::PlPgSqlPreprocessor;
 use reference::Error;
 
 use crate::calls::BUFFER_SIZE;
 use crate::lent::Lent;
-use crate::library::{self, Answer};
 use crate::report::Row;
 use crate::subject::{Outcome, Subject};
 

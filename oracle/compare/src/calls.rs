@@ -1,7 +1,8 @@
 //! What the limits ask of each call: its text's limit, the buffers it needs, and how it is made.
 
+use library::Answer;
+
 use crate::lent::Lent;
-use crate::library::{self, Answer};
 
 /// The most bytes of a search's text.
 pub const SEARCH_LIMIT: usize = 65_536;

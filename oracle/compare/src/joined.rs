@@ -2,11 +2,11 @@
 //!
 //! Whether a body is closed is asked of the proved library.
 
+use library::Answer;
 use texts::random::Random;
 
 use crate::bodies;
 use crate::calls::BUFFER_SIZE;
-use crate::library::{self, Answer};
 use crate::report::Report;
 
 /// What is counted: the pairs, judged by the joining law; those of them that are accepted; and the

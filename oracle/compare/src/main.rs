@@ -6,7 +6,6 @@ mod comparisons;
 mod every;
 mod joined;
 mod lent;
-mod library;
 mod limits;
 mod long;
 mod options;

@@ -1,9 +1,9 @@
 //! The nine searches: each is asked several questions about a text, and so is the reference.
 
+use library::Answer;
 use reference::preprocessor::PlPgSqlPreprocessor;
 use reference::scanner::Scanner;
 
-use crate::library::{self, Answer};
 use crate::questions;
 use crate::report::Row;
 use crate::subject::{Outcome, Subject};

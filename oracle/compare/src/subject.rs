@@ -2,11 +2,11 @@
 
 use std::fmt::Arguments;
 
+use library::Answer;
 use reference::scanner::{Region, Scanner};
 use texts::random::Random;
 
 use crate::lent::{Lent, Mark};
-use crate::library::Answer;
 use crate::report::Row;
 
 pub struct Subject<'a> {

@@ -9,7 +9,10 @@ fn main() {
     let folder = root.join("target/staticlib");
     let archive = folder.join(ARCHIVE);
     if !archive.is_file() {
-        eprintln!("oracle: {} is missing; make it with: oracle/compare-run", archive.display());
+        eprintln!(
+            "oracle: {} is missing; make it with: rt staticlib plpgsql_rewriter",
+            archive.display()
+        );
         std::process::exit(1);
     }
     println!("cargo:rerun-if-changed={}", archive.display());

@@ -1,0 +1,63 @@
+//! How long a call takes: the best of several rounds, each long enough for the clock.
+
+use std::hint::black_box;
+use std::time::Duration;
+
+use library::Answer;
+use reference::context::PlPgSqlContext;
+use reference::preprocessor::PlPgSqlPreprocessor;
+
+use crate::clock;
+
+const BUFFER_SIZE: usize = 65_536;
+
+/// The most rounds, and how long they may take together.
+const ROUNDS: usize = 300;
+const TOGETHER: Duration = Duration::from_millis(600);
+
+/// The least time of a round. A call that takes longer than `SLOW` is made once and no more.
+const ROUND: Duration = Duration::from_millis(2);
+const SLOW: Duration = Duration::from_millis(40);
+
+/// Microseconds that the proved library takes for a body; its buffers are lent again and again.
+pub fn ours(text: &str) -> f64 {
+    let [mut output, mut work, mut spare] = [0; 3].map(|_| vec![0; BUFFER_SIZE]);
+    best(|| -> Answer {
+        library::transform_body(black_box(text).as_bytes(), &mut output, &mut work, &mut spare)
+    })
+}
+
+/// Microseconds that the reference takes.
+pub fn reference(text: &str) -> f64 {
+    best(|| PlPgSqlPreprocessor::transform_body(black_box(text), &PlPgSqlContext::new()))
+}
+
+fn best<T>(mut call: impl FnMut() -> T) -> f64 {
+    let once = time(1, &mut call);
+    if once > SLOW {
+        return micros(once, 1);
+    }
+    let calls = (ROUND.as_nanos() / once.as_nanos().max(1)).max(1) as u32;
+    let (mut together, mut least) = (Duration::ZERO, Duration::MAX);
+    for _ in 0..ROUNDS {
+        let round = time(calls, &mut call);
+        least = least.min(round);
+        together += round;
+        if together > TOGETHER {
+            break;
+        }
+    }
+    micros(least, calls)
+}
+
+fn time<T>(calls: u32, call: &mut impl FnMut() -> T) -> Duration {
+    let started = clock::now();
+    for _ in 0..calls {
+        black_box(call());
+    }
+    clock::now() - started
+}
+
+fn micros(time: Duration, calls: u32) -> f64 {
+    time.as_secs_f64() * 1e6 / f64::from(calls)
+}
