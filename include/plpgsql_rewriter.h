@@ -1,0 +1,218 @@
+/*
+ * The C interface of the rewriter of PL/pgSQL trigger bodies for SQLite.
+ *
+ * A part of memory is handed over as a pointer and a length in bytes, for records and starts in
+ * 32-bit numbers. The caller owes this: a pointer is not null and valid for its length, aligned for its
+ * type, and the buffers of one call overlap neither each other nor the text nor the answer. The library
+ * keeps no pointer, allocates nothing, and holds no state, so calls may run in several threads.
+ *
+ * Whatever the texts hold and however long the buffers are, each call returns and answers as told here.
+ *
+ * Link with libplpgsql_rewriter.a, for x86-64 Linux.
+ */
+#ifndef PLPGSQL_REWRITER_H
+#define PLPGSQL_REWRITER_H
+
+#include <stddef.h>
+#include <stdint.h>
+
+#ifdef __cplusplus
+extern "C" {
+#endif
+
+/* The most bytes of the text of a rewriting call, and of a search. */
+#define PLPGSQL_TEXT_LIMIT 16384
+#define PLPGSQL_SEARCH_LIMIT 65536
+
+/* The least length of output, work, spare and declared, and of records. */
+#define PLPGSQL_BUFFER_SIZE 65536
+#define PLPGSQL_RECORD_NUMBERS 4104
+
+/* The most names that a function declares, and the numbers of one record. */
+#define PLPGSQL_NAME_LIMIT 512
+#define PLPGSQL_RECORD_SIZE 8
+
+/* The first number of every answer. The searches give the first four only. */
+enum plpgsql_number {
+    PLPGSQL_ACCEPTED = 0,
+    PLPGSQL_TEXT_TOO_LONG = 1,    /* the text is longer than its limit */
+    PLPGSQL_NOT_ASCII = 2,        /* a byte over 127, in the text or in what is sought */
+    PLPGSQL_BUFFER_TOO_SHORT = 3, /* a lent buffer is shorter than it must be */
+    PLPGSQL_QUALIFIED_TARGET = 4, /* an assignment to a qualified target q.n, such as NEW.v */
+    PLPGSQL_USING_CLAUSE = 5,     /* a USING clause of RAISE EXCEPTION that has no translation */
+    PLPGSQL_RESULT_TOO_LONG = 6,  /* the result of a pass is longer than 65,536 bytes */
+    PLPGSQL_TOO_MANY_NAMES = 7    /* over 512 different names are declared */
+};
+
+/* ---- The rewriting calls ----
+ *
+ * answer: number, place, length of the output, records.
+ *
+ *   0: place 0; the output holds the rewritten body; records is the number of different names.
+ *   1: place 0, length 0, records 0.
+ *   2: place is the offset of the first byte over 127; length 0, records 0.
+ *   3: place 0, length 0, records 0.
+ *   4: place is the length of q; the output holds `q.n`; records 0.
+ *   5: place 0; the output holds the clause from USING on; records 0.
+ *   6: place 0, length 0, records 0.
+ *   7: place 0, length 0, records 0. Only plpgsql_preprocess gives it.
+ *
+ * The checks come in the order 1, 3, 2, 7; then the five passes one after the other, and in one pass 4
+ * and 5 come before 6.
+ *
+ * 1, 2 and 3 write nothing but the answer. After every other number the first 65,536 bytes of the
+ * output are what is named above and then zeros, and the first 65,536 bytes of work and spare are
+ * zeros. What lies behind them is not written. A full output has no zero behind its last byte: go by its
+ * length.
+ */
+
+/*
+ * Rewrites a body. It needs a text of up to 16,384 bytes, and output, work and spare of 65,536 bytes or
+ * more. Records is always 0.
+ */
+void plpgsql_transform_body(
+    const uint8_t *text, size_t text_length,
+    uint8_t *output, size_t output_length,
+    uint8_t *work, size_t work_length,
+    uint8_t *spare, size_t spare_length,
+    uint32_t answer[4]);
+
+/*
+ * Rewrites a function: cuts off the declarations and what else stands before the first BEGIN, and
+ * rewrites the rest. It needs declared, of 65,536 bytes or more, and records, of 4,104 numbers or more,
+ * besides.
+ *
+ * After 0 the first 4,104 numbers of records are the records and then zeros, and the first 65,536 bytes
+ * of declared are their texts and then zeros. After 4, 5, 6 and 7 they are zeros.
+ *
+ * A record is eight numbers: next, start and length of the name, start and length of the type, 1 if a
+ * default is present and else 0, start and length of the default (0 and 0 if it is absent). Starts are
+ * offsets in declared. Record 0 is the head, of which only next is used. A next is the number of a
+ * record: the chain from the head leads through all records in byte order of names and ends with 0.
+ * The records stand in order of first declaration; a later declaration of a name replaces its type and
+ * default. The texts stand one behind the other in the order of the records: name, type, default.
+ */
+void plpgsql_preprocess(
+    const uint8_t *text, size_t text_length,
+    uint8_t *output, size_t output_length,
+    uint8_t *work, size_t work_length,
+    uint8_t *spare, size_t spare_length,
+    uint8_t *declared, size_t declared_length,
+    uint32_t *records, size_t records_length,
+    uint32_t answer[4]);
+
+/* ---- The searches ----
+ *
+ * They look for what is live, that is outside literals and comments. A text may have 65,536 bytes.
+ *
+ * answer: number, found, place, length.
+ *
+ *   0: found is 1 and place the offset of what was found, or found is 0 and place 0. Length is told
+ *      with each search; where nothing is told it is 0.
+ *   1: the text is too long; found, place and length 0.
+ *   3: a buffer is too short; found, place and length 0.
+ *   2: place is the offset of the first byte over 127, in the text or else in keyword or needle; found
+ *      and length 0.
+ *
+ * The checks come in the order 1, 3, 2, and each of these numbers leaves all buffers as they were.
+ * After 0 a map holds a byte for each byte of the text, 0 for a live one and 1 for a quoted one, also
+ * where nothing is found. It needs the text's length; what lies behind is not written.
+ */
+
+/* Fills the map and seeks nothing: found 0, place 0. */
+void plpgsql_regions(
+    const uint8_t *text, size_t text_length,
+    uint8_t *map, size_t map_length,
+    uint32_t answer[4]);
+
+/*
+ * The first place at `from` or behind it where the keyword stands in any letter case, with a live first
+ * byte and no letter, digit, `_` or `$` on either side. An empty keyword, or a start past the end of
+ * the text, finds none. A keyword may have any length.
+ */
+void plpgsql_find_keyword(
+    const uint8_t *text, size_t text_length,
+    uint8_t *map, size_t map_length,
+    const uint8_t *keyword, size_t keyword_length,
+    size_t from,
+    uint32_t answer[4]);
+
+/* The first live byte that equals this one. A byte over 127 is never found. */
+void plpgsql_find_in_code(
+    const uint8_t *text, size_t text_length,
+    uint8_t *map, size_t map_length,
+    uint8_t byte,
+    uint32_t answer[4]);
+
+/*
+ * The first place where the bytes of the needle stand, with a live first byte. An empty needle finds
+ * none. A needle may have any length.
+ */
+void plpgsql_find_str_in_code(
+    const uint8_t *text, size_t text_length,
+    uint8_t *map, size_t map_length,
+    const uint8_t *needle, size_t needle_length,
+    uint32_t answer[4]);
+
+/*
+ * The word at `from` or behind it, past quoted bytes and white space (9, 10, 12, 13 and 32): live
+ * letters, digits, `_` and `$`. Place is its offset and length its length. Where another byte comes
+ * first, or the end, none is found.
+ */
+void plpgsql_next_word_in_code(
+    const uint8_t *text, size_t text_length,
+    uint8_t *map, size_t map_length,
+    size_t from,
+    uint32_t answer[4]);
+
+/*
+ * Splits the text at each live byte that equals the separator. Length is the number of pieces, found 0
+ * and place 0. Starts needs one number more than the text has bytes; it holds the offset of each
+ * piece, and what lies behind is not written. The empty text has one piece.
+ */
+void plpgsql_split_in_code(
+    const uint8_t *text, size_t text_length,
+    uint8_t *map, size_t map_length,
+    uint32_t *starts, size_t starts_length,
+    uint8_t separator,
+    uint32_t answer[4]);
+
+/*
+ * Writes the text with each dollar literal as one in single quotes. Length is the number of bytes
+ * written, found 0 and place 0. The output needs twice the text's length; what lies behind the result is not
+ * written.
+ */
+void plpgsql_requote_dollar_literals(
+    const uint8_t *text, size_t text_length,
+    uint8_t *output, size_t output_length,
+    uint32_t answer[4]);
+
+/* Found is 1 if a dollar literal is not closed. Place is 0. */
+void plpgsql_has_unterminated_dollar_quote(
+    const uint8_t *text, size_t text_length,
+    uint32_t answer[4]);
+
+/* Found is 1 if there is a live EXCEPTION whose next live word is WHEN. Place is 0. */
+void plpgsql_has_exception_handler(
+    const uint8_t *text, size_t text_length,
+    uint8_t *map, size_t map_length,
+    uint32_t answer[4]);
+
+/*
+ * Found is 1 if the body is closed: it ends in a live `;`, holds no backslash, no comment and no newline
+ * in a literal, and behind each RAISE outside literals that no letter, digit or `_` touches come
+ * directly a space, one or more letters, digits or `_`, and a space or `;`. Place is 0.
+ *
+ * A closed body with any body behind it is rewritten as the two are apart: unless the joined text gives
+ * 1 or 6, it is accepted exactly if both are, and its result is their results joined.
+ */
+void plpgsql_is_closed(
+    const uint8_t *text, size_t text_length,
+    uint8_t *map, size_t map_length,
+    uint32_t answer[4]);
+
+#ifdef __cplusplus
+}
+#endif
+
+#endif
