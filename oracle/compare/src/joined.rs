@@ -9,9 +9,12 @@ use crate::bodies;
 use crate::calls::BUFFER_SIZE;
 use crate::report::Report;
 
-/// What is counted: the pairs, judged by the joining law; those of them that are accepted; and the
-/// joined texts, compared with the reference.
-pub const ROWS: [&str; 3] = ["joined pairs", "of them accepted", "joined text as the reference"];
+/// The pairs, judged by the joining law; how many of them are accepted, and how many of these are
+/// changed in front and behind; the joined texts, compared with the reference.
+pub const ROWS: [&str; 4] = [
+    "joined pairs", "of them accepted", "of these changed on both sides",
+    "joined text as the reference",
+];
 
 /// How many closed bodies are put in front of one.
 pub const FRONTS: u64 = 4;
@@ -82,13 +85,13 @@ impl Pairs {
         let text = format!("{front}{}", self.behind);
         let first = rewrite(front, &mut self.buffers);
         let whole = rewrite(&text, &mut self.buffers);
+        let is_changed = |text: &str, result: &Rewritten| text.as_bytes() != result.1;
+        let both = is_changed(front, &first) && is_changed(&self.behind, &self.last);
         let shown = || format!("{front:?} and {:?}", self.behind);
-        let [pairs, accepted, same] = &mut report.rows[..] else { unreachable!() };
-        let agrees = agrees(&first, &self.last, &whole);
-        pairs.note(agrees, shown);
-        if whole.0[0] == 0 {
-            accepted.note(agrees, shown);
-        }
+        let [pairs, accepted, changed, same] = &mut report.rows[..] else { unreachable!() };
+        pairs.note(agrees(&first, &self.last, &whole), shown);
+        accepted.count(whole.0[0] == 0);
+        changed.count(whole.0[0] == 0 && both);
         same.note(bodies::expected(&text) == whole, shown);
     }
 }

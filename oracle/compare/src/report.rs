@@ -30,6 +30,11 @@ impl Row {
         }
     }
 
+    /// Counts what is already compared in another row.
+    pub fn count(&mut self, holds: bool) {
+        self.compared += u64::from(holds);
+    }
+
     fn add(&mut self, other: Row) {
         self.compared += other.compared;
         self.differing += other.differing;
