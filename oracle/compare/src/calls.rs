@@ -83,7 +83,20 @@ pub const TRANSFORM_BODY: Call = Call {
     },
 };
 
-pub const CALLS: [Call; 11] = [
+pub const PREPROCESS: Call = Call {
+    name: "preprocess",
+    limit: TEXT_LIMIT,
+    enough: |_| vec![BUFFER_SIZE, BUFFER_SIZE, BUFFER_SIZE, BUFFER_SIZE, RECORD_NUMBERS],
+    has_needle: false,
+    place_at: 1,
+    run: |text, lent, _| {
+        let [output, work, spare, declared, _] = &mut lent.bytes[..] else { unreachable!() };
+        let (o, w, s, d) = (output.lend(), work.lend(), spare.lend(), declared.lend());
+        library::preprocess(text, o, w, s, d, lent.numbers[4].lend())
+    },
+};
+
+pub const CALLS: [Call; 12] = [
     with_map("regions", false, |text, lent, _| library::regions(text, lent.bytes[0].lend())),
     with_map("find_keyword", true, |text, lent, keyword| {
         library::find_keyword(text, lent.bytes[0].lend(), keyword, 0)
@@ -128,4 +141,5 @@ pub const CALLS: [Call; 11] = [
     }),
     with_map("is_closed", false, |text, lent, _| library::is_closed(text, lent.bytes[0].lend())),
     TRANSFORM_BODY,
+    PREPROCESS,
 ];

@@ -3,6 +3,7 @@
 use texts::random::Random;
 
 use crate::bodies;
+use crate::functions;
 use crate::report::{Report, Row};
 use crate::searches;
 use crate::subject::Subject;
@@ -23,6 +24,8 @@ pub const SEARCHES: &[Comparison] = &[
 ];
 
 pub const BODIES: &[Comparison] = &[("transform_body", bodies::transform_body)];
+
+pub const FUNCTIONS: &[Comparison] = &[("preprocess", functions::preprocess)];
 
 /// The names of a list, as a report's rows.
 pub fn names(list: &[Comparison]) -> Vec<&'static str> {

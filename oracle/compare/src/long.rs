@@ -8,12 +8,17 @@ use crate::report::grouped;
 /// Long texts for one kind of call.
 pub struct Long {
     limit: usize,
+    /// What each text starts with, and what it ends with.
+    front: &'static str,
+    back: &'static str,
     /// Each is repeated, so that one kind of span, one search or one pass takes the whole text.
     patterns: &'static [&'static str],
 }
 
 pub const SEARCH_TEXTS: Long = Long {
     limit: SEARCH_LIMIT,
+    front: "",
+    back: "",
     patterns: &[
         "a", " ", ";", "$", "'", "\"", "/*", "*/", "--", "\\", "''", "$$'", "$a$ ", "$1",
         "v := 1;\n", "EXCEPTION x WHEN ", "-- c\n", "$t$'$t$",
@@ -22,10 +27,22 @@ pub const SEARCH_TEXTS: Long = Long {
 
 pub const BODY_TEXTS: Long = Long {
     limit: TEXT_LIMIT,
+    front: "",
+    back: "",
     patterns: &[
         "a", " ", ";", "$", "'", "/*", "--", "\\", "$$'", "$a$ ", "-- c\n", "$t$'$t$", "ELSIF ",
         "a:=1;", ":=", "CASE ", "END ", "THEN a.b ", "SELECT a INTO v;", "SELECT ", "(", ",",
         "RAISE ", "RAISE LOG;", "RAISE EXCEPTION;", "RAISE EXCEPTION 'a', b;",
+    ],
+};
+
+pub const FUNCTION_TEXTS: Long = Long {
+    limit: TEXT_LIMIT,
+    front: "DECLARE ",
+    back: "\nBEGIN v := 1; END;",
+    patterns: &[
+        "a", ";", "a b;", "a b:=1;", "a b DEFAULT 1;", "a b;b c;", "DECLARE ", "-- c\n", "a ",
+        "a b := $1$'$1$;", "a b := $t$;$t$;", ":=", "DEFAULT ", "a b := ''''''''''';",
     ],
 };
 
@@ -44,8 +61,8 @@ impl Long {
     /// The text of this number: patterns first, each in both lengths.
     pub fn text(&self, number: u64, random: &mut Random) -> String {
         let (index, less) = ((number / 2) as usize, (number % 2) as usize);
-        let length = self.limit - less;
-        let mut text = String::new();
+        let length = self.limit - less - self.back.len();
+        let mut text = self.front.to_string();
         while text.len() < length {
             match self.patterns.get(index) {
                 Some(pattern) => text.push_str(pattern),
@@ -53,6 +70,6 @@ impl Long {
             }
         }
         text.truncate(length);
-        text
+        text + self.back
     }
 }

@@ -4,7 +4,7 @@ use std::time::Instant;
 
 use texts::random::Random;
 
-use crate::comparisons::{compare, names, Comparison, BODIES, SEARCHES};
+use crate::comparisons::{compare, names, Comparison, BODIES, FUNCTIONS, SEARCHES};
 use crate::every;
 use crate::joined;
 use crate::limits;
@@ -21,10 +21,11 @@ pub struct Part {
     run: fn(&mut Run),
 }
 
-pub const PARTS: [Part; 4] = [
+pub const PARTS: [Part; 5] = [
     Part { name: "limits", random: 0, run: run_limits },
     Part { name: "searches", random: 2_000_000, run: run_searches },
     Part { name: "bodies", random: 5_000_000, run: run_bodies },
+    Part { name: "functions", random: 5_000_000, run: run_functions },
     Part { name: "joined", random: 5_000_000, run: run_joined },
 ];
 
@@ -56,6 +57,24 @@ fn run_bodies(run: &mut Run) {
     run.every(BODIES);
     run.random(BODIES, |random| match random.percent(50) {
         true => texts::body(random),
+        false => texts::any(random),
+    });
+}
+
+/// The frames that each short text is put in: a whole block of declarations, and a default.
+const FRAMES: [[&str; 2]; 2] = [["DECLARE ", "\nBEGIN"], ["DECLARE a b:=", ";BEGIN"]];
+
+fn run_functions(run: &mut Run) {
+    let longest = long::FUNCTION_TEXTS;
+    run.texts(FUNCTIONS, longest.title(), longest.count(), 1, |n, random| longest.text(n, random));
+    let count = FRAMES.len() as u64 * every::count(run.options.longest - 1);
+    let title = format!("{} functions with all short texts in a frame", grouped(count));
+    run.texts(FUNCTIONS, title, count, 4096, |number, _| {
+        let [front, back] = FRAMES[number as usize % FRAMES.len()];
+        format!("{front}{}{back}", every::text(number / FRAMES.len() as u64))
+    });
+    run.random(FUNCTIONS, |random| match random.percent(80) {
+        true => texts::function(random),
         false => texts::any(random),
     });
 }

@@ -8,7 +8,8 @@ use reference::context::PlPgSqlContext;
 use reference::preprocessor::PlPgSqlPreprocessor;
 
 use crate::bodies;
-use crate::calls::{self, Call, Made, BUFFER_SIZE, TEXT_LIMIT};
+use crate::calls::{self, Call, Made, BUFFER_SIZE, RECORD_NUMBERS, TEXT_LIMIT};
+use crate::functions;
 use crate::report::{Report, Row};
 use crate::subject::Outcome;
 
@@ -31,12 +32,22 @@ struct Case {
 
 const BYTES: [usize; 3] = [BUFFER_SIZE - 1, BUFFER_SIZE, 70_000];
 
-const REWRITINGS: [Rewriting; 1] = [Rewriting {
-    call: &calls::TRANSFORM_BODY,
-    lengths: &[BYTES; 3],
-    cases: body_cases,
-    outcome: bodies::limited,
-}];
+const NUMBERS: [usize; 3] = [RECORD_NUMBERS - 1, RECORD_NUMBERS, 5_000];
+
+const REWRITINGS: [Rewriting; 2] = [
+    Rewriting {
+        call: &calls::TRANSFORM_BODY,
+        lengths: &[BYTES; 3],
+        cases: body_cases,
+        outcome: bodies::limited,
+    },
+    Rewriting {
+        call: &calls::PREPROCESS,
+        lengths: &[BYTES, BYTES, BYTES, BYTES, NUMBERS],
+        cases: function_cases,
+        outcome: functions::limited,
+    },
+];
 
 pub fn compare() -> Report {
     let mut report = Report::new(&REWRITINGS.map(|one| one.call.name));
@@ -157,6 +168,45 @@ fn body_cases() -> Vec<Case> {
         case(4, "4 with a target of 16,001 bytes", format!("{long}.{long}:=1;")),
         case(5, "5 with a clause of 8,007 bytes", format!("RAISE EXCEPTION USING x{long}")),
     ]
+}
+
+/// The same texts, which hold no DECLARE and no BEGIN, and functions with declarations.
+fn function_cases() -> Vec<Case> {
+    let case = |number, title, text| Case { number, title, text };
+    let using = "RAISE EXCEPTION USING x;";
+    let (most, over) = (declared(512), declared(513));
+    let quotes = "'".repeat(16_000);
+    let mut cases = body_cases();
+    cases.extend([
+        case(0, "511 names", declared(511)),
+        case(0, "512 names", most.clone()),
+        case(0, "512 names, all declared again", most.replace("BEGIN", &names(512)) + "BEGIN"),
+        case(
+            0,
+            "names up to the longest text",
+            format!("{most}{}", " ".repeat(TEXT_LIMIT - most.len())),
+        ),
+        case(7, "513 names", over.clone()),
+        case(7, "1,500 names", declared(1_500)),
+        case(7, "7 before 4", format!("{over} NEW.v := 1;")),
+        case(7, "7 before 5", format!("{over} {using}")),
+        case(7, "7 before 6", over.clone() + ";SELECT " + &pairs(1_000, 5_000)),
+        case(4, "4 behind 512 names", format!("{most} NEW.v := 1;")),
+        case(5, "5 behind 512 names", format!("{most} {using}")),
+        case(6, "6 behind 300 names", declared(300) + ";" + &blown(BUFFER_SIZE - 5, "")),
+        case(0, "names and a result of 65,536", declared(300) + ";" + &blown(BUFFER_SIZE - 6, "")),
+        case(0, "a default of 32,002 bytes", format!("DECLARE a b := $1${quotes}$1$;\nBEGIN")),
+    ]);
+    cases
+}
+
+/// A function that declares so many names, not in the order of their bytes.
+fn declared(count: usize) -> String {
+    format!("DECLARE {}BEGIN", names(count))
+}
+
+fn names(count: usize) -> String {
+    (0..count).map(|index| format!("v{} t;", (index * 7_919) % count)).collect()
 }
 
 /// A text whose result after pass 4 has exactly `size` bytes, with `rest` at its end. The rest may

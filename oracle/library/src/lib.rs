@@ -51,6 +51,12 @@ extern "C" {
         work: *mut u8, work_length: usize, spare: *mut u8, spare_length: usize,
         answer: *mut Answer,
     );
+    fn plpgsql_preprocess(
+        text: *const u8, text_length: usize, output: *mut u8, output_length: usize,
+        work: *mut u8, work_length: usize, spare: *mut u8, spare_length: usize,
+        declared: *mut u8, declared_length: usize, records: *mut u32, records_length: usize,
+        answer: *mut Answer,
+    );
 }
 
 /// The answer of one call.
@@ -124,4 +130,25 @@ pub fn transform_body(text: &[u8], output: &mut [u8], work: &mut [u8], spare: &m
 pub fn is_closed(text: &[u8], map: &mut [u8]) -> Answer {
     let (t, m, m_length) = (text.as_ptr(), map.as_mut_ptr(), map.len());
     answer(|out| unsafe { plpgsql_is_closed(t, text.len(), m, m_length, out) })
+}
+
+pub fn preprocess(
+    text: &[u8],
+    output: &mut [u8],
+    work: &mut [u8],
+    spare: &mut [u8],
+    declared: &mut [u8],
+    records: &mut [u32],
+) -> Answer {
+    let (t, t_length) = (text.as_ptr(), text.len());
+    let (o, o_length) = (output.as_mut_ptr(), output.len());
+    let (w, w_length) = (work.as_mut_ptr(), work.len());
+    let (s, s_length) = (spare.as_mut_ptr(), spare.len());
+    let (d, d_length) = (declared.as_mut_ptr(), declared.len());
+    let (r, r_length) = (records.as_mut_ptr(), records.len());
+    answer(|out| unsafe {
+        plpgsql_preprocess(
+            t, t_length, o, o_length, w, w_length, s, s_length, d, d_length, r, r_length, out,
+        )
+    })
 }
