@@ -1,4 +1,7 @@
-/* Rewrites three bodies and prints what comes back: the four numbers, then the output. */
+/*
+ * Rewrites three bodies and a function, and prints what comes back: the four numbers, the output, and the
+ * declarations.
+ */
 #include <stdio.h>
 #include <string.h>
 
@@ -7,12 +10,24 @@
 static uint8_t output[PLPGSQL_BUFFER_SIZE];
 static uint8_t work[PLPGSQL_BUFFER_SIZE];
 static uint8_t spare[PLPGSQL_BUFFER_SIZE];
+static uint8_t declared[PLPGSQL_BUFFER_SIZE];
+static uint32_t records[PLPGSQL_RECORD_NUMBERS];
 
 static const char *const BODIES[] = {
     "IF NEW.amount < 0 THEN RAISE EXCEPTION 'negative'; ELSIF v THEN v_sum := 1; END IF;",
     "NEW.v := 1;",
     "RAISE EXCEPTION USING ERRCODE = '22012';",
 };
+
+static const char *const FUNCTION =
+    "DECLARE\n"
+    "    v_total numeric(10, 2) := 0;\n"
+    "    v_id CONSTANT int;\n"
+    "    v_note text DEFAULT $$it's new$$;\n"
+    "BEGIN\n"
+    "    SELECT sum(amount) INTO v_total FROM orders WHERE id = NEW.id;\n"
+    "    RETURN NEW;\n"
+    "END;";
 
 static void print_answer(const uint32_t answer[4]) {
     printf("%u %u %u %u\n", (unsigned)answer[0], (unsigned)answer[1], (unsigned)answer[2], (unsigned)answer[3]);
@@ -27,9 +42,38 @@ static void print_body(const char *text) {
     print_answer(answer);
 }
 
+static void print_part(const char *title, uint32_t start, uint32_t length) {
+    printf(" %s [", title);
+    fwrite(declared + start, 1, length, stdout);
+    printf("]");
+}
+
+/* Follows the chain from the head, so the declarations come in the order of their names. */
+static void print_declarations(void) {
+    for (uint32_t next = records[0]; next != 0; next = records[next * PLPGSQL_RECORD_SIZE]) {
+        const uint32_t *record = records + next * PLPGSQL_RECORD_SIZE;
+        printf("record %u:", (unsigned)next);
+        print_part("name", record[1], record[2]);
+        print_part("type", record[3], record[4]);
+        if (record[5] == 1) {
+            print_part("default", record[6], record[7]);
+        }
+        printf("\n");
+    }
+}
+
+static void print_function(const char *text) {
+    uint32_t answer[4];
+    plpgsql_preprocess((const uint8_t *)text, strlen(text), output, sizeof output, work, sizeof work, spare,
+                       sizeof spare, declared, sizeof declared, records, PLPGSQL_RECORD_NUMBERS, answer);
+    print_answer(answer);
+    print_declarations();
+}
+
 int main(void) {
     for (size_t i = 0; i < sizeof BODIES / sizeof *BODIES; i++) {
         print_body(BODIES[i]);
     }
+    print_function(FUNCTION);
     return 0;
 }

@@ -1,8 +1,8 @@
-//! Rewrites three bodies and prints what comes back.
+//! Rewrites three bodies and a function, and prints what comes back.
 
 mod rewriter;
 
-use rewriter::Rewriter;
+use rewriter::{Function, Rewriter};
 
 const BODIES: [&str; 3] = [
     "IF NEW.amount < 0 THEN RAISE EXCEPTION 'negative'; ELSIF v THEN v_sum := 1; END IF;",
@@ -10,12 +10,36 @@ const BODIES: [&str; 3] = [
     "RAISE EXCEPTION USING ERRCODE = '22012';",
 ];
 
+const FUNCTION: &str = "DECLARE
+    v_total numeric(10, 2) := 0;
+    v_id CONSTANT int;
+    v_note text DEFAULT $$it's new$$;
+BEGIN
+    SELECT sum(amount) INTO v_total FROM orders WHERE id = NEW.id;
+    RETURN NEW;
+END;";
+
 fn main() {
     let mut rewriter = Rewriter::new();
     for body in BODIES {
         match rewriter.transform_body(body) {
             Ok(output) => println!("{output}"),
             Err(refusal) => println!("refused: {refusal:?}"),
+        }
+    }
+    match rewriter.preprocess(FUNCTION) {
+        Ok(function) => print_function(&function),
+        Err(refusal) => println!("refused: {refusal:?}"),
+    }
+}
+
+fn print_function(function: &Function) {
+    println!("{}", function.body);
+    for declaration in &function.declarations {
+        print!("name [{}] type [{}]", declaration.name, declaration.data_type);
+        match declaration.default {
+            Some(default) => println!(" default [{default}]"),
+            None => println!(),
         }
     }
 }

@@ -3,6 +3,8 @@
 use std::os::raw::c_uchar;
 
 const BUFFER_SIZE: usize = 65_536;
+const RECORD_NUMBERS: usize = 4_104;
+const RECORD_SIZE: usize = 8;
 
 extern "C" {
     fn plpgsql_transform_body(
@@ -14,6 +16,21 @@ extern "C" {
         work_length: usize,
         spare: *mut c_uchar,
         spare_length: usize,
+        answer: *mut [u32; 4],
+    );
+    fn plpgsql_preprocess(
+        text: *const c_uchar,
+        text_length: usize,
+        output: *mut c_uchar,
+        output_length: usize,
+        work: *mut c_uchar,
+        work_length: usize,
+        spare: *mut c_uchar,
+        spare_length: usize,
+        declared: *mut c_uchar,
+        declared_length: usize,
+        records: *mut u32,
+        records_length: usize,
         answer: *mut [u32; 4],
     );
 }
@@ -30,6 +47,19 @@ pub enum Refusal {
     },
     UsingClause(String),
     ResultTooLong,
+    TooManyNames,
+}
+
+/// A rewritten function: its body, and its declarations in byte order of names.
+pub struct Function<'a> {
+    pub body: &'a str,
+    pub declarations: Vec<Declaration<'a>>,
+}
+
+pub struct Declaration<'a> {
+    pub name: &'a str,
+    pub data_type: &'a str,
+    pub default: Option<&'a str>,
 }
 
 /// The buffers that are lent to each call.
@@ -37,16 +67,19 @@ pub struct Rewriter {
     output: Vec<u8>,
     work: Vec<u8>,
     spare: Vec<u8>,
+    declared: Vec<u8>,
+    records: Vec<u32>,
 }
 
 impl Rewriter {
     pub fn new() -> Self {
         let buffer = || vec![0; BUFFER_SIZE];
-        Self { output: buffer(), work: buffer(), spare: buffer() }
+        let records = vec![0; RECORD_NUMBERS];
+        Self { output: buffer(), work: buffer(), spare: buffer(), declared: buffer(), records }
     }
 
     pub fn transform_body(&mut self, text: &str) -> Result<&str, Refusal> {
-        let Self { output, work, spare } = self;
+        let Self { output, work, spare, .. } = self;
         let mut answer = [0; 4];
         // Each pointer is valid for its length until the call returns, and the buffers are apart.
         unsafe {
@@ -65,6 +98,45 @@ impl Rewriter {
         self.result(answer)
     }
 
+    pub fn preprocess(&mut self, text: &str) -> Result<Function<'_>, Refusal> {
+        let Self { output, work, spare, declared, records } = self;
+        let mut answer = [0; 4];
+        // Each pointer is valid for its length until the call returns, and the buffers are apart.
+        unsafe {
+            plpgsql_preprocess(
+                text.as_ptr(),
+                text.len(),
+                output.as_mut_ptr(),
+                output.len(),
+                work.as_mut_ptr(),
+                work.len(),
+                spare.as_mut_ptr(),
+                spare.len(),
+                declared.as_mut_ptr(),
+                declared.len(),
+                records.as_mut_ptr(),
+                records.len(),
+                &mut answer,
+            );
+        }
+        let body = self.result(answer)?;
+        Ok(Function { body, declarations: self.declarations() })
+    }
+
+    /// Follows the chain from the head up to the zero that ends it.
+    fn declarations(&self) -> Vec<Declaration<'_>> {
+        let mut list = Vec::new();
+        let mut next = self.records[0] as usize;
+        while next != 0 {
+            let record = &self.records[next * RECORD_SIZE..][..RECORD_SIZE];
+            let part = |at: usize| text_of(&self.declared, record[at], record[at + 1]);
+            let default = (record[5] == 1).then(|| part(6));
+            list.push(Declaration { name: part(1), data_type: part(3), default });
+            next = record[0] as usize;
+        }
+        list
+    }
+
     /// What the numbers of an answer say, with the output that belongs to it.
     fn result(&self, [number, place, length, _]: [u32; 4]) -> Result<&str, Refusal> {
         let output = text_of(&self.output, 0, length);
@@ -79,6 +151,7 @@ impl Rewriter {
             }
             5 => Err(Refusal::UsingClause(output.to_string())),
             6 => Err(Refusal::ResultTooLong),
+            7 => Err(Refusal::TooManyNames),
             // 3 is a buffer that is too short, and ours are long enough.
             other => unreachable!("number {other}"),
         }
