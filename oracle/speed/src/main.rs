@@ -1,4 +1,4 @@
-//! Measures the body call of the proved library beside the reference, in one process, on the same
+//! Measures the calls of the proved library beside the reference, in one process, on the same
 //! texts, and prints the figures as Markdown tables.
 
 mod clock;
@@ -7,7 +7,9 @@ mod texts;
 
 use std::process::ExitCode;
 
-use crate::texts::{exploding, realistic, repeated, FAMILIES};
+use crate::texts::{
+    exploding, function, long_names, realistic, repeated, repeated_names, FAMILIES,
+};
 
 const KB: usize = 1_024;
 
@@ -21,6 +23,7 @@ fn main() -> ExitCode {
     let mut missed = Vec::new();
     let usual = realistic_bodies(&mut missed);
     families(usual, &mut missed);
+    functions(usual, &mut missed);
     println!();
     for line in &missed {
         println!("Missed: {line}");
@@ -66,6 +69,27 @@ fn families(usual: f64, missed: &mut Vec<String>) {
     family("one SELECT INTO of many columns, refused with 6", texts, usual, missed);
 }
 
+/// Prints the table of the function call.
+fn functions(usual: f64, missed: &mut Vec<String>) {
+    println!();
+    println!(
+        "| Function | ours, µs | the Rust, µs | times as fast | of a realistic body of 16 KB |"
+    );
+    println!("|---|---:|---:|---:|---:|");
+    let texts = [
+        ("realistic, 1 KB", function(KB)),
+        ("realistic, 16 KB", function(16 * KB)),
+        ("512 long names in falling order, 16 KB", long_names(16 * KB)),
+        ("512 names, the last of them again and again, 16 KB", repeated_names(16 * KB)),
+    ];
+    for (name, text) in texts {
+        let (ours, rust) = (measure::our_function(&text), measure::reference_function(&text));
+        let (times, worst) = (rust / ours, ours / usual);
+        println!("| {name} | {ours:.1} | {rust:.1} | {times:.1} | {worst:.2} |");
+        note_worst(name, worst, missed);
+    }
+}
+
 fn family(name: &str, texts: [String; 2], usual: f64, missed: &mut Vec<String>) {
     let [half, whole] = [0, 1].map(|index| measure::ours(&texts[index]));
     let [rust_half, rust_whole] = [0, 1].map(|index| measure::reference(&texts[index]));
@@ -78,6 +102,10 @@ fn family(name: &str, texts: [String; 2], usual: f64, missed: &mut Vec<String>) 
     if growth > MOST_GROWTH {
         missed.push(format!("{name} grows {growth:.2} times, to reach: {MOST_GROWTH}"));
     }
+    note_worst(name, worst, missed);
+}
+
+fn note_worst(name: &str, worst: f64, missed: &mut Vec<String>) {
     if worst > MOST_WORST {
         missed.push(format!("{name} takes {worst:.2} of a realistic body, to reach: {MOST_WORST}"));
     }

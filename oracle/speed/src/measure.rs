@@ -10,6 +10,7 @@ use reference::preprocessor::PlPgSqlPreprocessor;
 use crate::clock;
 
 const BUFFER_SIZE: usize = 65_536;
+const RECORD_NUMBERS: usize = 4_104;
 
 /// The most rounds, and how long they may take together.
 const ROUNDS: usize = 300;
@@ -30,6 +31,20 @@ pub fn ours(text: &str) -> f64 {
 /// Microseconds that the reference takes.
 pub fn reference(text: &str) -> f64 {
     best(|| PlPgSqlPreprocessor::transform_body(black_box(text), &PlPgSqlContext::new()))
+}
+
+/// The same for a function.
+pub fn our_function(text: &str) -> f64 {
+    let [mut output, mut work, mut spare, mut declared] = [0; 4].map(|_| vec![0; BUFFER_SIZE]);
+    let mut records = vec![0; RECORD_NUMBERS];
+    best(|| -> Answer {
+        let (o, w, s, d) = (&mut output, &mut work, &mut spare, &mut declared);
+        library::preprocess(black_box(text).as_bytes(), o, w, s, d, &mut records)
+    })
+}
+
+pub fn reference_function(text: &str) -> f64 {
+    best(|| PlPgSqlPreprocessor::preprocess(black_box(text)))
 }
 
 fn best<T>(mut call: impl FnMut() -> T) -> f64 {

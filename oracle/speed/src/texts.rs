@@ -59,3 +59,39 @@ pub fn exploding(size: usize) -> String {
     let table = repeated("t", size - front.len() - 1);
     front + &table + ";"
 }
+
+/// A realistic function of this many bytes: a few declarations ahead of a realistic body.
+pub fn function(size: usize) -> String {
+    let front = "DECLARE
+    v_total numeric(10, 2) := 0;
+    v_stock int NOT NULL DEFAULT 1;
+    v_note text := 'none';
+    v_limit bool;
+BEGIN
+";
+    format!("{front}{}END;", realistic(size - front.len() - "END;".len()))
+}
+
+/// The most names that a function declares.
+const NAMES: usize = 512;
+
+/// A function that declares so many long names, with a common front, in falling order.
+pub fn long_names(size: usize) -> String {
+    let front = repeated("n", size / NAMES - "000 t;".len());
+    let names: String = (0..NAMES).rev().map(|number| format!("{front}{number:03} t;")).collect();
+    declaring(&names, size)
+}
+
+/// A function that declares so many names, and the last of them again and again.
+pub fn repeated_names(size: usize) -> String {
+    let names: String = (0..NAMES).map(|number| format!("n{number:03} t;")).collect();
+    let rest = size - names.len();
+    declaring(&(names + &repeated("n511 t;", rest)), size)
+}
+
+/// A function of this size whose declarations are as many of these as fit.
+fn declaring(names: &str, size: usize) -> String {
+    let (front, back) = ("DECLARE ", "\nBEGIN END;");
+    let fitting = &names[..names.len().min(size - front.len() - back.len())];
+    format!("{front}{fitting}{back}")
+}
