@@ -48,7 +48,7 @@ fn body(random: &mut Random) -> String {
 }
 
 /// The first closed text among random ones, at times with `;` behind them.
-fn closed(random: &mut Random) -> String {
+pub fn closed(random: &mut Random) -> String {
     loop {
         let mut text = texts::body(random);
         if random.percent(60) {

@@ -2,7 +2,9 @@
 
 use texts::random::Random;
 
+use crate::bodies;
 use crate::calls::{SEARCH_LIMIT, TEXT_LIMIT};
+use crate::joined;
 use crate::report::grouped;
 
 /// Long texts for one kind of call.
@@ -13,6 +15,9 @@ pub struct Long {
     back: &'static str,
     /// Each is repeated, so that one kind of span, one search or one pass takes the whole text.
     patterns: &'static [&'static str],
+    /// How many long texts are made of random pieces, and how a piece is made.
+    mixed: usize,
+    piece: fn(&mut Random) -> String,
 }
 
 pub const SEARCH_TEXTS: Long = Long {
@@ -23,6 +28,8 @@ pub const SEARCH_TEXTS: Long = Long {
         "a", " ", ";", "$", "'", "\"", "/*", "*/", "--", "\\", "''", "$$'", "$a$ ", "$1",
         "v := 1;\n", "EXCEPTION x WHEN ", "-- c\n", "$t$'$t$",
     ],
+    mixed: 12,
+    piece: texts::any,
 };
 
 pub const BODY_TEXTS: Long = Long {
@@ -34,7 +41,23 @@ pub const BODY_TEXTS: Long = Long {
         "a:=1;", ":=", "CASE ", "END ", "THEN a.b ", "SELECT a INTO v;", "SELECT ", "(", ",",
         "RAISE ", "RAISE LOG;", "RAISE EXCEPTION;", "RAISE EXCEPTION 'a', b;",
     ],
+    mixed: 12,
+    piece: texts::any,
 };
+
+/// Accepted as a whole, so that every pass is compared on a long text.
+pub const ACCEPTED_TEXTS: Long =
+    Long { limit: TEXT_LIMIT, front: "", back: "", patterns: &[], mixed: 150, piece: accepted };
+
+/// A closed text that is accepted. Such texts joined are accepted too.
+fn accepted(random: &mut Random) -> String {
+    loop {
+        let text = joined::closed(random);
+        if bodies::expected(&text).0[0] == 0 {
+            return text;
+        }
+    }
+}
 
 pub const FUNCTION_TEXTS: Long = Long {
     limit: TEXT_LIMIT,
@@ -44,10 +67,9 @@ pub const FUNCTION_TEXTS: Long = Long {
         "a", ";", "a b;", "a b:=1;", "a b DEFAULT 1;", "a b;b c;", "DECLARE ", "-- c\n", "a ",
         "a b := $1$'$1$;", "a b := $t$;$t$;", ":=", "DEFAULT ", "a b := ''''''''''';",
     ],
+    mixed: 12,
+    piece: texts::any,
 };
-
-/// How many long texts are made of random ones.
-const MIXED: usize = 12;
 
 impl Long {
     pub fn title(&self) -> String {
@@ -55,7 +77,7 @@ impl Long {
     }
 
     pub fn count(&self) -> u64 {
-        2 * (self.patterns.len() + MIXED) as u64
+        2 * (self.patterns.len() + self.mixed) as u64
     }
 
     /// The text of this number: patterns first, each in both lengths.
@@ -66,7 +88,7 @@ impl Long {
         while text.len() < length {
             match self.patterns.get(index) {
                 Some(pattern) => text.push_str(pattern),
-                None => text.push_str(&texts::any(random)),
+                None => text.push_str(&(self.piece)(random)),
             }
         }
         text.truncate(length);

@@ -8,7 +8,7 @@ use crate::comparisons::{compare, names, Comparison, BODIES, FUNCTIONS, SEARCHES
 use crate::every;
 use crate::joined;
 use crate::limits;
-use crate::long;
+use crate::long::{self, Long};
 use crate::options::Options;
 use crate::report::{grouped, Report};
 use crate::results;
@@ -45,15 +45,14 @@ fn run_limits(run: &mut Run) {
 }
 
 fn run_searches(run: &mut Run) {
-    let longest = long::SEARCH_TEXTS;
-    run.texts(SEARCHES, longest.title(), longest.count(), 1, |n, random| longest.text(n, random));
+    run.long(SEARCHES, &long::SEARCH_TEXTS);
     run.every(SEARCHES);
     run.random(SEARCHES, texts::any);
 }
 
 fn run_bodies(run: &mut Run) {
-    let longest = long::BODY_TEXTS;
-    run.texts(BODIES, longest.title(), longest.count(), 1, |n, random| longest.text(n, random));
+    run.long(BODIES, &long::BODY_TEXTS);
+    run.long(BODIES, &long::ACCEPTED_TEXTS);
     run.every(BODIES);
     run.random(BODIES, |random| match random.percent(50) {
         true => texts::body(random),
@@ -65,8 +64,7 @@ fn run_bodies(run: &mut Run) {
 const FRAMES: [[&str; 2]; 2] = [["DECLARE ", "\nBEGIN"], ["DECLARE a b:=", ";BEGIN"]];
 
 fn run_functions(run: &mut Run) {
-    let longest = long::FUNCTION_TEXTS;
-    run.texts(FUNCTIONS, longest.title(), longest.count(), 1, |n, random| longest.text(n, random));
+    run.long(FUNCTIONS, &long::FUNCTION_TEXTS);
     let count = FRAMES.len() as u64 * every::count(run.options.longest - 1);
     let title = format!("{} functions with all short texts in a frame", grouped(count));
     run.texts(FUNCTIONS, title, count, 4096, |number, _| {
@@ -137,6 +135,11 @@ impl Run<'_> {
             let text = text(number, random);
             compare(list, &text, random, report);
         });
+    }
+
+    /// A list of comparisons on the longest texts.
+    fn long(&mut self, list: &[Comparison], long: &Long) {
+        self.texts(list, long.title(), long.count(), 1, |number, random| long.text(number, random));
     }
 
     /// A list of comparisons on every short text.
