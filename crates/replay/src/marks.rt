@@ -1,21 +1,12 @@
-// Buffers hold a mark in every place before a search, so that what it writes shows.
+// A list of starts holds a mark in every place before a search, so that what it writes shows.
 ghost use mathlib.Core.Path.{_≡_};
 ghost use lib.ListN.{length};
-
-// A byte that no result holds: texts are ASCII, and maps hold 0 and 1.
-const MARK: u8 = 165;
 
 // A number that no list of starts holds.
 const NUMBER_MARK: u32 = 2779096485;
 
-// Twice the longest text of a search, and a few bytes more. The array's length alone is known of it, so that no proof goes
-// through its elements.
-pub fn marked_bytes() -> [u8; 131080]
-    ensures { λ r. ⌜ 131080 ≡ length r ⌝ }
-{
-    [MARK; 131080]
-}
-
+// As many numbers as a split of the longest text needs, and a few more. The array's length alone is known of it, so that no
+// proof goes through its elements.
 pub fn marked_starts() -> [u32; 65544]
     ensures { λ r. ⌜ 65544 ≡ length r ⌝ }
 {
@@ -23,19 +14,6 @@ pub fn marked_starts() -> [u32; 65544]
 }
 
 // Whether nothing was written from `from` up to `end`.
-pub fn is_marked(buffer: &[u8], from: usize, end: usize) -> bool {
-    let mut i = from;
-    while i < end {
-        if i < buffer.len() {
-            if buffer[i] != MARK {
-                return false;
-            }
-        }
-        i += 1;
-    }
-    true
-}
-
 pub fn are_marked(buffer: &[u32], from: usize, end: usize) -> bool {
     let mut i = from;
     while i < end {

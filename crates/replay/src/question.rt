@@ -1,20 +1,20 @@
 // A line about the text: KIND NEEDLE FROM NUMBER FOUND PLACE LENGTH RESULT. The search is made, and its numbers and what it
 // wrote are compared with the line's.
 use crate::ask::ask_lent;
-use crate::fields::decode;
-use crate::fields::field;
-use crate::fields::number;
-use crate::fields::part;
-use crate::fields::same;
 use crate::marks::are_marked;
-use crate::marks::is_marked;
-use crate::marks::marked_bytes;
 use crate::marks::marked_starts;
 use crate::numbers::Numbers;
 use crate::numbers::four;
 use crate::numbers::same_numbers;
 use crate::numbers::wide;
 use classes::byte_at;
+use stored_list::decode;
+use stored_list::field;
+use stored_list::is_marked;
+use stored_list::marked_bytes;
+use stored_list::number;
+use stored_list::part;
+use stored_list::same;
 
 // The first field of a result; a list of numbers takes several.
 const RESULT: usize = 7;

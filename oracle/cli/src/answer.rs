@@ -8,6 +8,7 @@ use reference::Error;
 
 use crate::hex;
 use crate::question::Question;
+use crate::stored_body::Answer;
 
 /// The field of a default that is not present.
 const ABSENT: &str = ".";
@@ -33,8 +34,13 @@ pub fn answer(question: &Question) -> Result<String, String> {
 }
 
 fn body(text: &str) -> Result<String, String> {
+    Ok(numbers(&rewritten(text)?, 0))
+}
+
+/// The answer to a body, before it is put into a line.
+pub fn rewritten(text: &str) -> Result<Answer, String> {
     match PlPgSqlPreprocessor::transform_body(text, &PlPgSqlContext::new()) {
-        Ok(output) => Ok(accepted(&output, 0)),
+        Ok(output) => Ok(Answer::accepted(&output)),
         Err(error) => refused(&error),
     }
 }
@@ -44,9 +50,9 @@ fn function(text: &str) -> Result<String, String> {
         Ok((output, context)) => {
             let list = declarations::list(&context)?;
             let fields: String = list.iter().map(|one| format!(" {}", fields(one))).collect();
-            Ok(accepted(&output, list.len()) + &fields)
+            Ok(numbers(&Answer::accepted(&output), list.len()) + &fields)
         }
-        Err(error) => refused(&error),
+        Err(error) => Ok(numbers(&refused(&error)?, 0)),
     }
 }
 
@@ -56,20 +62,19 @@ fn fields(declaration: &Declaration) -> String {
     format!("{} {} {default}", coded(&declaration.name), coded(&declaration.data_type))
 }
 
-fn accepted(output: &str, count: usize) -> String {
-    format!("0 0 {} {count} {}", output.len(), hex::encode(output.as_bytes()))
+/// The four numbers and the output.
+fn numbers(answer: &Answer, count: usize) -> String {
+    let Answer { number, place, output } = answer;
+    format!("{number} {place} {} {count} {}", output.len(), hex::encode(&output.bytes()))
 }
 
 /// The two refusals that a rewriting call can give.
-fn refused(error: &Error) -> Result<String, String> {
-    let (number, place, output) = match error {
-        Error::QualifiedAssignment { qualifier, name } => {
-            (4, qualifier.len(), format!("{qualifier}.{name}"))
-        }
-        Error::UnsupportedRaiseUsing { clause } => (5, 0, clause.clone()),
-        other => return Err(format!("an error that no rewriting gives: {other:?}")),
-    };
-    Ok(format!("{number} {place} {} 0 {}", output.len(), hex::encode(output.as_bytes())))
+fn refused(error: &Error) -> Result<Answer, String> {
+    match error {
+        Error::QualifiedAssignment { qualifier, name } => Ok(Answer::qualified(qualifier, name)),
+        Error::UnsupportedRaiseUsing { clause } => Ok(Answer::clause(clause)),
+        other => Err(format!("an error that no rewriting gives: {other:?}")),
+    }
 }
 
 fn regions(text: &str) -> String {

@@ -2,19 +2,24 @@
 
 mod answer;
 mod answers;
+mod body_limits;
+mod body_rows;
 mod generate;
 mod hex;
 mod question;
 #[cfg(test)]
 mod rows;
+mod runs;
 mod stored;
+mod stored_bodies;
+mod stored_body;
 mod stored_limits;
 
 use std::io::{self, BufWriter, ErrorKind, Write};
 use std::process::ExitCode;
 
 const USAGE: &str = "commands: `answers` (questions on standard input), \
-                     `generate KIND COUNT SEED`, `stored COUNT SEED`";
+                     `generate KIND COUNT SEED`, `stored COUNT SEED`, `stored-bodies COUNT SEED`";
 
 /// Why a command stopped: each kind has its own exit status.
 pub enum Stop {
@@ -62,9 +67,12 @@ fn run(words: &[String], out: &mut impl Write) -> Result<(), Stop> {
         }
         ["generate", kind, count, seed] => generate::run(kind, count, seed, out),
         ["stored", count, seed] => stored::run(count, seed, out),
+        ["stored-bodies", count, seed] => stored_bodies::run(count, seed, out),
         ["answers", ..] => Err(Stop::Usage("`answers` takes no words behind it".into())),
         ["generate", ..] => Err(Stop::Usage("`generate` takes three words behind it".into())),
-        ["stored", ..] => Err(Stop::Usage("`stored` takes two words behind it".into())),
+        [list @ ("stored" | "stored-bodies"), ..] => {
+            Err(Stop::Usage(format!("`{list}` takes two words behind it")))
+        }
         [other, ..] => Err(Stop::Usage(format!("unknown command `{other}`"))),
         [] => Err(Stop::Usage("no command given".into())),
     }

@@ -1,9 +1,12 @@
 //! Known rows, and checks of the generator against the reference.
 
 use crate::answers;
+use crate::body_rows;
 use crate::generate;
 use crate::hex;
 use crate::stored;
+use crate::stored_bodies;
+use crate::stored_body::{Answer, Body};
 
 /// A question about one text, with the answer it must get.
 fn check(kind: &str, text: &str, more: &str, expected: &str) {
@@ -20,40 +23,17 @@ fn ask(questions: &str) -> Result<String, String> {
     }
 }
 
-fn check_accepted(kind: &str, text: &str, output: &str) {
-    let expected = format!("0 0 {} 0 {}", output.len(), hex::encode(output.as_bytes()));
-    check(kind, text, "", &expected);
-}
-
-fn check_refused(text: &str, number: usize, place: usize, output: &str) {
-    let coded = hex::encode(output.as_bytes());
-    check("body", text, "", &format!("{number} {place} {} 0 {coded}", output.len()));
-}
-
+/// None of them declares anything, or has text before a BEGIN that matters.
 #[test]
-fn accepted_bodies() {
-    let rows = [
-        ("", ""),
-        ("a$$b$$", "a'b'"),
-        ("elsif", "ELSEIF"),
-        ("preelsif", "preelsif"),
-        ("v := 1 ;", "SET v = 1;"),
-        ("v := raise ;", "SET v = raise;"),
-        ("CASE WHEN c THEN t.n = 1 ELSE 0 END", "CASE WHEN c THEN t.n = 1 ELSE 0 END"),
-        ("SELECT a INTO v;", "SET v = (SELECT a LIMIT 1);"),
-        ("RAISE  EXCEPTION 'a';", "RAISE  EXCEPTION 'a';"),
-        ("RAISE EXCEPTION;", "SELECT RAISE(ABORT, );"),
-    ];
-    for (text, output) in rows {
-        check_accepted("body", text, output);
-        check_accepted("function", text, output);
+fn rows_of_both_calls() {
+    for Body { text, answer } in body_rows::all() {
+        let text = String::from_utf8(text.bytes()).unwrap();
+        let Answer { number, place, output } = answer;
+        let coded = hex::encode(&output.bytes());
+        let expected = format!("{number} {place} {} 0 {coded}", output.len());
+        check("body", &text, "", &expected);
+        check("function", &text, "", &expected);
     }
-}
-
-#[test]
-fn refused_bodies() {
-    check_refused("NEW.v := 1;", 4, 3, "NEW.v");
-    check_refused("RAISE EXCEPTION USING ERRCODE = '1';", 5, 0, "USING ERRCODE = '1'");
 }
 
 #[test]
@@ -132,4 +112,14 @@ fn a_stored_text_has_a_line_of_every_search() {
     let kinds: String = list.lines().filter_map(|line| line.chars().next()).collect();
     assert!(kinds.starts_with(&"tmkbswpquh".repeat(200)), "{kinds}");
     assert!(!list.contains("panic"));
+}
+
+#[test]
+fn a_stored_body_has_a_text_a_result_and_a_call() {
+    let mut out = Vec::new();
+    assert!(stored_bodies::run("200", "7", &mut out).is_ok());
+    let list = String::from_utf8(out).unwrap();
+    let kinds: String = list.lines().filter_map(|line| line.chars().next()).collect();
+    assert!(kinds.starts_with(&format!("s{}s", "telb".repeat(200))), "{kinds}");
+    assert!(list.lines().all(|line| line.len() < 65_536));
 }

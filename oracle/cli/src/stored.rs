@@ -10,6 +10,7 @@ use crate::answer::answer;
 use crate::generate::number;
 use crate::hex;
 use crate::question::Question;
+use crate::runs::Runs;
 use crate::stored_limits;
 use crate::Stop;
 
@@ -18,7 +19,7 @@ pub fn run(count: &str, seed: &str, out: &mut impl Write) -> Result<(), Stop> {
     let mut random = Random::new(number(seed, "SEED")?);
     for _ in 0..count {
         let text = texts::any(&mut random);
-        writeln!(out, "t {}", hex::encode(text.as_bytes()))?;
+        writeln!(out, "t {}", Runs::one(text.as_bytes()))?;
         for question in questions(&text, &mut random) {
             writeln!(out, "{}", line(&question).map_err(Stop::Question)?)?;
         }

@@ -3,11 +3,16 @@
 
 use std::io::{self, Write};
 
+use crate::runs::Runs;
+
 /// The letters of the searches.
 const KINDS: &str = "mkbswpquh";
 
 /// The most bytes of a search's text.
 const LIMIT: usize = 65_536;
+
+/// A byte over 127.
+const HIGH: u8 = 200;
 
 /// A needle whose second byte is over 127.
 const HIGH_NEEDLE: &str = "61c8";
@@ -112,8 +117,11 @@ impl<W: Write> Rows<'_, W> {
 
     /// The line of a text of letters `a`, with a byte over 127 at a place.
     fn text(&mut self, length: usize, high: Option<usize>) -> io::Result<()> {
-        let place = high.map_or("-".to_string(), |place| place.to_string());
-        writeln!(self.out, "x {length} {place}")
+        let text = match high {
+            Some(place) if place < length => Runs::with_byte(length, place, HIGH),
+            _ => Runs::letters(length),
+        };
+        writeln!(self.out, "t {text}")
     }
 
     /// The lines of one question: what is lent, and the question with its answer.

@@ -5,19 +5,22 @@ use Rattle.replay.proofs.list.replay.Statement.{statement}
 use Rattle.replay.proofs.list.replay.Tie as tie
 
 abbrev Inv-loop : tie.InvT-loop
-Inv-loop buffer₀ text₀ tally₀ state₀ turns₀ buffer text tally state turns = (length buffer ≡ length buffer₀) × (length text ≡ length text₀) × (length tally ≡ length tally₀)
+Inv-loop buffer₀ text₀ tally₀ state₀ line₀ turns₀ buffer text tally state line turns = (length buffer ≡ length buffer₀) × (length text ≡ length text₀) × (length tally ≡ length tally₀)
 
 abbrev μ-loop : tie.MeasureT-loop
-μ-loop buffer₀ text₀ tally₀ state₀ turns₀ buffer text tally state turns = turns
+μ-loop buffer₀ text₀ tally₀ state₀ line₀ turns₀ buffer text tally state line turns = turns
 
 with-text-requires : tie.Need-with-text-requires Inv-loop μ-loop
 with-text-requires c κs = search needs
 
+before-first-requires : tie.Need-before-first-requires Inv-loop μ-loop
+before-first-requires c κs = search needs
+
 loop-holds : tie.Need-loop-holds Inv-loop μ-loop
 loop-holds c = (refl, refl, refl)
 
-turn-requires : tie.Need-turn-requires Inv-loop μ-loop
-turn-requires c κs = search needs
+next-line-requires : tie.Need-next-line-requires Inv-loop μ-loop
+next-line-requires c κs = search needs
 
 same-length : tie.Need-same-length Inv-loop μ-loop
 same-length c = search needs
@@ -30,6 +33,12 @@ same-length-3 c = search needs
 
 returns : tie.Need-returns Inv-loop μ-loop
 returns c = search needs
+
+part-requires : tie.Need-part-requires Inv-loop μ-loop
+part-requires c κs = search needs
+
+take-line-requires : tie.Need-take-line-requires Inv-loop μ-loop
+take-line-requires c κs = search needs
 
 sub-turns : tie.Need-sub-turns Inv-loop μ-loop
 sub-turns c = search needs
@@ -59,12 +68,15 @@ replay-spec =
     Inv-loop
     μ-loop
     with-text-requires
+    before-first-requires
     loop-holds
-    turn-requires
+    next-line-requires
     same-length
     same-length-2
     same-length-3
     returns
+    part-requires
+    take-line-requires
     sub-turns
     loop-less
     loop-again

@@ -1,0 +1,83 @@
+use native.Mathlib.Omega.{arith}
+use mathlib.Core.Path.{sym}
+use lib.Seq.{length-take-le}
+use borrow.Author.Needs.{needs}
+use Rattle.replay_bodies.proofs.call.call_lent.Statement.{statement}
+use Rattle.replay_bodies.proofs.call.call_lent.Tie as tie
+
+four-requires : tie.Need-four-requires
+four-requires c κs = search needs
+
+returns : tie.Need-returns
+returns c = search needs
+
+four-requires-2 : tie.Need-four-requires-2
+four-requires-2 c κs = search needs
+
+returns-2 : tie.Need-returns-2
+returns-2 c = search needs
+
+four-requires-3 : tie.Need-four-requires-3
+four-requires-3 c κs = search needs
+
+returns-3 : tie.Need-returns-3
+returns-3 c = search needs
+
+slice-relend-prefix-transform-body : tie.Need-slice-relend-prefix-transform-body
+slice-relend-prefix-transform-body c = search needs
+
+slice-aggregate-transform-body : tie.Need-slice-aggregate-transform-body
+slice-aggregate-transform-body c = sym (length-take-le (c .before .before .before .before .before .before .before .before .args .m) (c .before .before .before .before .before .before .before .before .args .output .now) (omega (arith, c .before .before .before .if1 .left)))
+
+slice-relend-prefix-transform-body-2 : tie.Need-slice-relend-prefix-transform-body-2
+slice-relend-prefix-transform-body-2 c = search needs
+
+slice-aggregate-transform-body-2 : tie.Need-slice-aggregate-transform-body-2
+slice-aggregate-transform-body-2 c = sym (length-take-le (c .before .before .before .before .before .before .before .before .before .args .k) (c .before .before .before .before .before .before .before .before .before .args .work .now) (omega (arith, c .before .before .before .if2 .left)))
+
+slice-relend-prefix-transform-body-3 : tie.Need-slice-relend-prefix-transform-body-3
+slice-relend-prefix-transform-body-3 c = search needs
+
+slice-aggregate-transform-body-3 : tie.Need-slice-aggregate-transform-body-3
+slice-aggregate-transform-body-3 c = sym (length-take-le (c .before .before .before .before .before .before .before .before .before .before .args .j) (c .before .before .before .before .before .before .before .before .before .before .args .spare .now) (omega (arith, c .before .before .before .if3 .left)))
+
+transform-body-requires : tie.Need-transform-body-requires
+transform-body-requires c κs = search needs
+
+of-rewritten-requires : tie.Need-of-rewritten-requires
+of-rewritten-requires c κs = search needs
+
+same-length : tie.Need-same-length
+same-length c = search needs
+
+same-length-2 : tie.Need-same-length-2
+same-length-2 c = search needs
+
+same-length-3 : tie.Need-same-length-3
+same-length-3 c = search needs
+
+returns-4 : tie.Need-returns-4
+returns-4 c = search needs
+
+pub call-lent-spec : {M : Type 1} → statement M
+call-lent-spec =
+    tie.close
+    (tie.spec
+    four-requires
+    returns
+    four-requires-2
+    returns-2
+    four-requires-3
+    returns-3
+    slice-relend-prefix-transform-body
+    slice-aggregate-transform-body
+    slice-relend-prefix-transform-body-2
+    slice-aggregate-transform-body-2
+    slice-relend-prefix-transform-body-3
+    slice-aggregate-transform-body-3
+    transform-body-requires
+    of-rewritten-requires
+    same-length
+    same-length-2
+    same-length-3
+    returns-4)

@@ -1,0 +1,65 @@
+// The body call, with the first bytes of three buffers lent, and the numbers of its answer.
+use preprocessor::transform_body;
+use spec::Refusal;
+use spec::Rewritten;
+
+// Number, place, output length, records.
+pub struct CallNumbers {
+    pub number: usize,
+    pub place: usize,
+    pub length: usize,
+    pub records: usize,
+}
+
+// The number of a call that could not be made.
+const NO_CALL: usize = 9;
+
+fn four(number: usize, place: usize, length: usize, records: usize) -> CallNumbers {
+    CallNumbers {
+        number,
+        place,
+        length,
+        records,
+    }
+}
+
+fn of_refusal(r: Refusal) -> CallNumbers {
+    match r {
+        Refusal::TextTooLong => four(1, 0, 0, 0),
+        Refusal::BufferTooShort => four(3, 0, 0, 0),
+        Refusal::NotAscii(i) => four(2, i, 0, 0),
+    }
+}
+
+fn of_rewritten(r: Rewritten) -> CallNumbers {
+    match r {
+        Rewritten::Accepted { length, records } => four(0, 0, length, records),
+        Rewritten::Refused(r) => of_refusal(r),
+        Rewritten::TooManyNames => four(7, 0, 0, 0),
+        Rewritten::QualifiedTarget { qualifier, length } => four(4, qualifier, length, 0),
+        Rewritten::UsingClause { length } => four(5, 0, length, 0),
+        Rewritten::ResultTooLong => four(6, 0, 0, 0),
+    }
+}
+
+// The call with the first m, k and j bytes of the buffers.
+pub fn call_lent(
+    text: &[u8],
+    output: &mut [u8],
+    m: usize,
+    work: &mut [u8],
+    k: usize,
+    spare: &mut [u8],
+    j: usize,
+) -> CallNumbers {
+    if output.len() < m {
+        return four(NO_CALL, 0, 0, 0);
+    }
+    if work.len() < k {
+        return four(NO_CALL, 0, 0, 0);
+    }
+    if spare.len() < j {
+        return four(NO_CALL, 0, 0, 0);
+    }
+    of_rewritten(transform_body(text, &mut output[..m], &mut work[..k], &mut spare[..j]))
+}

@@ -1,0 +1,24 @@
+// What the programs share that replay stored lists: the lines of standard input, their fields and texts,
+// marked buffers, and the report.
+mod fields;
+mod lines;
+mod marks;
+mod runs;
+mod tally;
+
+pub use fields::decode;
+pub use fields::field;
+pub use fields::is_number;
+pub use fields::next_place;
+pub use fields::number;
+pub use fields::part;
+pub use fields::same;
+pub use lines::Line;
+pub use lines::before_first;
+pub use lines::next_line;
+pub use marks::is_filled;
+pub use marks::is_marked;
+pub use marks::marked_bytes;
+pub use runs::put_runs;
+pub use tally::note;
+pub use tally::print_rows;

@@ -1,0 +1,50 @@
+//! Long texts in a short form, by run lengths.
+
+use std::fmt;
+
+use crate::hex;
+
+/// Some bytes, with how often they stand.
+pub type Run<'a> = (usize, &'a [u8]);
+
+pub struct Runs(Vec<(usize, Vec<u8>)>);
+
+impl Runs {
+    pub fn new(runs: &[Run]) -> Self {
+        Self(runs.iter().map(|(count, bytes)| (*count, bytes.to_vec())).collect())
+    }
+
+    pub fn one(text: &[u8]) -> Self {
+        Self::new(&[(1, text)])
+    }
+
+    /// Letters `a`.
+    pub fn letters(length: usize) -> Self {
+        Self::new(&[(length, b"a")])
+    }
+
+    /// Letters `a` with another byte at a place.
+    pub fn with_byte(length: usize, place: usize, byte: u8) -> Self {
+        Self::new(&[(place, b"a"), (1, &[byte]), (length - place - 1, b"a")])
+    }
+
+    pub fn len(&self) -> usize {
+        self.0.iter().map(|(count, bytes)| count * bytes.len()).sum()
+    }
+
+    /// The whole text.
+    pub fn bytes(&self) -> Vec<u8> {
+        self.0.iter().flat_map(|(count, bytes)| bytes.repeat(*count)).collect()
+    }
+}
+
+/// Each number and its bytes in hex, separated by spaces.
+impl fmt::Display for Runs {
+    fn fmt(&self, out: &mut fmt::Formatter<'_>) -> fmt::Result {
+        for (index, (count, bytes)) in self.0.iter().enumerate() {
+            let space = if index == 0 { "" } else { " " };
+            write!(out, "{space}{count} {}", hex::encode(bytes))?;
+        }
+        Ok(())
+    }
+}
