@@ -5,7 +5,6 @@ mod answers;
 mod body_limits;
 mod body_rows;
 mod generate;
-mod hex;
 mod question;
 #[cfg(test)]
 mod rows;
@@ -17,6 +16,8 @@ mod stored_limits;
 
 use std::io::{self, BufWriter, ErrorKind, Write};
 use std::process::ExitCode;
+
+use texts::hex;
 
 const USAGE: &str = "commands: `answers` (questions on standard input), \
                      `generate KIND COUNT SEED`, `stored COUNT SEED`, `stored-bodies COUNT SEED`";

@@ -5,6 +5,7 @@ mod calls;
 mod comparisons;
 mod every;
 mod functions;
+mod given;
 mod joined;
 mod lent;
 mod limits;
@@ -43,6 +44,9 @@ fn main() -> ExitCode {
 /// Runs the chosen parts; the answer is how many answers differ.
 fn run(options: &Options) -> u64 {
     let started = Instant::now();
+    if let Some(texts) = &options.given {
+        return parts::run_given(options, texts);
+    }
     let is_chosen = |name: &str| options.parts.iter().any(|part| part == name);
     let chosen = PARTS.iter().filter(|part| is_chosen(part.name));
     let differing = chosen.map(|part| part.run(options)).sum();

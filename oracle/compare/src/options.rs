@@ -1,9 +1,10 @@
 //! The command line.
 
+use crate::given;
 use crate::parts::PARTS;
 
 const USAGE: &str = "options: `--parts NAME,NAME..`, `--seed N`, `--random COUNT`, \
-                     `--longest BYTES`, `--threads N`";
+                     `--longest BYTES`, `--threads N`, `--questions FILE`";
 
 pub struct Options {
     /// The names of the parts to run.
@@ -14,12 +15,15 @@ pub struct Options {
     /// The most bytes of the texts that are taken all.
     pub longest: u32,
     pub threads: usize,
+    /// The texts of a file of questions, to be taken in place of the parts.
+    pub given: Option<Vec<String>>,
 }
 
 impl Options {
     pub fn read(mut words: impl Iterator<Item = String>) -> Result<Self, String> {
         let parts = PARTS.iter().map(|part| part.name.to_string()).collect();
-        let mut options = Self { parts, seed: 1, random: None, longest: 6, threads: 2 };
+        let mut options =
+            Self { parts, seed: 1, random: None, longest: 6, threads: 2, given: None };
         while let Some(word) = words.next() {
             let value = words.next().ok_or_else(|| format!("`{word}` needs a value; {USAGE}"))?;
             options.set(&word, &value).map_err(|message| format!("{message}; {USAGE}"))?;
@@ -34,6 +38,7 @@ impl Options {
             "--random" => self.random = Some(number(value)?.into()),
             "--longest" => self.longest = within(word, number(value)?, 1, 8)?,
             "--threads" => self.threads = within(word, number(value)?, 1, 64)? as usize,
+            "--questions" => self.given = Some(given::texts_in(value)?),
             _ => return Err(format!("unknown option `{word}`")),
         }
         Ok(())

@@ -60,6 +60,16 @@ fn run_bodies(run: &mut Run) {
     });
 }
 
+/// Every call on each of these texts; the answer is how many answers differ.
+pub fn run_given(options: &Options, texts: &[String]) -> u64 {
+    let mut run = Run { options, random: 0, differing: 0 };
+    for list in [SEARCHES, BODIES, FUNCTIONS] {
+        let title = format!("{} texts of the file", grouped(texts.len() as u64));
+        run.texts(list, title, texts.len() as u64, 64, |number, _| texts[number as usize].clone());
+    }
+    run.differing
+}
+
 /// The frames that each short text is put in: a whole block of declarations, and a default.
 const FRAMES: [[&str; 2]; 2] = [["DECLARE ", "\nBEGIN"], ["DECLARE a b:=", ";BEGIN"]];
 

@@ -1,6 +1,7 @@
 //! Random texts, each made for one family of questions.
 
 mod declare;
+pub mod hex;
 mod mutate;
 pub mod parts;
 pub mod random;
