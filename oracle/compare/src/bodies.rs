@@ -16,13 +16,14 @@ pub fn transform_body(subject: &mut Subject, row: &mut Row) {
     subject.judge(row, format_args!(""), outcome);
 }
 
-/// The outcome of a text that gives this number. The reference is not asked where a pass gives 6.
-pub fn limited(text: &str, lengths: &[usize], number: u32) -> Outcome {
+/// The outcomes of a text that gives this number, with new buffers of each of these lengths. The
+/// reference is not asked where a pass gives 6.
+pub fn limited(text: &str, lengths: &[Vec<usize>], number: u32) -> Vec<Outcome> {
     let expected = match number {
         6 => ([6, 0, 0, 0], Vec::new()),
         _ => expected(text),
     };
-    outcome(text.as_bytes(), lengths, &expected)
+    lengths.iter().map(|lengths| outcome(text.as_bytes(), lengths, &expected)).collect()
 }
 
 /// What the call makes of a text that its checks let pass, with new buffers of these lengths.

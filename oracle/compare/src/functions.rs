@@ -21,13 +21,14 @@ pub fn preprocess(subject: &mut Subject, row: &mut Row) {
     subject.judge(row, format_args!(""), outcome);
 }
 
-/// The outcome of a text that gives this number. The reference is not asked where a pass gives 6.
-pub fn limited(text: &str, lengths: &[usize], number: u32) -> Outcome {
+/// The outcomes of a text that gives this number, with new buffers of each of these lengths. The
+/// reference is not asked where a pass gives 6.
+pub fn limited(text: &str, lengths: &[Vec<usize>], number: u32) -> Vec<Outcome> {
     let expected = match number {
         6 => Expected::refused([6, 0, 0, 0], Vec::new()),
         _ => expected(text),
     };
-    outcome(text.as_bytes(), lengths, &expected)
+    lengths.iter().map(|lengths| outcome(text.as_bytes(), lengths, &expected)).collect()
 }
 
 /// What a call must answer, and leave in its buffers in front of the zeros.

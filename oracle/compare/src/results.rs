@@ -19,8 +19,8 @@ struct Rewriting {
     /// For each buffer a length that is too short, the least one, and a longer one.
     lengths: &'static [[usize; 3]],
     cases: fn() -> Vec<Case>,
-    /// The outcome of the call on a text of this number with these buffers, all long enough.
-    outcome: fn(&str, &[usize], u32) -> Outcome,
+    /// The outcomes of a text that gives this number, with buffers of each of these lengths.
+    outcomes: fn(&str, &[Vec<usize>], u32) -> Vec<Outcome>,
 }
 
 /// A text that passes the checks, and the number that it gives.
@@ -39,13 +39,13 @@ const REWRITINGS: [Rewriting; 2] = [
         call: &calls::TRANSFORM_BODY,
         lengths: &[BYTES; 3],
         cases: body_cases,
-        outcome: bodies::limited,
+        outcomes: bodies::limited,
     },
     Rewriting {
         call: &calls::PREPROCESS,
         lengths: &[BYTES, BYTES, BYTES, BYTES, NUMBERS],
         cases: function_cases,
-        outcome: functions::limited,
+        outcomes: functions::limited,
     },
 ];
 
@@ -62,22 +62,22 @@ pub fn compare() -> Report {
 
 impl Rewriting {
     fn with_all_lengths(&self, case: &Case, row: &mut Row) {
-        for lengths in choices(self.lengths) {
-            if self.is_short(&lengths) {
-                self.untouched(case.text.as_bytes(), &lengths, [3, 0, 0, 0], case, row);
-                continue;
-            }
-            let outcome = (self.outcome)(&case.text, &lengths, case.number);
-            let right = outcome.expected == outcome.got && outcome.expected[0] == case.number;
-            row.note(right && outcome.buffers, || {
-                let Case { number, title, text } = case;
-                let held = if outcome.buffers { "right" } else { "wrong" };
+        let (short, enough): (Vec<_>, Vec<_>) =
+            choices(self.lengths).into_iter().partition(|lengths| self.is_short(lengths));
+        for lengths in short {
+            self.untouched(case.text.as_bytes(), &lengths, [3, 0, 0, 0], case, row);
+        }
+        let outcomes = (self.outcomes)(&case.text, &enough, case.number);
+        for (Outcome { expected, got, buffers }, lengths) in outcomes.iter().zip(&enough) {
+            let right = expected == got && expected[0] == case.number;
+            row.note(right && *buffers, || {
+                let held = if *buffers { "right" } else { "wrong" };
                 format!(
-                    "{title}, {} bytes, buffers of {lengths:?}: number {number}, {:?} expected, \
-                     {:?} got, buffers {held}",
-                    text.len(),
-                    outcome.expected,
-                    outcome.got,
+                    "{}, {} bytes, buffers of {lengths:?}: number {}, {expected:?} expected, \
+                     {got:?} got, buffers {held}",
+                    case.title,
+                    case.text.len(),
+                    case.number,
                 )
             });
         }
