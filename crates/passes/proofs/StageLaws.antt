@@ -160,35 +160,35 @@ assign-done g d e out r (qualified p n) k a l h long fits = absurd (apart (cc))
 assign-done g d e out r (clause c) k a l h long fits = absurd (apart (cc))
 
 -- the first two passes never exceed the buffer, nor does the third
-pub five : (xs out : List ℕ) (r : Rewritten) → length xs ≤ 16384
+pub rewriting-from-three : (xs out : List ℕ) (r : Rewritten) → length xs ≤ 16384
     → Gives (resultOf [] (andThen (andThen (limited (assignPass (bytes (elsif (markedText (requoted xs)))))) selectPass) raisePass)) r out
     → Gives (resultOf [] (rewriting xs)) r out
 unfolding textLimit
-five xs out r h g =
+rewriting-from-three xs out r h g =
     let a = assignPass (bytes (elsif (markedText (requoted xs)))) in
     let s : limited a ≡ a = limited-same a (λ zs e. three-fits xs zs h e) in
     rw (five-passes xs h, ← s) g
 
 -- pass 4's result fits, stands in front, and pass 5 follows
-pub select-goes : (ys d e out : List ℕ) (k : ℕ) (r : Rewritten)
+pub select-counted : (ys d e out : List ℕ) (k : ℕ) (r : Rewritten)
     → k ≡ counted (length (bytes (selectInto (quoteWalk 0 ys)))) → k ≤ 65536
     → (length (bytes (selectInto (quoteWalk 0 ys))) ≤ 65536 → e ≡ sets d 0 (bytes (selectInto (quoteWalk 0 ys)))) → length d ≡ 65536
     → Gives (resultOf [] (limited (raisePass (take k e)))) r out
     → Gives (resultOf [] (andThen (limited (selectPass ys)) raisePass)) r out
-select-goes ys d e out k r a b s h g =
+select-counted ys d e out k r a b s h g =
     let m = length (bytes (selectInto (quoteWalk 0 ys))) in
     let f = counted-fits m (rw (← a) b) in
     select-then ys out r (f .0) (rw (front-stored d e (bytes (selectInto (quoteWalk 0 ys))) k (sym (a ∙ f .1)) (omega (arith, b)) (s (f .0))) at g)
 
 -- the first two passes' results fit, and stand where the third reads
-pub one-goes : (xs d e : List ℕ) (k : ℕ) → length xs ≤ 16384 → k ≡ length (requoted xs) → length d ≡ 65536 → e ≡ sets d 0 (requoted xs) → (k ≤ 65536) × (take k e ≡ requoted xs)
-one-goes xs d e k h a l s =
+pub requoted-front : (xs d e : List ℕ) (k : ℕ) → length xs ≤ 16384 → k ≡ length (requoted xs) → length d ≡ 65536 → e ≡ sets d 0 (requoted xs) → (k ≤ 65536) × (take k e ≡ requoted xs)
+requoted-front xs d e k h a l s =
     let m = requoted-length xs in
     (omega (arith, m, a), front-stored d e (requoted xs) k (sym a) (omega (arith, m, a)) s)
 
-pub two-goes : (xs d e ys out : List ℕ) (n : ℕ) (r : Rewritten) → length xs ≤ 16384 → ys ≡ requoted xs → n ≡ length (bytes (elsif (markedText ys))) → length d ≡ 65536
+pub elsif-then : (xs d e ys out : List ℕ) (n : ℕ) (r : Rewritten) → length xs ≤ 16384 → ys ≡ requoted xs → n ≡ length (bytes (elsif (markedText ys))) → length d ≡ 65536
     → e ≡ sets d 0 (bytes (elsif (markedText ys)))
     → Gives (resultOf [] (andThen (andThen (limited (assignPass (take n e))) selectPass) raisePass)) r out → Gives (resultOf [] (rewriting xs)) r out
-two-goes xs d e ys out n r h y a l s g =
+elsif-then xs d e ys out n r h y a l s g =
     let q : take n e ≡ bytes (elsif (markedText (requoted xs))) = rw (← y) (front-stored d e (bytes (elsif (markedText ys))) n (sym a) (omega (arith, a, rw (← y) at (two-length xs))) s) in
-    five xs out r h (rw q at g)
+    rewriting-from-three xs out r h (rw q at g)

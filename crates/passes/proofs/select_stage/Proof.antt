@@ -2,7 +2,7 @@ use native.Mathlib.Omega.{arith}
 use lib.ListN.{length, take}
 use lib.Seq.{length-take-le}
 use mathlib.Core.Path.{_≡_, refl, sym, ap, _∙_}
-use Rattle.passes.proofs.StageLaws.{counted-long, select-long, select-goes}
+use Rattle.passes.proofs.StageLaws.{counted-long, select-long, select-counted}
 use borrow.Author.Needs.{needs}
 use Rattle.passes.proofs.select_stage.Statement.{statement}
 use Rattle.passes.proofs.select_stage.Tie as tie
@@ -43,7 +43,7 @@ same-length-6 c = search needs
 
 returns-2 : tie.Need-returns-2
 returns-2 c = let s = c .before .before .before .before .before .before .before .before .before .before .before .before .before .before .before .before .before .before .before .before .before .before .args in
-    select-goes (take (s .n) (s .b .now)) (s .out .now) (c .before .before .before .before .before .before .before .before .before .before .before .before .before .before .before .select-pass .last .1 .1 .0) (c .before .before .before .before .before .before .raise-stage .last .0) (c .before .before .before .before .before .before .before .before .before .before .before .before .before .before .before .select-pass .result) (c .before .before .before .before .before .before .raise-stage .result) (c .before .before .before .before .before .before .before .before .before .before .before .before .before .before .before .select-pass .ensures .0) (c .before .before .before .before .before .before .before .before .before .before .if1 .left) (c .before .before .before .before .before .before .before .before .before .before .before .before .before .before .before .select-pass .ensures .1) (c .before .before .before .before .before .before .before .before .before .before .before .before .before .before .before .before .before .before .before .before .before .before .pre .0) (c .before .before .before .before .before .before .raise-stage .ensures)
+    select-counted (take (s .n) (s .b .now)) (s .out .now) (c .before .before .before .before .before .before .before .before .before .before .before .before .before .before .before .select-pass .last .1 .1 .0) (c .before .before .before .before .before .before .raise-stage .last .0) (c .before .before .before .before .before .before .before .before .before .before .before .before .before .before .before .select-pass .result) (c .before .before .before .before .before .before .raise-stage .result) (c .before .before .before .before .before .before .before .before .before .before .before .before .before .before .before .select-pass .ensures .0) (c .before .before .before .before .before .before .before .before .before .before .if1 .left) (c .before .before .before .before .before .before .before .before .before .before .before .before .before .before .before .select-pass .ensures .1) (c .before .before .before .before .before .before .before .before .before .before .before .before .before .before .before .before .before .before .before .before .before .before .pre .0) (c .before .before .before .before .before .before .raise-stage .ensures)
 
 pub select-stage-spec : {M : Type 1} → statement M
 select-stage-spec =
