@@ -10,6 +10,7 @@ use native.Mathlib.Omega.{arith}
 use denote.Enum.Declared.{tagOf}
 use lib.ListN.{length, take, drop, set, length-append, length-drop, length-reverse, take-append-drop}
 use lib.Seq.{sets, sets-eq, take-at}
+use Rattle.spec.proofs.BytesLaws.{bytes-take, bytes-drop, bytes-append}
 use Rattle.spec.proofs.RefusalBounds.{bytes-length}
 use Rattle.spec.specs.Bytes.{ascii, isIdent, isW}
 use Rattle.spec.specs.Lists.{isEmpty, takeWhile, dropWhile}
@@ -24,7 +25,6 @@ use Rattle.spec.proofs.LengthLaws.{right-le}
 use Rattle.spec.proofs.ListLaws.{while-sum, drop-while-le}
 use Rattle.spec.proofs.MapLaws.{marked-bytes}
 use Rattle.spec.proofs.WalkLaws.{piecesAt, pieces-cut, pieces-last}
-use Rattle.spec.proofs.PartLaws.{bytes-take, bytes-drop}
 use Rattle.output.specs.Passes.{passAnswer, Leaves}
 use Rattle.output.specs.declared.Pass.{Pass}
 use Rattle.output.specs.declared.Pass.the-variants.{Done}
@@ -33,7 +33,6 @@ use Rattle.output.proofs.StoreLaws.{sets-append}
 use Rattle.targets.specs.Tells.{Tells}
 use Rattle.targets.specs.declared.TargetFound.the-variants as target
 use Rattle.assignments.specs.Written.{answerFrom, LeavesFrom}
-use Rattle.assignments.proofs.SetLaws.{bytes-append}
 
 -- ---- what is left of a pass
 

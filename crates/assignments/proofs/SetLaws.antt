@@ -8,32 +8,22 @@ use borrow.Author.Tests.{eq-eqb, ne-eqb}
 use lib.Dec.{eqb}
 use lib.ListN.{length, take, drop, length-append, length-drop}
 use lib.Seq.{sets}
+use Rattle.spec.proofs.ListLaws.{empty-length}
+use Rattle.spec.proofs.BytesLaws.{bytes-take, bytes-drop, bytes-append, bytes-lives}
 use Rattle.spec.proofs.RefusalBounds.{bytes-length}
 use Rattle.spec.specs.Bytes.{ascii, isIdent, isW}
 use Rattle.spec.specs.Lists.{isEmpty}
-use Rattle.spec.specs.Map.{Marked, byte, bytes, lives, live, frontLive}
+use Rattle.spec.specs.Map.{Marked, bytes, lives, live, frontLive}
 use Rattle.spec.specs.Search.{first, starts, needleHere}
 use Rattle.spec.specs.Assignments.{assignHere, rightSide, startsName, assignmentAt}
 use Rattle.spec.specs.declared.Found.the-variants.{At}
 use Rattle.spec.proofs.Choice.{and-right}
 use Rattle.spec.proofs.FirstLaws.{first-least}
-use Rattle.spec.proofs.MapLaws.{map-append}
 use Rattle.spec.proofs.WalkLaws.{starts-exact}
-use Rattle.spec.proofs.PartLaws.{bytes-take, bytes-drop}
 use Rattle.output.proofs.StoreLaws.{sets-append}
 use Rattle.scanner.proofs.KeywordLaws.{prefix-by-len}
-use Rattle.targets.proofs.ByteLaws.{empty-length}
 use Rattle.targets.proofs.RunLaws.{longBefore, back-part, back-rest}
 use Rattle.assignments.specs.Written.{setText, Writes}
-
-pub bytes-append : (t u : List Marked) → bytes (t ++ u) ≡ bytes t ++ bytes u
-unfolding bytes
-bytes-append t u = map-append byte t u
-
-bytes-lives : (xs : List ℕ) → bytes (lives xs) ≡ xs
-unfolding bytes lives
-bytes-lives [] = refl
-bytes-lives (x ∷ xs) = ap (λ (l : List ℕ). x ∷ l) (bytes-lives xs)
 
 -- a `:=` that is found stands within the text
 pub assign-inside : (t : List Marked) (i : ℕ) → first assignHere 0 t ≡ At i → i + 2 ≤ length t

@@ -7,14 +7,14 @@ use native.Mathlib.Omega.{arith}
 use lib.Dec.{eqb·suc-zero}
 use lib.ListN.{length, take, drop, getD, length-reverse}
 use lib.Seq.{take-all}
+use Rattle.spec.proofs.ListLaws.{empty-length}
+use Rattle.spec.proofs.BytesLaws.{bytes-take, bytes-drop, front-bytes}
 use Rattle.spec.proofs.RefusalBounds.{bytes-length}
 use Rattle.spec.specs.Bytes.{isW, isDigit, isIdent}
 use Rattle.spec.specs.Lists.{isEmpty, dropWhile, dropEnd}
 use Rattle.spec.specs.Map.{Marked, bytes, ofByte}
 use Rattle.spec.specs.Assignments.{trimEnd, trim, startsName}
 use Rattle.spec.proofs.Choice.{by}
-use Rattle.spec.proofs.PartLaws.{bytes-take, bytes-drop}
-use Rattle.targets.proofs.ByteLaws.{empty-length, front-byte}
 use Rattle.targets.proofs.RunLaws.{endFrom, longBefore, run-rest, back-rest}
 
 module _ {A : Type 0} (f : A → Bool) where
@@ -58,4 +58,4 @@ module _ (xs : List ℕ) (t : List Marked) (e : bytes t ≡ xs) where
   -- the first byte of a name
   pub name-at : startsName t ≡ (isIdent (getD xs 0 0) && not (isDigit (getD xs 0 0)))
   unfolding startsName
-  name-at = rw (front-byte t, e) refl
+  name-at = rw (front-bytes t, e) refl

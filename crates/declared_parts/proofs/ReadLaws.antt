@@ -1,20 +1,22 @@
 -- What a part declares, by the places that are read in its text. Assumes nothing.
 use mathlib.Core.Path.{_≡_, refl, sym, ap, _∙_}
-use mathlib.Core.Bool.{Bool, true, false, cond, _&&_}
-use mathlib.Core.List.{List, [], _∷_, map}
+use mathlib.Core.Bool.{Bool, cond, _&&_}
+use mathlib.Core.List.{List, [], _∷_}
 use mathlib.Core.Option.{Option, none, some}
-use Prim.Native.Nat.{ℕ, suc, _+_, _-_, _≤_}
+use Prim.Native.Nat.{ℕ, _+_, _-_, _≤_}
 use native.Mathlib.Omega.{arith}
-use lib.Dec.{eqb, eqb·suc-zero}
-use lib.ListN.{length, take, drop, length-map}
+use lib.Dec.{eqb}
+use lib.ListN.{length, take, drop}
 use lib.Seq.{take-all}
+use Rattle.spec.proofs.BytesLaws.{while-length-bytes, end-length-bytes}
+use Rattle.spec.proofs.ListLaws.{empty-length}
 use Rattle.spec.proofs.Choice.{by}
 use Rattle.spec.proofs.MapLaws.{marked-length}
 use Rattle.spec.proofs.PartLaws.{marked-part, bytes-part}
 use Rattle.spec.proofs.WalkLaws.{while-take}
 use Rattle.spec.specs.Bytes.{ascii, isW}
 use Rattle.spec.specs.Lists.{isEmpty, takeWhile, dropWhile, dropEnd}
-use Rattle.spec.specs.Map.{Marked, byte, bytes, marked, ofByte}
+use Rattle.spec.specs.Map.{Marked, bytes, marked, ofByte}
 use Rattle.spec.specs.Search.{first, keywordHere}
 use Rattle.spec.specs.Assignments.{trim, trimEnd}
 use Rattle.spec.specs.Declarations.{requotedDefault, words, declaredOf, partAt, declaration}
@@ -34,36 +36,15 @@ marked-between xs ms a b = marked-part a (b - a) xs ms
 pub bytes-between : (xs ms : List ℕ) (a b : ℕ) → bytes (between a b (marked xs ms)) ≡ between a b xs
 bytes-between xs ms a b = bytes-part a (b - a) xs ms
 
--- the front and the end are as long as those of the bytes
-front-bytes : (f : ℕ → Bool) (t : List Marked) → length (takeWhile (ofByte f) t) ≡ length (takeWhile f (bytes t))
-unfolding takeWhile bytes ofByte
-front-bytes f [] = refl
-front-bytes f (x ∷ t) = by (f (byte x)) (λ e. rw e (ap suc (front-bytes f t))) (λ e. rw e refl)
-
-end-bytes : (f : ℕ → Bool) (t : List Marked) → bytes (dropEnd (ofByte f) t) ≡ dropEnd f (bytes t)
-unfolding dropEnd bytes ofByte isEmpty
-end-bytes f [] = refl
-end-bytes f (x ∷ t) =
-    rw (← end-bytes f t) (both (f (byte x)) (dropEnd (ofByte f) t))
-  where
-    both : (b : Bool) (u : List Marked) → map byte (cond (b && isEmpty u) [] (x ∷ u)) ≡ cond (b && isEmpty (map byte u)) [] (byte x ∷ map byte u)
-    both true [] = refl
-    both true (y ∷ u) = refl
-    both false u = refl
-
-end-length : (f : ℕ → Bool) (t : List Marked) → length (dropEnd (ofByte f) t) ≡ length (dropEnd f (bytes t))
-unfolding bytes
-end-length f t = sym (length-map (dropEnd (ofByte f) t) byte) ∙ ap length (end-bytes f t)
-
 module _ (xs ms : List ℕ) (a b : ℕ) where
   abbrev t : List Marked
   t = marked xs ms
 
   front-same : (f : ℕ → Bool) → frontEnd (ofByte f) t a b ≡ frontEnd f xs a b
-  front-same f = ap (λ n. a + n) (front-bytes f (between a b t) ∙ ap (λ l. length (takeWhile f l)) (bytes-between xs ms a b))
+  front-same f = ap (λ n. a + n) (while-length-bytes f (between a b t) ∙ ap (λ l. length (takeWhile f l)) (bytes-between xs ms a b))
 
   end-same : (f : ℕ → Bool) → endLen (ofByte f) t a b ≡ endLen f xs a b
-  end-same f = end-length f (between a b t) ∙ ap (λ l. length (dropEnd f l)) (bytes-between xs ms a b)
+  end-same f = end-length-bytes f (between a b t) ∙ ap (λ l. length (dropEnd f l)) (bytes-between xs ms a b)
 
   -- behind the front, ahead of the end, trimmed
   skipped : (f : ℕ → Bool) → dropWhile (ofByte f) (between a b t) ≡ between (frontEnd f xs a b) b t
@@ -106,11 +87,6 @@ pub cut-declaration : (part t : List Marked) (c : Cut) → trim part ≡ t → c
     → declaration part ≡ declaredOf (words (take (c .head) t)) (valueOf (c .present) (bytes (trim (drop (c .rest) t))))
 unfolding declaration cutIn
 cut-declaration part t c e k = rw (e, k) (cut-part (first walrusHere 0 t) (first (keywordHere (ascii "DEFAULT")) 0 t) t)
-
-empty-length : (u : List Marked) → isEmpty u ≡ eqb (length u) 0
-unfolding isEmpty
-empty-length [] = refl
-empty-length (x ∷ u) = sym (eqb·suc-zero (length u))
 
 -- the places that are read, each by the one before
 pub record Places (xs : List ℕ) (from to start end : ℕ) (c : Cut) (p : Part) : Type 0 where

@@ -7,6 +7,7 @@ use mathlib.Core.Logic.{_↔_}
 use Prim.Native.Nat.{ℕ, _≤_}
 use native.Mathlib.Omega.{arith}
 use lib.ListN.{length, length-append}
+use Rattle.spec.proofs.BytesLaws.{bytes-append}
 use Rattle.spec.proofs.Apart.{apart}
 use Rattle.spec.proofs.RefusalLaws.{then-accepted, after2, after3, after4, assign-done, assign-refused, raise-done, raise-refused, accepted-exactly, qualified-exactly, using-exactly, accepted-fits}
 use Rattle.spec.specs.Map.{bytes, markedText}
@@ -22,7 +23,7 @@ use Rattle.joining.specs.Unlimited.{thenPass, unlimited}
 use Rattle.joining.specs.Sealed.{secondText, fourthText, Sealed}
 use Rattle.joining.proofs.SpanJoin.{marks-join}
 use Rattle.joining.proofs.PassJoin.{requoted-join, elsif-join, assignments-join, select-join, quotes-join}
-use Rattle.joining.proofs.RaiseJoin.{bytes-append, raise-join}
+use Rattle.joining.proofs.RaiseJoin.{raise-join}
 
 -- ---- one pass
 

@@ -8,9 +8,10 @@ use borrow.Author.Tests.{eqb-true, eq-eqb, ltb-true, ltb-false}
 use lib.Dec.{eqb, ltb}
 use lib.ListN.{length, take, drop, getD, length-drop, drop-of-length-le}
 use lib.Seq.{take-suc, take-add, drop-drop, length-take-le}
+use Rattle.spec.proofs.BytesLaws.{bytes-append}
 use Rattle.spec.proofs.Choice.{by, and-left, and-right, or-left, or-right}
 use Rattle.spec.proofs.SpanLaws.{by-kind, lexemes-step, opens-in, seen}
-use Rattle.spec.proofs.MapLaws.{spanFlag, map-append, mark-byte, text-length}
+use Rattle.spec.proofs.MapLaws.{spanFlag, mark-byte, text-length}
 use Rattle.spec.specs.Bytes.{within, isDigit, isLower, isUpper, isIdent, isQuote, isPair, isPrefix, isW, upper}
 use Rattle.spec.specs.Lists.{isEmpty, any, all, concat}
 use Rattle.spec.specs.Spans.{escapes, quoteLen, quotedLen, tagLen, seekLen, opensDollar, dollarOf, Kind, line, block, single, double, dollar, code, kindAt, spanOf, spanAt, spanLen, Lexeme, lexemeAt, lexemes, lexemesFrom}
@@ -38,10 +39,6 @@ bytes-mark : (m : ℕ) (xs : List ℕ) → bytes (map (mark m) xs) ≡ xs
 unfolding bytes
 bytes-mark m [] = refl
 bytes-mark m (c ∷ cs) = rw mark-byte (ap (λ (l : List ℕ). c ∷ l) (bytes-mark m cs))
-
-bytes-append : (s t : List Marked) → bytes (s ++ t) ≡ bytes s ++ bytes t
-unfolding bytes
-bytes-append s t = map-append byte s t
 
 remarked-bytes : (ls : List Lexeme) → bytes (concat (map remarked ls)) ≡ concat (map requoteLexeme ls)
 unfolding concat remarked bytes

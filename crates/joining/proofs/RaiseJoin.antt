@@ -11,9 +11,10 @@ use borrow.Author.Tests.{eqb-true, leb-true, not-true}
 use lib.Dec.{eqb, leb}
 use lib.ListN.{length, drop, length-drop, length-append}
 use lib.Seq.{take-append-le, drop-append-le, drop-drop}
+use Rattle.spec.proofs.BytesLaws.{bytes-append}
 use Rattle.spec.proofs.Apart.{apart}
 use Rattle.spec.proofs.Choice.{by, cond-case, and-left, and-right, or-left, or-right}
-use Rattle.spec.proofs.MapLaws.{map-append, mark-byte, spanFlag, text-length}
+use Rattle.spec.proofs.MapLaws.{mark-byte, spanFlag, text-length}
 use Rattle.spec.proofs.LengthLaws.{word-in}
 use Rattle.spec.proofs.SearchLaws.{word-not-space}
 use Rattle.spec.specs.Bytes.{ascii, within, isLower, isUpper, isDigit, isIdent, isWord, isW, isN, isPair, upper}
@@ -75,10 +76,6 @@ unfolding opensNone upper isLower within
 none-upper c h = none-of (λ (c : ℕ). opensNone (upper c)) c h refl refl refl refl refl
 
 -- ---- the walk's marks behind such bytes
-
-pub bytes-append : (t u : List Marked) → bytes (t ++ u) ≡ bytes t ++ bytes u
-unfolding bytes
-bytes-append t u = map-append byte t u
 
 pub marks-bytes : (k : ℕ) (xs : List ℕ) → bytes (marksFrom k xs) ≡ xs
 unfolding marksFrom bytes

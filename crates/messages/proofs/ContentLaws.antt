@@ -9,11 +9,11 @@ use native.Mathlib.Omega.{arith}
 use lib.Dec.{eqb}
 use lib.ListN.{length, take, drop, getD, replicate, length-append, length-replicate, length-drop, drop-of-length-le}
 use lib.Seq.{length-take-le, getD-drop}
+use Rattle.spec.proofs.BytesLaws.{bytes-take}
 use Rattle.spec.proofs.Choice.{and-left, and-right}
 use Rattle.spec.proofs.SpanLaws.{by-kind, span-le}
 use Rattle.spec.proofs.MapLaws.{map-step, marked-length, text-bytes, text-length}
 use Rattle.spec.proofs.WalkLaws.{while-take, while-length}
-use Rattle.spec.proofs.PartLaws.{bytes-take}
 use Rattle.spec.specs.Lists.{takeWhile, all}
 use Rattle.spec.specs.Map.{Marked, live, quoted, byte, isLiveByte, mark, marked, markedText, bytes, mapOf}
 use Rattle.spec.specs.Spans.{Kind, spanOf, spanAt, spanLen}

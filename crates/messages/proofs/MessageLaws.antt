@@ -8,20 +8,20 @@ use borrow.Author.Tests.{eq-eqb, ne-eqb, eqb-true, eqb-false}
 use lib.Dec.{eqb}
 use lib.ListN.{length, take, drop, getD, length-drop, drop-of-length-le}
 use lib.Seq.{take-take, length-take-le}
+use Rattle.spec.proofs.EndLaws.{drop-end-take}
+use Rattle.spec.proofs.BytesLaws.{bytes-lives, front-bytes, bytes-while, bytes-skip, bytes-end, bytes-take, bytes-drop}
 use Rattle.spec.proofs.RefusalBounds.{bytes-length}
 use Rattle.spec.proofs.AheadLaws.{drop-one, drop-two, tail-one}
 use Rattle.spec.proofs.Choice.{by, cond-case, cond-le, and-left}
 use Rattle.spec.proofs.ListLaws.{drop-end-le, drop-while-le}
 use Rattle.spec.proofs.SpanLaws.{seen}
 use Rattle.spec.proofs.WalkLaws.{while-take, while-length}
-use Rattle.spec.proofs.PartLaws.{bytes-take, bytes-drop}
 use Rattle.spec.specs.Bytes.{isW, within}
 use Rattle.spec.specs.Lists.{takeWhile, dropWhile, dropEnd}
 use Rattle.spec.specs.Map.{Marked, byte, bytes, lives, ofByte}
 use Rattle.spec.specs.Assignments.{trim, trimEnd}
 use Rattle.spec.specs.Raise.{closeLen, message}
 use Rattle.messages.specs.Readings.{trimmed, literalLen}
-use Rattle.messages.proofs.TextLaws.{bytes-lives, front-bytes, bytes-while, bytes-skip, bytes-end, drop-end-take}
 
 -- ---- where a literal closes
 

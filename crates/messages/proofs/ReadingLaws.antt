@@ -9,11 +9,11 @@ use borrow.Author.Tests.{leb-true, leb-false}
 use lib.Dec.{leb}
 use lib.ListN.{length, take, drop, getD, length-take, length-drop, drop-of-length-le}
 use lib.Seq.{drop-drop, take-all, take-length, length-take-le}
+use Rattle.spec.proofs.BytesLaws.{bytes-while, bytes-take, bytes-drop}
 use Rattle.spec.proofs.RefusalBounds.{bytes-length}
 use Rattle.spec.proofs.Choice.{by}
 use Rattle.spec.proofs.ListLaws.{drop-end-le}
 use Rattle.spec.proofs.WalkLaws.{prefixBy, starts-case}
-use Rattle.spec.proofs.PartLaws.{bytes-take, bytes-drop}
 use Rattle.spec.specs.Bytes.{ascii, upper, isW}
 use Rattle.spec.specs.Lists.{takeWhile, dropEnd}
 use Rattle.spec.specs.Map.{Marked, bytes, ofByte}
@@ -26,7 +26,7 @@ use Rattle.messages.specs.declared.Abort.the-variants as answer
 use Rattle.messages.specs.declared.RaiseLevel.the-variants as level
 use Rattle.messages.specs.declared.RaiseFate.the-variants.{Dropped, Passed, Refused}
 use Rattle.messages.specs.Readings.{levelFound, trimmed, contentIn, aborting, abortIn, AbortWithin, fateAt, fateIn, FateWithin, Reads}
-use Rattle.messages.proofs.TextLaws.{runEnd, run-within, trim-both, part-of-front, bytes-while}
+use Rattle.messages.proofs.TextLaws.{runEnd, run-within, trim-both, part-of-front}
 use Rattle.messages.proofs.ContentLaws.{content-bytes}
 use Rattle.messages.proofs.MessageLaws.{bytes-trim, trimmed-front}
 

@@ -6,15 +6,16 @@ use Prim.Native.Nat.{ℕ, zero, suc, _+_, _-_, _≤_, _<_, zero-le, suc-le-suc}
 use native.Mathlib.Omega.{arith}
 use borrow.Author.Tests.{lt-leb, le-leb, leb-true, leb-false}
 use lib.Dec.{eqb, leb}
-use lib.ListN.{length, take, drop, getD, length-map, length-drop}
-use lib.Seq.{take-suc, take-take, drop-drop}
+use lib.ListN.{length, take, drop, getD, length-drop}
+use lib.Seq.{take-take, drop-drop}
+use Rattle.spec.proofs.EndLaws.{drop-end-take}
+use Rattle.spec.proofs.BytesLaws.{bytes-drop, bytes-while}
 use Rattle.spec.proofs.RefusalBounds.{bytes-length}
 use Rattle.spec.proofs.Choice.{by, and-right}
-use Rattle.spec.proofs.PartLaws.{bytes-drop}
 use Rattle.spec.proofs.WalkLaws.{prefixBy, while-drop, while-length, while-length-end, while-length-hit, while-length-miss}
 use Rattle.spec.specs.Bytes.{isW}
 use Rattle.spec.specs.Lists.{isEmpty, takeWhile, dropWhile, dropEnd}
-use Rattle.spec.specs.Map.{Marked, byte, bytes, lives, frontByte, ofByte}
+use Rattle.spec.specs.Map.{Marked, bytes, ofByte}
 use Rattle.messages.specs.Readings.{trimmed}
 
 -- ---- runs of elements that pass a test
@@ -40,54 +41,7 @@ module _ {A : Type 0} (f : A → Bool) (xs : List A) (i : ℕ) where
 pub run-step : {A : Type 0} (f : A → Bool) (xs : List A) (i : ℕ) (d : A) → i < length xs → f (getD xs i d) ≡ true → runEnd f xs i ≡ runEnd f xs (i + 1)
 run-step f xs i d h e = omega (arith, while-length-hit f xs i d h e)
 
--- ---- an end that passes a test is dropped
-
-module _ {A : Type 0} (f : A → Bool) where
-  -- an end that passes goes
-  end-goes : (u : List A) (x : A) → f x ≡ true → dropEnd f (u ++ (x ∷ [])) ≡ dropEnd f u
-  unfolding dropEnd isEmpty
-  end-goes [] x e = simp e
-  end-goes (y ∷ u) x e = rw (end-goes u x e)
-
-  kept-end : (u : List A) (x : A) → isEmpty (u ++ (x ∷ [])) ≡ false
-  unfolding isEmpty
-  kept-end [] x = refl
-  kept-end (y ∷ u) x = refl
-
-  and-false : (b : Bool) → (b && false) ≡ false
-  and-false true = refl
-  and-false false = refl
-
-  -- one that fails stays, and all before it
-  end-stays : (u : List A) (x : A) → f x ≡ false → dropEnd f (u ++ (x ∷ [])) ≡ u ++ (x ∷ [])
-  unfolding dropEnd
-  end-stays [] x e = simp e
-  end-stays (y ∷ u) x e = rw (end-stays u x e, kept-end u x, and-false (f y))
-
-  -- what is left is a front of the list
-  pub drop-end-take : (t : List A) → dropEnd f t ≡ take (length (dropEnd f t)) t
-  unfolding dropEnd
-  drop-end-take [] = refl
-  drop-end-take (x ∷ t) =
-      by (f x && isEmpty (dropEnd f t)) (λ e. rw e) (λ e. rw e (ap (λ (l : List A). x ∷ l) (drop-end-take t)))
-
-  -- one step from k backwards
-  module _ (t : List A) (k : ℕ) (d : A) (p : 0 < k) (h : k ≤ length t) where
-    last-one : take k t ≡ take (k - 1) t ++ (getD t (k - 1) d ∷ [])
-    last-one =
-        let e : k ≡ suc (k - 1) = omega arith in
-        ap (λ (n : ℕ). take n t) e ∙ take-suc t (k - 1) d (omega arith)
-
-    pub trim-step : f (getD t (k - 1) d) ≡ true → dropEnd f (take k t) ≡ dropEnd f (take (k - 1) t)
-    trim-step e = ap (dropEnd f) last-one ∙ end-goes (take (k - 1) t) (getD t (k - 1) d) e
-
-    pub trim-stop : f (getD t (k - 1) d) ≡ false → dropEnd f (take k t) ≡ take k t
-    trim-stop e = ap (dropEnd f) last-one ∙ (end-stays (take (k - 1) t) (getD t (k - 1) d) e ∙ sym last-one)
-
-  pub trim-none : (t : List A) (k : ℕ) → k ≤ 0 → length (dropEnd f (take k t)) ≡ 0
-  unfolding dropEnd
-  trim-none t zero h = refl
-  trim-none t (suc k) h = absurd (omega arith)
+-- ---- trimming
 
 -- trimmed of W at both ends: a is where the W in front end, k how long the rest is without those at its end
 pub trim-both : (xs : List ℕ) (a k : ℕ) → a ≡ runEnd isW xs 0 → k ≡ length (dropEnd isW (drop a xs)) → trimmed xs ≡ take k (drop a xs)
@@ -128,53 +82,10 @@ prefix-within f [] xs h = zero-le
 prefix-within f (a ∷ w) [] h = absurd (false≢true h)
 prefix-within f (a ∷ w) (x ∷ xs) h = suc-le-suc (prefix-within f w xs (and-right (eqb (f x) (f a)) (prefixBy f w xs) h))
 
--- ---- a marked text and its bytes
-
-pub bytes-lives : (xs : List ℕ) → bytes (lives xs) ≡ xs
-unfolding bytes lives
-bytes-lives [] = refl
-bytes-lives (x ∷ xs) = ap (λ (l : List ℕ). x ∷ l) (bytes-lives xs)
-
-pub bytes-append : (s t : List Marked) → bytes (s ++ t) ≡ bytes s ++ bytes t
-unfolding bytes
-bytes-append [] t = refl
-bytes-append (x ∷ s) t = ap (λ (l : List ℕ). byte x ∷ l) (bytes-append s t)
-
-pub front-bytes : (t : List Marked) → frontByte t ≡ getD (bytes t) 0 0
-unfolding frontByte bytes
-front-bytes [] = refl
-front-bytes (x ∷ t) = refl
-
-module _ (f : ℕ → Bool) where
-  pub bytes-while : (t : List Marked) → bytes (takeWhile (ofByte f) t) ≡ takeWhile f (bytes t)
-  unfolding bytes takeWhile ofByte
-  bytes-while [] = refl
-  bytes-while (x ∷ t) = by (f (byte x)) (λ e. rw e (ap (λ (l : List ℕ). byte x ∷ l) (bytes-while t))) (λ e. rw e)
-
-  pub bytes-skip : (t : List Marked) → bytes (dropWhile (ofByte f) t) ≡ dropWhile f (bytes t)
-  unfolding bytes dropWhile ofByte
-  bytes-skip [] = refl
-  bytes-skip (x ∷ t) = by (f (byte x)) (λ e. rw e (bytes-skip t)) (λ e. rw e)
-
-  bytes-empty : (t : List Marked) → isEmpty (bytes t) ≡ isEmpty t
-  unfolding bytes isEmpty
-  bytes-empty [] = refl
-  bytes-empty (x ∷ t) = refl
-
-  pub bytes-end : (t : List Marked) → bytes (dropEnd (ofByte f) t) ≡ dropEnd f (bytes t)
-  unfolding bytes dropEnd ofByte
-  bytes-end [] = refl
-  bytes-end (x ∷ t) =
-      let more = bytes-end t in
-      let same : isEmpty (dropEnd f (bytes t)) ≡ isEmpty (dropEnd (ofByte f) t) = ap isEmpty (sym more) ∙ bytes-empty (dropEnd (ofByte f) t) in
-      by (f (byte x) && isEmpty (dropEnd (ofByte f) t))
-      (λ e. rw (same, e))
-      (λ e. rw (same, e) (ap (λ (l : List ℕ). byte x ∷ l) more))
-
-  -- skipping by a test on bytes goes to the run's end
-  pub skip-to : (t : List Marked) (i : ℕ) → dropWhile (ofByte f) (drop i t) ≡ drop (runEnd f (bytes t) i) t
-  skip-to t i =
-      let u = drop i t in
-      let long : length (takeWhile (ofByte f) u) ≡ length (takeWhile f (drop i (bytes t))) =
-      sym (bytes-length (takeWhile (ofByte f) u)) ∙ (ap length (bytes-while u) ∙ ap (λ (l : List ℕ). length (takeWhile f l)) (bytes-drop i t)) in
-      while-drop (ofByte f) u ∙ (ap (λ (n : ℕ). drop n u) long ∙ drop-drop (length (takeWhile f (drop i (bytes t)))) i t)
+-- skipping by a test on bytes goes to the run's end
+pub skip-to : (f : ℕ → Bool) (t : List Marked) (i : ℕ) → dropWhile (ofByte f) (drop i t) ≡ drop (runEnd f (bytes t) i) t
+skip-to f t i =
+    let u = drop i t in
+    let long : length (takeWhile (ofByte f) u) ≡ length (takeWhile f (drop i (bytes t))) =
+    sym (bytes-length (takeWhile (ofByte f) u)) ∙ (ap length (bytes-while f u) ∙ ap (λ (l : List ℕ). length (takeWhile f l)) (bytes-drop i t)) in
+    while-drop (ofByte f) u ∙ (ap (λ (n : ℕ). drop n u) long ∙ drop-drop (length (takeWhile f (drop i (bytes t)))) i t)

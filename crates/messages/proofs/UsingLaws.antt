@@ -8,9 +8,9 @@ use borrow.Author.Tests.{le-leb, lt-leb}
 use lib.Dec.{eqb, leb}
 use lib.ListN.{length, take, drop, getD}
 use lib.Seq.{drop-drop, getD-drop}
+use Rattle.spec.proofs.BytesLaws.{bytes-lives, bytes-append, front-bytes, bytes-drop}
 use Rattle.spec.proofs.RefusalBounds.{bytes-length}
 use Rattle.spec.proofs.WalkLaws.{prefixBy, starts-case}
-use Rattle.spec.proofs.PartLaws.{bytes-drop}
 use Rattle.spec.specs.Bytes.{ascii, upper, isW, within}
 use Rattle.spec.specs.Lists.{isEmpty, dropWhile}
 use Rattle.spec.specs.Map.{Marked, bytes, lives, frontByte, ofByte}
@@ -18,7 +18,7 @@ use Rattle.spec.specs.Search.{startsIgnoringCase}
 use Rattle.spec.specs.Body.{Rewriting, accepted, usingClause, forget}
 use Rattle.spec.specs.Raise.{message, Fate, rewritten, refused, usingFate, abortFate, fateText}
 use Rattle.messages.specs.Readings.{aborting}
-use Rattle.messages.proofs.TextLaws.{runEnd, skip-to, empty-drop, bytes-lives, bytes-append, front-bytes}
+use Rattle.messages.proofs.TextLaws.{runEnd, skip-to, empty-drop}
 use Rattle.messages.proofs.MessageLaws.{message-front}
 
 -- the text of a message

@@ -9,6 +9,9 @@ use borrow.Author.Tests.{eqb-true}
 use lib.Dec.{eqb}
 use lib.ListN.{length, take, drop, getD, length-take, length-drop, drop-of-length-le}
 use lib.Seq.{take-length, take-take, drop-drop, length-take-le}
+use Rattle.spec.proofs.EndLaws.{drop-end-take, drop-end-some}
+use Rattle.spec.proofs.BytesLaws.{while-length-bytes, end-length-bytes}
+use Rattle.spec.proofs.AheadLaws.{drop-take}
 use Rattle.spec.proofs.Choice.{and-left, and-right}
 use Rattle.spec.proofs.FirstLaws.{first-least}
 use Rattle.spec.proofs.ListLaws.{drop-end-le}
@@ -24,7 +27,6 @@ use Rattle.spec.specs.SelectInto.{depthAfter, depthOf, commaHere, listed, place
 use Rattle.spec.specs.declared.Found.{Found}
 use Rattle.spec.specs.declared.Found.the-variants.{At, Nothing}
 use Rattle.quotes.specs.Items.{Listed}
-use Rattle.quotes.proofs.PartLaws.{drop-take, drop-end-take, drop-end-some, take-while-bytes, drop-end-bytes}
 
 -- the pieces depend on what stands before only by how many parentheses are open there
 pub same-pieces : (b c u : List Marked) → depthOf b ≡ depthOf c → piecesFrom commaHere b u ≡ piecesFrom commaHere c u
@@ -167,7 +169,7 @@ module _ (xs ms : List ℕ) where
     lead-same =
         let n : at + j - at ≡ j = omega arith in
         let g = rw n at f in
-        take-while-bytes isW piece ∙ (ap (λ (b : List ℕ). length (takeWhile isW b)) (bytes-part at j xs ms) ∙ sym g)
+        while-length-bytes isW piece ∙ (ap (λ (b : List ℕ). length (takeWhile isW b)) (bytes-part at j xs ms) ∙ sym g)
 
     pub lead-within : l ≤ j
     lead-within = omega (arith, lead-same, piece-length, while-length (ofByte isW) piece)
@@ -199,7 +201,7 @@ module _ (xs ms : List ℕ) where
       kept-length =
           let n : at + j - (at + l) ≡ j - l = omega arith in
           let q = rw n at g in
-          drop-end-bytes isW left ∙ (ap (λ (b : List ℕ). length (dropEnd isW b)) (bytes-part (at + l) (j - l) xs ms) ∙ sym q)
+          end-length-bytes isW left ∙ (ap (λ (b : List ℕ). length (dropEnd isW b)) (bytes-part (at + l) (j - l) xs ms) ∙ sym q)
 
       kept-within : k ≤ j - l
       kept-within = omega (arith, kept-length, drop-end-le (ofByte isW) left, length-take (j - l) (drop (at + l) t))

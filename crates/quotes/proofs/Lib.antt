@@ -1,5 +1,4 @@
 pub mod QuoteLaws
-pub mod PartLaws
 pub mod DepthLaws
 pub mod ItemLaws
 pub mod LimitLaws

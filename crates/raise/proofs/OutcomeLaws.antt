@@ -5,6 +5,7 @@ use Prim.Native.Nat.{ℕ, _+_}
 use native.Mathlib.Omega.{arith}
 use lib.ListN.{length, take, length-append}
 use lib.Seq.{sets}
+use Rattle.spec.proofs.BytesLaws.{bytes-append}
 use Rattle.spec.proofs.RefusalBounds.{bytes-length}
 use Rattle.spec.specs.Map.{Marked, bytes}
 use Rattle.spec.specs.Assignments.{Outcome, done, qualified, clause, _⊕_}
@@ -13,7 +14,6 @@ use Rattle.output.proofs.StoreLaws.{sets-more}
 use Rattle.output.specs.Passes.{passAnswer, Leaves}
 use Rattle.output.specs.declared.Pass.{Pass}
 use Rattle.output.specs.declared.Pass.the-variants.{Done, Clause}
-use Rattle.messages.proofs.TextLaws.{bytes-append}
 
 -- what a pass answers that has written n bytes and has the outcome o left
 abbrev pub answerFrom : ℕ → Outcome → Pass

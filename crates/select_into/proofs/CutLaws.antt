@@ -7,6 +7,7 @@ use native.Mathlib.Omega.{arith}
 use lib.Dec.{eqb}
 use lib.ListN.{length, take, drop, length-drop}
 use lib.Seq.{drop-length, length-take-le}
+use Rattle.spec.proofs.BytesLaws.{bytes-append, bytes-end}
 use Rattle.spec.proofs.Choice.{and-left, and-right}
 use Rattle.spec.proofs.FirstLaws.{first-least}
 use Rattle.spec.proofs.LengthLaws.{word-in}
@@ -23,7 +24,7 @@ use Rattle.spec.specs.declared.Found.{Found}
 use Rattle.spec.specs.declared.Found.the-variants.{At, Nothing}
 use Rattle.set_lines.specs.Lines.{Shared, linesText}
 use Rattle.select_into.specs.Pairs.{sharedBy, sharedOf, fromText, pairsText}
-use Rattle.select_into.proofs.EndLaws.{bytes-append, bytes-drop-end, listed-trimmed}
+use Rattle.select_into.proofs.EndLaws.{listed-trimmed}
 use Rattle.select_into.proofs.SetLaws.{lines-bytes, indentation-bytes}
 
 -- ---- where a keyword stands
@@ -71,8 +72,8 @@ module _ (xs ms : List ℕ) where
   from-bytes : (f : Found) → bytes (fromPart f (marked xs ms)) ≡ fromText (drop (placeOr f (length xs)) xs)
   unfolding fromPart fromText trimEnd bytes dropEnd
   from-bytes (At i) =
-      bytes-drop-end (λ c. eqb c 59) (dropEnd (ofByte isW) (drop i (marked xs ms)))
-      ∙ ap (dropEnd (λ c. eqb c 59)) (bytes-drop-end isW (drop i (marked xs ms)) ∙ ap (dropEnd isW) (bytes-drop xs ms i))
+      bytes-end (λ c. eqb c 59) (dropEnd (ofByte isW) (drop i (marked xs ms)))
+      ∙ ap (dropEnd (λ c. eqb c 59)) (bytes-end isW (drop i (marked xs ms)) ∙ ap (dropEnd isW) (bytes-drop xs ms i))
   from-bytes Nothing = rw (drop-length xs) refl
 
   front-bytes : (n : ℕ) → bytes (take n (marked xs ms)) ≡ take n xs

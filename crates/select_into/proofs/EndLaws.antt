@@ -1,15 +1,14 @@
--- The ends of lists by a test, of two lists one after the other, and of bytes; the parts of a list are trimmed. Assumes
--- nothing.
+-- The end of two lists one after the other, by a test; the parts of a list are trimmed. Assumes nothing.
 use mathlib.Core.Path.{_≡_, refl, sym, ap, _∙_}
 use mathlib.Core.Bool.{Bool, false, not, _&&_, and-false}
-use mathlib.Core.List.{List, [], _∷_, _++_, map, reverse, reverseAux}
+use mathlib.Core.List.{List, [], _∷_, _++_, map}
 use Prim.Native.Nat.{ℕ, _≤_, _<_}
 use native.Mathlib.Omega.{arith}
 use lib.ListN.{length}
 use Rattle.spec.proofs.Choice.{by}
 use Rattle.spec.specs.Bytes.{isW}
-use Rattle.spec.specs.Lists.{isEmpty, takeWhile, dropWhile, dropEnd, keep}
-use Rattle.spec.specs.Map.{Marked, byte, bytes, lives, ofByte}
+use Rattle.spec.specs.Lists.{isEmpty, dropWhile, dropEnd, keep}
+use Rattle.spec.specs.Map.{Marked, ofByte}
 use Rattle.spec.specs.Search.{pieces}
 use Rattle.spec.specs.Assignments.{trim, trimEnd}
 use Rattle.spec.specs.SelectInto.{listed, commaHere}
@@ -44,48 +43,6 @@ module _ {A : Type 0} (f : A → Bool) where
     where
       again : (x : A) (u : List A) → dropEnd f u ≡ u → (f x && isEmpty u) ≡ false → dropEnd f (x ∷ u) ≡ x ∷ u
       again x u r e = rw (r, e) refl
-
--- ---- bytes
-
-pub bytes-append : (s t : List Marked) → bytes (s ++ t) ≡ bytes s ++ bytes t
-unfolding bytes
-bytes-append [] t = refl
-bytes-append (x ∷ s) t = ap (λ (l : List ℕ). byte x ∷ l) (bytes-append s t)
-
-pub bytes-lives : (xs : List ℕ) → bytes (lives xs) ≡ xs
-unfolding bytes lives
-bytes-lives [] = refl
-bytes-lives (c ∷ cs) = ap (λ (l : List ℕ). c ∷ l) (bytes-lives cs)
-
-bytes-empty : (t : List Marked) → isEmpty (bytes t) ≡ isEmpty t
-unfolding bytes isEmpty
-bytes-empty [] = refl
-bytes-empty (x ∷ t) = refl
-
-module _ (f : ℕ → Bool) where
-  pub bytes-drop-end : (t : List Marked) → bytes (dropEnd (ofByte f) t) ≡ dropEnd f (bytes t)
-  unfolding bytes dropEnd ofByte
-  bytes-drop-end [] = refl
-  bytes-drop-end (x ∷ t) =
-      let more = bytes-drop-end t in
-      let same : isEmpty (dropEnd f (bytes t)) ≡ isEmpty (dropEnd (ofByte f) t) = ap isEmpty (sym more) ∙ bytes-empty (dropEnd (ofByte f) t) in
-      by (f (byte x) && isEmpty (dropEnd (ofByte f) t))
-      (λ e. rw (same, e) refl)
-      (λ e. rw (same, e) (ap (λ (l : List ℕ). byte x ∷ l) more))
-
-  pub bytes-while : (t : List Marked) → bytes (takeWhile (ofByte f) t) ≡ takeWhile f (bytes t)
-  unfolding bytes takeWhile ofByte
-  bytes-while [] = refl
-  bytes-while (x ∷ t) = by (f (byte x)) (λ e. rw e (ap (λ (l : List ℕ). byte x ∷ l) (bytes-while t))) (λ e. rw e refl)
-
-bytes-onto : (s t : List Marked) → bytes (reverseAux s t) ≡ reverseAux (bytes s) (bytes t)
-unfolding bytes
-bytes-onto [] t = refl
-bytes-onto (x ∷ s) t = bytes-onto s (x ∷ t)
-
-pub bytes-reverse : (t : List Marked) → bytes (reverse t) ≡ reverse (bytes t)
-unfolding bytes
-bytes-reverse t = bytes-onto t []
 
 -- ---- trimmed parts
 

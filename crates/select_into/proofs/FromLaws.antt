@@ -6,14 +6,14 @@ use native.Mathlib.Omega.{arith}
 use lib.Dec.{eqb}
 use lib.ListN.{length, take, drop, length-drop}
 use lib.Seq.{take-take}
-use Rattle.spec.proofs.AheadLaws.{rest-of}
+use Rattle.spec.proofs.EndLaws.{drop-end-take}
+use Rattle.spec.proofs.AheadLaws.{rest-of, drop-take}
 use Rattle.spec.proofs.ListLaws.{drop-end-le}
 use Rattle.spec.specs.Bytes.{ascii, isW}
 use Rattle.spec.specs.Lists.{dropEnd}
 use Rattle.quotes.specs.Limits.{limitFrom}
 use Rattle.set_lines.specs.Lines.{shared}
 use Rattle.select_into.specs.Pairs.{lastLine, fromText, sharedOf}
-use Rattle.quotes.proofs.PartLaws.{drop-take, drop-end-take}
 use Rattle.set_lines.proofs.LineLaws.{part-to}
 
 -- the FROM part by its length

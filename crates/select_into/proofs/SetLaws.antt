@@ -7,6 +7,7 @@ use native.Mathlib.Omega.{arith}
 use borrow.Author.Tests.{eqb-false}
 use lib.Dec.{eqb, leb}
 use lib.ListN.{length, getD, length-append, length-map}
+use Rattle.spec.proofs.BytesLaws.{bytes-append, bytes-lives, bytes-end, bytes-while, bytes-reverse}
 use Rattle.spec.proofs.Choice.{by, cond-case, cond-le}
 use Rattle.spec.specs.Bytes.{ascii, isW, upper, isLower, within}
 use Rattle.spec.specs.Lists.{isEmpty, takeWhile, dropEnd}
@@ -17,7 +18,7 @@ use Rattle.quotes.specs.Limits.{limitNext, limitFrom}
 use Rattle.set_lines.specs.Lines.{spaced, queryText, limitText, lineText, limited, breakText, sharedLine, linesText}
 use Rattle.select_into.specs.Pairs.{sharedBy, lastLine}
 use Rattle.quotes.proofs.LimitLaws.{limit-marks, limit-append}
-use Rattle.select_into.proofs.EndLaws.{drop-end-gone, drop-end-kept, bytes-append, bytes-lives, bytes-drop-end, bytes-while, bytes-reverse, Trimmed}
+use Rattle.select_into.proofs.EndLaws.{drop-end-gone, drop-end-kept, Trimmed}
 
 -- ---- the subquery
 
@@ -133,9 +134,9 @@ module _ (w f c : List Marked) (trimmed : trimEnd c ≡ c) (some : 0 < length c)
   unfolding trimEnd bytes
   trimmed-bytes =
       let long : length (bytes c) ≡ length c = length-map c byte in
-      bytes-drop-end isW (subquery w f c)
+      bytes-end isW (subquery w f c)
       ∙ (ap (dropEnd isW) (query-bytes w f c)
-      ∙ query-trimmed (bytes w) (bytes c) (sym (bytes-drop-end isW c) ∙ ap bytes trimmed) (omega arith) (bytes f))
+      ∙ query-trimmed (bytes w) (bytes c) (sym (bytes-end isW c) ∙ ap bytes trimmed) (omega arith) (bytes f))
 
   line-bytes : (v : List Marked) (indent : List ℕ)
       → bytes (setLine w f c v) ≡ sharedLine (sharedBy (bytes w) (bytes f) indent) (bytes c) (bytes v)

@@ -7,6 +7,7 @@ use native.Mathlib.Omega.{arith}
 use borrow.Author.Tests.{eqb-true}
 use lib.ListN.{length, take, drop, getD, length-drop}
 use lib.Seq.{take-suc, getD-drop}
+use Rattle.spec.proofs.BytesLaws.{bytes-append}
 use Rattle.spec.proofs.FirstLaws.{first-least}
 use Rattle.spec.proofs.JoinedPieces.{pieces-cons}
 use Rattle.spec.proofs.MapLaws.{marked-length}
@@ -16,7 +17,6 @@ use Rattle.spec.specs.Map.{Marked, live, quoted, marked, bytes, isLiveByte}
 use Rattle.spec.specs.Search.{first, byteHere, pieces}
 use Rattle.spec.specs.SelectInto.{selectStatement, joinSelects, selectInto}
 use Rattle.spec.specs.declared.Found.the-variants.{At, Nothing}
-use Rattle.select_into.proofs.EndLaws.{bytes-append}
 
 live-byte : (b : ℕ) (x : Marked) → isLiveByte b x ≡ true → x ≡ live b
 live-byte b (live c) h = ap live (eqb-true c b h)

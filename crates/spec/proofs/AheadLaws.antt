@@ -1,11 +1,11 @@
 -- What stands at an index, as the front of what is dropped to. Assumes nothing.
-use mathlib.Core.Path.{_≡_, sym, ap, _∙_}
-use mathlib.Core.List.{List, _∷_}
-use Prim.Native.Nat.{ℕ, suc, _+_, _-_, _<_}
+use mathlib.Core.Path.{_≡_, refl, sym, ap, _∙_}
+use mathlib.Core.List.{List, [], _∷_}
+use Prim.Native.Nat.{ℕ, zero, suc, _+_, _-_, _<_}
 use native.Mathlib.Numerals.{add-one, add-two}
 use native.Mathlib.Omega.{arith}
 use lib.ListN.{length, take, drop, getD, length-drop}
-use lib.Seq.{drop-cons, take-all}
+use lib.Seq.{drop-cons, take-all, take-nil}
 
 -- one element ahead
 pub drop-one {ℓ} : {A : Type ℓ} (xs : List A) (i : ℕ) (d : A) → i < length xs → drop i xs ≡ getD xs i d ∷ drop (i + 1) xs
@@ -24,3 +24,11 @@ tail-one xs i h = rw (add-two, add-one) (sym (drop-cons xs (suc i) 0 (omega arit
 -- a part from i to the end is what is dropped to
 pub rest-of {ℓ} : {A : Type ℓ} (xs : List A) (i : ℕ) → take (length xs - i) (drop i xs) ≡ drop i xs
 rest-of xs i = take-all (length xs - i) (drop i xs) (omega (arith, length-drop i xs))
+
+-- a front without its first elements
+module _ {A : Type 0} where
+  pub drop-take : (m n : ℕ) (l : List A) → drop m (take n l) ≡ take (n - m) (drop m l)
+  drop-take zero n l = let e : n - 0 ≡ n = omega arith in rw e refl
+  drop-take (suc m) zero l = let e : 0 - suc m ≡ 0 = omega arith in rw e refl
+  drop-take (suc m) (suc n) [] = sym (take-nil (suc n - suc m))
+  drop-take (suc m) (suc n) (x ∷ l) = let e : suc n - suc m ≡ n - m = omega arith in rw e (drop-take m n l)

@@ -22,4 +22,6 @@ pub mod RefusalCalls
 pub mod RefusalBounds
 pub mod SearchLaws
 pub mod CopyLaws
+pub mod BytesLaws
 pub mod PartLaws
+pub mod EndLaws

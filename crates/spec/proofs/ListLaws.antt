@@ -5,11 +5,17 @@ use mathlib.Core.List.{List, [], _∷_, _++_, map, reverse, reverseAux, append-a
 use Prim.Native.Nat.{ℕ, suc, _+_, _*_, _≤_, zero-le, suc-le-suc}
 use native.Mathlib.Nat.{mul-zero, mul-suc, add-comm}
 use native.Mathlib.Omega.{arith}
+use lib.Dec.{eqb, eqb·suc-zero}
 use lib.ListN.{length, take, drop, length-append, take-append-drop}
 use Rattle.spec.proofs.Choice.{by, cond-case}
 use Rattle.spec.specs.Lists.{isEmpty, takeWhile, dropWhile, dropEnd, any, all, keep, concat}
 
 module _ {A : Type 0} where
+  pub empty-length : (l : List A) → isEmpty l ≡ eqb (length l) 0
+  unfolding isEmpty
+  empty-length [] = refl
+  empty-length (x ∷ l) = sym (eqb·suc-zero (length l))
+
   -- the front that passes the test and what stands behind it are the list
   pub while-split : (f : A → Bool) (t : List A) → takeWhile f t ++ dropWhile f t ≡ t
   unfolding takeWhile dropWhile

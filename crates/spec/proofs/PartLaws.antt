@@ -1,26 +1,12 @@
--- Parts of a marked text: their bytes, and the same parts of a text and of its map. Assumes nothing.
+-- The same part of a text and of its map. Assumes nothing.
 use mathlib.Core.Path.{_≡_, refl, sym, ap, _∙_}
-use mathlib.Core.List.{List, [], _∷_, map}
+use mathlib.Core.List.{List, [], _∷_}
 use Prim.Native.Nat.{ℕ, zero, suc}
 use lib.ListN.{take, drop}
 use lib.Seq.{take-nil}
 use Rattle.spec.proofs.MapLaws.{marked-bytes}
-use Rattle.spec.proofs.WalkLaws.{marked-drop, map-take}
-use Rattle.spec.specs.Map.{Marked, mark, live, byte, marked, bytes}
-
-map-drop : {A B : Type 0} (f : A → B) (n : ℕ) (l : List A) → map f (drop n l) ≡ drop n (map f l)
-map-drop f zero l = refl
-map-drop f (suc n) [] = refl
-map-drop f (suc n) (x ∷ l) = map-drop f n l
-
--- the bytes of a part are a part of the bytes
-pub bytes-take : (n : ℕ) (t : List Marked) → bytes (take n t) ≡ take n (bytes t)
-unfolding bytes
-bytes-take n t = map-take byte n t
-
-pub bytes-drop : (n : ℕ) (t : List Marked) → bytes (drop n t) ≡ drop n (bytes t)
-unfolding bytes
-bytes-drop n t = map-drop byte n t
+use Rattle.spec.proofs.WalkLaws.{marked-drop}
+use Rattle.spec.specs.Map.{Marked, mark, live, marked, bytes}
 
 -- a part of a text beside the same part of its map is a part of the text beside its map
 pub marked-take : (n : ℕ) (xs ms : List ℕ) → marked (take n xs) (take n ms) ≡ take n (marked xs ms)

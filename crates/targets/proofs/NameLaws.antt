@@ -9,6 +9,7 @@ use borrow.Author.Tests.{ltb-true, ltb-false, eq-eqb, ne-eqb}
 use lib.Dec.{eqb, ltb}
 use lib.ListN.{length, take, drop, getD, List·getD-eq-default}
 use lib.Seq.{drop-drop}
+use Rattle.spec.proofs.ListLaws.{empty-length}
 use Rattle.spec.proofs.RefusalBounds.{bytes-length}
 use Rattle.spec.specs.Bytes.{isIdent, isW, isN}
 use Rattle.spec.specs.Lists.{isEmpty, takeWhile}
@@ -19,7 +20,7 @@ use Rattle.spec.proofs.WalkLaws.{back-step}
 use Rattle.targets.specs.Tells.{isTarget, targetIn, Tells}
 use Rattle.targets.specs.declared.TargetFound.{TargetFound}
 use Rattle.targets.specs.declared.TargetFound.the-variants.{At, Nothing}
-use Rattle.targets.proofs.ByteLaws.{empty-length, byte-at, byte-before}
+use Rattle.targets.proofs.ByteLaws.{byte-at, byte-before}
 use Rattle.targets.proofs.RunLaws.{endFrom, longBefore, run-long, run-part, run-rest, back-long, back-part, back-rest}
 
 -- ---- one check, then another

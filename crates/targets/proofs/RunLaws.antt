@@ -6,12 +6,12 @@ use Prim.Native.Nat.{ℕ, _+_, _-_, _≤_, _<_}
 use native.Mathlib.Omega.{arith}
 use lib.ListN.{length, take, drop, getD, length-drop}
 use lib.Seq.{drop-drop}
+use Rattle.spec.proofs.BytesLaws.{bytes-take, bytes-drop, bytes-reverse, while-length-bytes}
 use Rattle.spec.proofs.RefusalBounds.{bytes-length}
 use Rattle.spec.specs.Lists.{takeWhile, dropWhile}
 use Rattle.spec.specs.Map.{Marked, bytes, ofByte}
 use Rattle.spec.proofs.WalkLaws.{back-step, while-take, while-drop, while-length, while-length-end, while-length-hit, while-length-miss}
-use Rattle.spec.proofs.PartLaws.{bytes-take, bytes-drop}
-use Rattle.targets.proofs.ByteLaws.{back-take, back-drop, bytes-reverse, while-bytes}
+use Rattle.targets.proofs.ByteLaws.{back-take, back-drop}
 
 -- ---- one step of each loop
 
@@ -64,7 +64,7 @@ module _ (f : ℕ → Bool) (xs : List ℕ) (t : List Marked) (e : bytes t ≡ x
   module _ (i r : ℕ) (h : r ≡ endFrom f xs i) where
     pub run-long : length (takeWhile (ofByte f) (drop i t)) ≡ r - i
     run-long =
-        let n = while-bytes f (drop i t) ∙ ap (λ (l : List ℕ). length (takeWhile f l)) (bytes-drop i t ∙ ap (λ (l : List ℕ). drop i l) e) in
+        let n = while-length-bytes f (drop i t) ∙ ap (λ (l : List ℕ). length (takeWhile f l)) (bytes-drop i t ∙ ap (λ (l : List ℕ). drop i l) e) in
         omega arith
 
     pub run-part : takeWhile (ofByte f) (drop i t) ≡ take (r - i) (drop i t)
@@ -80,7 +80,7 @@ module _ (f : ℕ → Bool) (xs : List ℕ) (t : List Marked) (e : bytes t ≡ x
   module _ (i r : ℕ) (w : i ≤ length xs) (h : i ≡ r + longBefore f xs i) where
     pub back-long : length (takeWhile (ofByte f) (reverse (take i t))) ≡ i - r
     back-long =
-        let n = while-bytes f (reverse (take i t)) ∙ ap (λ (l : List ℕ). length (takeWhile f l)) (bytes-reverse (take i t) ∙ ap reverse (bytes-take i t ∙ ap (λ (l : List ℕ). take i l) e)) in
+        let n = while-length-bytes f (reverse (take i t)) ∙ ap (λ (l : List ℕ). length (takeWhile f l)) (bytes-reverse (take i t) ∙ ap reverse (bytes-take i t ∙ ap (λ (l : List ℕ). take i l) e)) in
         omega arith
 
     pub back-part : reverse (takeWhile (ofByte f) (reverse (take i t))) ≡ take (i - r) (drop r t)

@@ -4,13 +4,13 @@ use mathlib.Core.List.{List, []}
 use Prim.Native.Nat.{ℕ, _+_, _-_, _≤_}
 use lib.ListN.{length, take, drop, length-drop}
 use lib.Seq.{length-take-le}
+use Rattle.spec.proofs.BytesLaws.{bytes-drop}
 use Rattle.spec.proofs.RefusalBounds.{bytes-length}
 use Rattle.spec.specs.Map.{Marked, marked, bytes}
 use Rattle.spec.specs.Assignments.{rightSide, startsName}
 use Rattle.spec.proofs.AheadLaws.{rest-of}
 use Rattle.spec.proofs.LengthLaws.{right-le}
 use Rattle.spec.proofs.MapLaws.{marked-bytes, marked-length}
-use Rattle.spec.proofs.PartLaws.{bytes-drop}
 use Rattle.assignments.proofs.SetLaws.{name-bytes, no-name, no-right, set-bytes}
 use borrow.Author.Needs.{needs}
 use Rattle.assignments.proofs.put_assignment.Statement.{statement}

@@ -5,7 +5,7 @@ use Prim.Native.Nat.{ℕ, _-_}
 use lib.Dec.{eqb}
 use lib.ListN.{take}
 use lib.Seq.{length-take-le}
-use Rattle.spec.proofs.PartLaws.{bytes-take}
+use Rattle.spec.proofs.BytesLaws.{bytes-take}
 use Rattle.spec.specs.Lists.{dropEnd}
 use Rattle.spec.specs.Map.{bytes, ofByte}
 use Rattle.spec.specs.Assignments.{trim, rightSide}

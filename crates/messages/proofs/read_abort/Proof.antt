@@ -3,12 +3,13 @@ use mathlib.Core.Path.{_≡_, sym, ap, _∙_}
 use mathlib.Core.List.{List}
 use Prim.Native.Nat.{ℕ}
 use lib.ListN.{length, take}
+use Rattle.spec.proofs.BytesLaws.{bytes-lives}
 use Rattle.spec.specs.Bytes.{ascii, upper}
 use Rattle.spec.specs.Map.{bytes, lives}
 use Rattle.spec.specs.Body.{accepted, forget}
 use Rattle.spec.specs.Raise.{Fate, message, fateText}
 use Rattle.messages.specs.Readings.{aborting}
-use Rattle.messages.proofs.TextLaws.{bytes-lives, prefix-within}
+use Rattle.messages.proofs.TextLaws.{prefix-within}
 use Rattle.messages.proofs.MessageLaws.{message-le}
 use Rattle.messages.proofs.UsingLaws.{at-using, at-plain}
 use borrow.Author.Needs.{needs}

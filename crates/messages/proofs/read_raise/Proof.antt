@@ -4,11 +4,11 @@ use mathlib.Core.List.{List}
 use mathlib.Core.Option.{Option}
 use Prim.Native.Nat.{_≤_, _-_}
 use lib.ListN.{length, take, drop, length-drop}
+use Rattle.spec.proofs.BytesLaws.{bytes-drop}
 use Rattle.spec.proofs.RefusalBounds.{bytes-length}
 use Rattle.spec.specs.Map.{Marked, bytes}
 use Rattle.spec.specs.Raise.{Level, levelIn, levelWords}
 use Rattle.spec.proofs.AheadLaws.{rest-of}
-use Rattle.spec.proofs.PartLaws.{bytes-drop}
 use Rattle.messages.specs.Readings.{levelFound, levelReach, Reads}
 use Rattle.messages.proofs.ReadingLaws.{found-exception, found-other, found-nothing, level-none, reads-none}
 use borrow.Author.Needs.{needs}

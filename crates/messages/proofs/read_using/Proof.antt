@@ -4,6 +4,7 @@ use mathlib.Core.List.{List}
 use Prim.Native.Nat.{ℕ, _≤_, _<_, _+_, _-_}
 use lib.ListN.{length, take, drop, length-drop}
 use borrow.Author.Tests.{eq-eqb, ne-eqb}
+use Rattle.spec.proofs.BytesLaws.{bytes-lives, bytes-drop}
 use Rattle.spec.proofs.RefusalBounds.{bytes-length}
 use Rattle.spec.specs.Bytes.{ascii, upper, isW}
 use Rattle.spec.specs.Map.{Marked, bytes, lives}
@@ -12,9 +13,8 @@ use Rattle.spec.specs.Raise.{message}
 use Rattle.spec.proofs.AheadLaws.{rest-of}
 use Rattle.spec.proofs.SpanLaws.{seen}
 use Rattle.spec.proofs.WalkLaws.{prefixBy}
-use Rattle.spec.proofs.PartLaws.{bytes-drop}
 use Rattle.messages.specs.Readings.{aborting}
-use Rattle.messages.proofs.TextLaws.{run-within, run-le, bytes-lives}
+use Rattle.messages.proofs.TextLaws.{run-within, run-le}
 use Rattle.messages.proofs.MessageLaws.{message-le}
 use Rattle.messages.proofs.UsingLaws.{no-message, no-equals, no-quote, more-behind, only-message, quote-front}
 use borrow.Author.Needs.{needs}

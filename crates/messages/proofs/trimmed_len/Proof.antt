@@ -4,9 +4,9 @@ use mathlib.Core.Path.{_≡_, sym, ap, _∙_}
 use Prim.Native.Nat.{_-_, _≤_}
 use lib.ListN.{length, take}
 use lib.Seq.{take-length, length-take-le}
+use Rattle.spec.proofs.EndLaws.{drop-end-hit, drop-end-miss, drop-end-zero}
 use Rattle.spec.specs.Bytes.{isW}
 use Rattle.spec.specs.Lists.{dropEnd}
-use Rattle.messages.proofs.TextLaws.{trim-step, trim-stop, trim-none}
 use Rattle.messages.proofs.trimmed_len.Statement.{statement}
 use Rattle.messages.proofs.trimmed_len.Tie as tie
 
@@ -35,15 +35,15 @@ loop-less : tie.Need-loop-less Inv-loop μ-loop
 loop-less c = search needs
 
 loop-again : tie.Need-loop-again Inv-loop μ-loop
-loop-again c = (omega arith, c .before .before .before .before .loop .inv .1 ∙ ap length (trim-step isW (c .before .before .before .before .before .before .args .text .now) (c .before .before .before .before .loop .k) 0 (omega arith) (omega arith) (sym (c .before .is-w .ensures) ∙ c .if1 .taken)))
+loop-again c = (omega arith, c .before .before .before .before .loop .inv .1 ∙ ap length (drop-end-hit isW (c .before .before .before .before .before .before .args .text .now) (c .before .before .before .before .loop .k) 0 (omega arith) (omega arith) (sym (c .before .is-w .ensures) ∙ c .if1 .taken)))
 
 returns : tie.Need-returns Inv-loop μ-loop
 returns c =
     let l = c .before .before .before .before .loop in
-    sym (l .inv .1 ∙ (ap length (trim-stop isW (c .before .before .before .before .before .before .args .text .now) (l .k) 0 (omega arith) (omega arith) (sym (c .before .is-w .ensures) ∙ c .if1 .left)) ∙ length-take-le (l .k) (c .before .before .before .before .before .before .args .text .now) (omega arith)))
+    sym (l .inv .1 ∙ (ap length (drop-end-miss isW (c .before .before .before .before .before .before .args .text .now) (l .k) 0 (omega arith) (omega arith) (sym (c .before .is-w .ensures) ∙ c .if1 .left)) ∙ length-take-le (l .k) (c .before .before .before .before .before .before .args .text .now) (omega arith)))
 
 returns-2 : tie.Need-returns-2 Inv-loop μ-loop
-returns-2 c = sym (c .before .loop .inv .1 ∙ trim-none isW (c .before .before .before .args .text .now) (c .before .loop .k) (omega arith))
+returns-2 c = sym (c .before .loop .inv .1 ∙ drop-end-zero isW (c .before .before .before .args .text .now) (c .before .loop .k) (omega arith))
 
 pub trimmed-len-spec : {M : Type 1} → statement M
 trimmed-len-spec =

@@ -4,9 +4,9 @@ use mathlib.Core.Path.{_≡_, sym, ap, _∙_}
 use Prim.Native.Nat.{_≤_}
 use lib.ListN.{length, take}
 use lib.Seq.{take-length, length-take-le}
+use Rattle.spec.proofs.EndLaws.{drop-end-hit, drop-end-miss, drop-end-zero}
 use Rattle.spec.specs.Bytes.{isW}
 use Rattle.spec.specs.Lists.{dropEnd}
-use Rattle.quotes.proofs.PartLaws.{drop-end-hit, drop-end-miss, drop-end-zero}
 use Rattle.quotes.proofs.trimmed_len.Statement.{statement}
 use Rattle.quotes.proofs.trimmed_len.Tie as tie
 

@@ -6,8 +6,8 @@ use lib.Dec.{eqb}
 use lib.ListN.{length, take}
 use lib.Seq.{take-length, length-take-le}
 use borrow.Author.Tests.{eq-eqb, ne-eqb}
+use Rattle.spec.proofs.EndLaws.{drop-end-hit, drop-end-miss, drop-end-zero}
 use Rattle.spec.specs.Lists.{dropEnd}
-use Rattle.quotes.proofs.PartLaws.{drop-end-hit, drop-end-miss, drop-end-zero}
 use Rattle.select_into.proofs.without_semicolons.Statement.{statement}
 use Rattle.select_into.proofs.without_semicolons.Tie as tie
 

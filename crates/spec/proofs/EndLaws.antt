@@ -1,21 +1,13 @@
--- What stands at the end of a list, by a test on its elements, and on a marked text as on its bytes. Assumes nothing.
+-- The end of a list, by a test on its elements. Assumes nothing.
 use mathlib.Core.Path.{_≡_, refl, sym, ap, _∙_}
 use mathlib.Core.Bool.{Bool, true, false, _&&_, and-false}
 use mathlib.Core.List.{List, [], _∷_, _++_}
-use Prim.Native.Nat.{ℕ, zero, suc, _-_, _≤_, _<_}
+use Prim.Native.Nat.{ℕ, suc, _-_, _≤_, _<_}
 use native.Mathlib.Omega.{arith}
-use lib.ListN.{length, take, drop, getD}
-use lib.Seq.{take-suc, take-nil}
+use lib.ListN.{length, take, getD}
+use lib.Seq.{take-suc}
 use Rattle.spec.proofs.Choice.{by}
-use Rattle.spec.specs.Lists.{isEmpty, takeWhile, dropEnd}
-use Rattle.spec.specs.Map.{Marked, byte, bytes, ofByte}
-
-module _ {A : Type 0} where
-  pub drop-take : (m n : ℕ) (l : List A) → drop m (take n l) ≡ take (n - m) (drop m l)
-  drop-take zero n l = let e : n - 0 ≡ n = omega arith in rw e refl
-  drop-take (suc m) zero l = let e : 0 - suc m ≡ 0 = omega arith in rw e refl
-  drop-take (suc m) (suc n) [] = sym (take-nil (suc n - suc m))
-  drop-take (suc m) (suc n) (x ∷ l) = let e : suc n - suc m ≡ n - m = omega arith in rw e (drop-take m n l)
+use Rattle.spec.specs.Lists.{isEmpty, dropEnd}
 
 module _ {A : Type 0} (f : A → Bool) where
   -- what is left is a front of the list
@@ -63,28 +55,3 @@ module _ {A : Type 0} (f : A → Bool) where
     pub drop-end-miss : f (getD xs (n - 1) d) ≡ false → dropEnd f (take n xs) ≡ take n xs
     drop-end-miss e =
         ap (dropEnd f) front-last ∙ (last-fails (getD xs (n - 1) d) (take (n - 1) xs) e ∙ sym front-last)
-
--- ---- tests on bytes look at the bytes only
-
-empty-same : {A B : Type 0} (s : List A) (t : List B) → length s ≡ length t → isEmpty s ≡ isEmpty t
-unfolding isEmpty
-empty-same [] [] e = refl
-empty-same [] (y ∷ t) e = absurd (omega arith)
-empty-same (x ∷ s) [] e = absurd (omega arith)
-empty-same (x ∷ s) (y ∷ t) e = refl
-
-module _ (f : ℕ → Bool) where
-  pub take-while-bytes : (t : List Marked) → length (takeWhile (ofByte f) t) ≡ length (takeWhile f (bytes t))
-  unfolding takeWhile ofByte bytes
-  take-while-bytes [] = refl
-  take-while-bytes (x ∷ t) = by (f (byte x)) (λ e. rw e (ap suc (take-while-bytes t))) (λ e. rw e refl)
-
-  pub drop-end-bytes : (t : List Marked) → length (dropEnd (ofByte f) t) ≡ length (dropEnd f (bytes t))
-  unfolding dropEnd ofByte bytes
-  drop-end-bytes [] = refl
-  drop-end-bytes (x ∷ t) =
-      let more = drop-end-bytes t in
-      let same = empty-same (dropEnd (ofByte f) t) (dropEnd f (bytes t)) more in
-      by (f (byte x) && isEmpty (dropEnd f (bytes t)))
-      (λ e. rw (same, e) refl)
-      (λ e. rw (same, e) (ap suc more))
