@@ -75,9 +75,13 @@ BEGIN
 /// The most names that a function declares.
 const NAMES: usize = 512;
 
+/// What stands before the declarations and behind them.
+const FRONT: &str = "DECLARE ";
+const BACK: &str = "\nBEGIN END;";
+
 /// A function that declares so many long names, with a common front, in falling order.
 pub fn long_names(size: usize) -> String {
-    let front = repeated("n", size / NAMES - "000 t;".len());
+    let front = repeated("n", (size - FRONT.len() - BACK.len()) / NAMES - "000 t;".len());
     let names: String = (0..NAMES).rev().map(|number| format!("{front}{number:03} t;")).collect();
     declaring(&names, size)
 }
@@ -91,7 +95,6 @@ pub fn repeated_names(size: usize) -> String {
 
 /// A function of this size whose declarations are as many of these as fit.
 fn declaring(names: &str, size: usize) -> String {
-    let (front, back) = ("DECLARE ", "\nBEGIN END;");
-    let fitting = &names[..names.len().min(size - front.len() - back.len())];
-    format!("{front}{fitting}{back}")
+    let fitting = &names[..names.len().min(size - FRONT.len() - BACK.len())];
+    format!("{FRONT}{fitting}{BACK}")
 }
