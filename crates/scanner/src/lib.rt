@@ -13,7 +13,8 @@ ghost use mathlib.Core.Path.{_≡_};
 ghost use mathlib.Core.Bool.{false, cond};
 ghost use Prim.Native.Nat.{_+_, _-_, _≤_, _<_};
 ghost use lib.Dec.{eqb};
-ghost use lib.ListN.{length, getD, drop};
+ghost use lib.ListN.{length, getD, drop, replicate};
+ghost use lib.Seq.{sets};
 ghost use Rattle.spec.specs.Bytes.{ascii, isWord, upper};
 ghost use Rattle.spec.specs.Lists.{isEmpty, takeWhile};
 ghost use Rattle.spec.specs.Map.{mapOf, mark, marked, isLiveByte};
@@ -35,6 +36,19 @@ fn span_flag(s: Span) -> u8
     }
 }
 
+// A span's flag in the map. Most spans are one live byte, which is stored without a loop.
+fn mark_span(map: &mut [u8], from: usize, to: usize, flag: u8)
+    ensures { λ _. ⌜ now (map .exit) ≡ sets (now (map .entry)) from (replicate (to - from) flag) ⌝ }
+{
+    if from < map.len() {
+        if from + 1 == to {
+            map[from] = flag;
+            return;
+        }
+    }
+    fill(map, from, to, flag);
+}
+
 // The map of `text`, at the front of `map`.
 pub fn map_text(text: &[u8], map: &mut [u8])
     requires { ⌜ length (now text) ≤ length (now map) ⌝ }
@@ -47,7 +61,7 @@ pub fn map_text(text: &[u8], map: &mut [u8])
         let Step::Taken(s, next) = step else {
             return;
         };
-        fill(map, from, next.at, span_flag(s));
+        mark_span(map, from, next.at, span_flag(s));
         cursor = next;
     }
 }

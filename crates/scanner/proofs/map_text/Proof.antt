@@ -46,8 +46,8 @@ returns c =
 span-flag-requires : tie.Need-span-flag-requires Inv-loop μ-loop
 span-flag-requires c κs = search needs
 
-fill-requires : tie.Need-fill-requires Inv-loop μ-loop
-fill-requires c κs = search needs
+mark-span-requires : tie.Need-mark-span-requires Inv-loop μ-loop
+mark-span-requires c κs = search needs
 
 loop-less : tie.Need-loop-less Inv-loop μ-loop
 loop-less c = omega (arith, turn (c .before .before .before .before .before .before) .within, turn (c .before .before .before .before .before .before) .beyond)
@@ -58,8 +58,8 @@ loop-again c =
     let xs = c .before .before .before .before .before .before .before .before .before .before .before .before .args .text .now in
     let s = c .before .before .before .before .before .before .step2 .given .0 .0 in
     let to = c .before .before .before .before .before .before .step2 .given .0 .1 .0 .at in
-    let stored : c .before .before .fill .last .0 ≡ sets (l .map) (l .cursor .at) (replicate (to - l .cursor .at) (spanFlag s)) = rw (← c .before .before .before .span-flag .ensures) (c .before .before .fill .ensures) in
-    (turn (c .before .before .before .before .before .before) .within, c .before .before .fill .kept .0 ∙ l .inv .1, l .inv .2 ∙ map-turn xs (l .cursor .at) s to (turn (c .before .before .before .before .before .before)) (l .map) (c .before .before .fill .last .0) stored)
+    let stored : c .before .before .mark-span .last .0 ≡ sets (l .map) (l .cursor .at) (replicate (to - l .cursor .at) (spanFlag s)) = rw (← c .before .before .before .span-flag .ensures) (c .before .before .mark-span .ensures) in
+    (turn (c .before .before .before .before .before .before) .within, c .before .before .mark-span .kept .0 ∙ l .inv .1, l .inv .2 ∙ map-turn xs (l .cursor .at) s to (turn (c .before .before .before .before .before .before)) (l .map) (c .before .before .mark-span .last .0) stored)
 
 pub map-text-spec : {M : Type 1} → statement M
 map-text-spec =
@@ -74,6 +74,6 @@ map-text-spec =
     same-length
     returns
     span-flag-requires
-    fill-requires
+    mark-span-requires
     loop-less
     loop-again)
