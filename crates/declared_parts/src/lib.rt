@@ -212,23 +212,23 @@ pub fn put_spaced(out: &mut [u8], n: usize, text: &[u8]) -> usize
     o
 }
 
-// Whether x and y are the same bytes.
+// Whether x and y are the same bytes. They are compared from the end: names that share a front differ there at once.
 pub fn same_bytes(x: &[u8], y: &[u8]) -> bool
     ensures { λ r. ⌜ r ≡ isSame (now (x .entry)) (now (y .entry)) ⌝ }
 {
-    let mut i: usize = 0;
-    while i < x.len() {
-        if i < y.len() {
-            if x[i] == y[i] {
-                i += 1;
+    if x.len() == y.len() {
+        let mut i = x.len();
+        while 0 < i {
+            if x[i - 1] == y[i - 1] {
+                i -= 1;
             } else {
                 return false;
             }
-        } else {
-            return false;
         }
+        true
+    } else {
+        false
     }
-    y.len() <= i
 }
 
 // Whether x comes before y in byte order.
