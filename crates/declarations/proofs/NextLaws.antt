@@ -1,109 +1,88 @@
--- The first name in byte order among those that count, record by record from the last, and the nexts. Assumes nothing.
-use mathlib.Core.Path.{_≡_, refl, _∙_}
-use mathlib.Core.Bool.{Bool, true, false, cond, _&&_, _||_}
-use mathlib.Core.List.{List}
-use Prim.Native.Nat.{ℕ, suc, _+_, _-_, _*_, _≤_, _<_}
+-- The nexts of records whose names are different are those of the definition. Assumes nothing.
+use mathlib.Core.Path.{_≡_, refl, sym, _∙_}
+use mathlib.Core.Bool.{Bool, true, false, false≢true}
+use mathlib.Core.List.{List, []}
+use Prim.Native.Nat.{ℕ, zero, suc, _+_, _-_, _≤_, _<_}
+use native.Mathlib.Nat.{le-of-suc-le-suc}
 use native.Mathlib.Omega.{arith}
-use borrow.Author.Tests.{eqb-true, eqb-false, eq-eqb, ne-eqb}
+use borrow.Author.Tests.{eqb-true, eqb-false}
 use lib.Dec.{eqb}
-use lib.ListN.{length, getD, drop, set}
-use lib.Seq.{getD-set-same, getD-set-other, drop-set-lt}
+use lib.ListN.{getD}
 use Rattle.spec.proofs.Choice.{by}
+use Rattle.spec.proofs.ChainLaws.{First, no-record, the-record, first-in-order, distinct-place}
+use Rattle.spec.proofs.NameOrder.{by-order}
+use Rattle.spec.proofs.RecordLaws.{distinct, names, all-distinct}
 use Rattle.spec.specs.Bytes.{isBefore}
-use Rattle.spec.specs.Declarations.{Place, firstInOrder, headNext, nextOf}
-use Rattle.declared_records.specs.Held.{recordIn, recordsFrom}
-use Rattle.declarations.specs.Records.{isBehind, betterIn, nextNumber, Linked}
-use Rattle.declared_records.proofs.HeldLaws.{record-same, from-same}
+use Rattle.spec.specs.Map.{Marked}
+use Rattle.spec.specs.Search.{byteHere, pieces}
+use Rattle.spec.specs.Declarations.{Declared, Place, firstInOrder, headNext, nextOf}
+use Rattle.declared_records.specs.Held.{recordsFrom, Gathered}
+use Rattle.declarations.specs.Chain.{nameIn, Different, comesBehind, NextIs}
+use Rattle.declarations.specs.Records.{nextNumber}
+use Rattle.declared_records.proofs.HeldLaws.{from-length}
+use Rattle.declarations.proofs.InsertLaws.{behind-head, behind-other}
 
-module _ (xs rs : List ℕ) (count : ℕ) (all : Bool) (name : List ℕ) where
-  -- the first among the records behind record k
-  abbrev firstBehind : ℕ → Place
-  firstBehind k = firstInOrder (isBehind all name) (suc k) (recordsFrom xs rs (suc k) (count - k))
-
-  -- `best` is its number
-  pub record Best (k best : ℕ) : Type 0 where
-    pub number : best ≡ firstBehind k .number
-    pub named : (best ≡ 0 → ⊥) → firstBehind k .name ≡ recordIn xs rs best .name
-
-  pub best-none : Best count 0
-  unfolding firstInOrder recordsFrom
-  best-none =
-      let z : count - count ≡ 0 = omega arith in
-      record { number = rw z refl; named = λ n. absurd (n refl) }
-
-  module _ (j : ℕ) (h : j < count) where
-    abbrev here : Place
-    here = record { number = suc j; name = recordIn xs rs (suc j) .name }
-
-    one : firstBehind j ≡ cond (isBehind all name (recordIn xs rs (suc j) .name) && (eqb (firstBehind (suc j) .number) 0 || isBefore (recordIn xs rs (suc j) .name) (firstBehind (suc j) .name))) here (firstBehind (suc j))
-    unfolding firstInOrder recordsFrom
-    one =
-        let z : count - j ≡ suc (count - suc j) = omega arith in
-        rw z refl
-
-    -- the test is the definition's
-    tested : (best : ℕ) → Best (suc j) best
-        → (isBehind all name (recordIn xs rs (suc j) .name) && (eqb (firstBehind (suc j) .number) 0 || isBefore (recordIn xs rs (suc j) .name) (firstBehind (suc j) .name)))
-        ≡ betterIn xs rs (suc j) best all name
-    unfolding betterIn
-    tested best b =
-        by (eqb best 0)
-        (λ e. rw (← b .number, e) refl)
-        (λ e. rw (← b .number, e, b .named (eqb-false best 0 e)) refl)
-
-    pub best-taken : (best : ℕ) → Best (suc j) best → betterIn xs rs (suc j) best all name ≡ true → Best j (suc j)
-    best-taken best b e =
-        let f : firstBehind j ≡ here = one ∙ rw (tested best b, e) refl in
-        record { number = rw f refl; named = λ _. rw f refl }
-
-    pub best-left : (best : ℕ) → Best (suc j) best → betterIn xs rs (suc j) best all name ≡ false → Best j best
-    best-left best b e =
-        let f : firstBehind j ≡ firstBehind (suc j) = one ∙ rw (tested best b, e) refl in
-        record { number = rw f (b .number); named = λ n. rw f (b .named n) }
-
-  pub best-all : (best : ℕ) → Best 0 best → best ≡ firstInOrder (isBehind all name) 1 (recordsFrom xs rs 1 count) .number
-  best-all best b =
-      let z : count - 0 ≡ count = omega arith in
-      rw z at (b .number)
-
--- ---- the nexts
+-- the names of c records from record s on
+name-at : (xs rs : List ℕ) (s c i : ℕ) → i < c → getD (names (recordsFrom xs rs s c)) i [] ≡ nameIn xs rs (s + i)
+unfolding names recordsFrom
+name-at xs rs s zero i h = absurd (omega arith)
+name-at xs rs s (suc c) zero h =
+    let z : s + 0 ≡ s = omega arith in
+    rw z refl
+name-at xs rs s (suc c) (suc i) h =
+    let z : s + suc i ≡ suc s + i = omega arith in
+    rw z (name-at xs rs (suc s) c i (le-of-suc-le-suc h))
 
 module _ (xs rs : List ℕ) (count : ℕ) where
-  pub next-head : (k best : ℕ) (name : List ℕ) → k ≡ 0 → best ≡ firstInOrder (isBehind true name) 1 (recordsFrom xs rs 1 count) .number → best ≡ nextNumber xs rs count k
-  unfolding nextNumber headNext
-  next-head k best name z e = rw (eq-eqb k 0 z) e
+  abbrev ds : List Declared
+  ds = recordsFrom xs rs 1 count
 
-  pub next-other : (k best : ℕ) (name : List ℕ) → (k ≡ 0 → ⊥) → name ≡ recordIn xs rs k .name → best ≡ firstInOrder (isBehind false name) 1 (recordsFrom xs rs 1 count) .number → best ≡ nextNumber xs rs count k
-  unfolding nextNumber nextOf
-  next-other k best name z q e = rw (ne-eqb k 0 z) (e ∙ rw q refl)
+  -- by number
+  named : (m : ℕ) → 1 ≤ m → m ≤ count → getD (names ds) (m - 1) [] ≡ nameIn xs rs m
+  named m a b =
+      let z : 1 + (m - 1) ≡ m = omega arith in
+      rw z at (name-at xs rs 1 count (m - 1) (omega arith))
 
-  next-same : (rs′ : List ℕ) (k : ℕ) → ((j : ℕ) → recordIn xs rs′ j ≡ recordIn xs rs j) → nextNumber xs rs′ count k ≡ nextNumber xs rs count k
-  unfolding nextNumber
-  next-same rs′ k h = rw (from-same xs rs′ rs 1 count (λ j _. h j), h k) refl
+  -- records of a section have different names
+  pub gathered-different : (t : List Marked) → count ≤ 512 → Gathered xs t rs count → Different (nameIn xs rs) count
+  unfolding distinct
+  gathered-different t low g i j a b c d e =
+      let u : distinct ds ≡ true = rw (g .records low) (all-distinct (pieces (byteHere 59) t) [] refl) in
+      let l = from-length xs rs 1 count in
+      let p : i - 1 ≡ j - 1 =
+      distinct-place ds (i - 1) (j - 1) u (omega arith) (omega arith) (rw (named i a b, named j c d) e) in
+      omega arith
 
-  -- the records below k have their nexts
-  pub record LinkedTo (k : ℕ) (rs′ : List ℕ) : Type 0 where
-    pub next : (j : ℕ) → j < k → getD rs′ (8 * j) 0 ≡ nextNumber xs rs count j
-    pub same : (j : ℕ) → recordIn xs rs′ j ≡ recordIn xs rs j
-    pub behind : drop 4104 rs′ ≡ drop 4104 rs
+  -- the next of record j is the first of the names that come behind it
+  next-first : Different (nameIn xs rs) count → (j m : ℕ) (f : List ℕ → Bool) → ((i : ℕ) → comesBehind (nameIn xs rs) j i ≡ f (nameIn xs rs i))
+      → NextIs (nameIn xs rs) count 0 j m → m ≡ firstInOrder f 1 ds .number
+  next-first u j m f e x = go (firstInOrder f 1 ds) (first-in-order f 1 ds)
+    where
+      go : (p : Place) → First f 1 ds p → m ≡ p .number
+      go p (no-record z h) =
+          by (eqb m 0)
+          (λ w. eqb-true m 0 w ∙ sym z)
+          (λ w. let b = x .held (eqb-false m 0 w) in
+          let l = from-length xs rs 1 count in
+          absurd (false≢true (sym (h (m - 1) (omega (arith, b .0, b .1))) ∙ (rw (named m (b .0) (b .1)) (sym (e m) ∙ b .2)))))
+      go p (the-record i b z r t h) =
+          let l = from-length xs rs 1 count in
+          let i′ : i < count = omega arith in
+          let r′ : p .name ≡ nameIn xs rs (1 + i) = r ∙ name-at xs rs 1 count i i′ in
+          let t′ : f (nameIn xs rs (1 + i)) ≡ true = rw r′ at t in
+          let s = x .least (1 + i) (omega arith) (omega arith) (e (1 + i) ∙ t′) in
+          let w = x .held (s .0) in
+          let k : isBefore (nameIn xs rs m) (p .name) ≡ false =
+          rw (named m (w .0) (w .1)) at (h (m - 1) (omega (arith, w .0, w .1)) (rw (named m (w .0) (w .1)) (sym (e m) ∙ w .2))) in
+          by-order (nameIn xs rs m) (nameIn xs rs (1 + i))
+          (λ q. absurd (false≢true (sym (rw r′ at k) ∙ q)))
+          (λ q. u m (1 + i) (w .0) (w .1) (omega arith) (omega arith) q ∙ sym z)
+          (λ q. absurd (false≢true (sym (s .1) ∙ q)))
 
-  pub linked-none : LinkedTo 0 rs
-  linked-none = record { next = λ j h. absurd (omega arith); same = λ j. refl; behind = refl }
-
-  pub linked-one : (k : ℕ) (rs′ : List ℕ) (v : ℕ) → 8 * k < length rs′ → k ≤ 512 → LinkedTo k rs′ → v ≡ nextNumber xs rs′ count k → LinkedTo (k + 1) (set rs′ (8 * k) v)
-  linked-one k rs′ v b w l e =
-      record {
-        next =
-            λ j h.
-            by (eqb j k)
-            (λ q. rw (eqb-true j k q) (getD-set-same rs′ (8 * k) v 0 b ∙ (e ∙ next-same rs′ k (l .same))))
-            (λ q. getD-set-other rs′ (8 * k) (8 * j) v 0 (λ r. eqb-false j k q (omega arith)) ∙ l .next j (omega (arith, eqb-false j k q)));
-        same =
-            λ j.
-            record-same xs (set rs′ (8 * k) v) rs′ j (λ i a c. getD-set-other rs′ (8 * k) (8 * j + i) v 0 (λ r. absurd (omega arith)))
-            ∙ l .same j;
-        behind = drop-set-lt 4104 rs′ (8 * k) v (omega arith) ∙ l .behind;
-      }
-
-  pub linked-all : (k : ℕ) (rs′ : List ℕ) → count < k → LinkedTo k rs′ → Linked xs rs count rs′
-  linked-all k rs′ h l = record { next = λ j a. l .next j (omega arith); same = l .same; behind = l .behind }
+  -- and so its next number
+  pub next-is : Different (nameIn xs rs) count → (j m : ℕ) → NextIs (nameIn xs rs) count 0 j m → m ≡ nextNumber xs rs count j
+  unfolding nextNumber headNext nextOf
+  next-is u j m x =
+      by (eqb j 0)
+      (λ e. rw e (next-first u j m (λ (n : List ℕ). true) (λ i. behind-head (nameIn xs rs) j i (eqb-true j 0 e)) x))
+      (λ e. rw e (next-first u j m (isBefore (nameIn xs rs j)) (λ i. behind-other (nameIn xs rs) j i (eqb-false j 0 e)) x))

@@ -1,13 +1,13 @@
 -- The records' nexts, their packed texts and their numbers, by the records as they are read. Assumes nothing.
 use mathlib.Core.Path.{_≡_}
 use Prim.Native.Nat.{ℕ, zero, suc, _+_, _*_, _≤_, _<_}
-use mathlib.Core.Bool.{Bool, cond, not, _||_, _&&_}
+use mathlib.Core.Bool.{cond}
 use mathlib.Core.List.{List, [], _∷_, _++_}
 use mathlib.Core.Option.{Option, none, some}
 use lib.Dec.{eqb, leb, ltb}
 use lib.ListN.{length, getD, take, drop}
 use lib.Seq.{sets}
-use Rattle.spec.specs.Bytes.{ascii, isBefore}
+use Rattle.spec.specs.Bytes.{ascii}
 use Rattle.spec.specs.Map.{Marked}
 use Rattle.spec.specs.Search.{first, keywordHere, byteHere, pieces}
 use Rattle.spec.specs.Declarations.{Declared, requotedDefault, declareAll, declareSection, textOr, packedRecord, packed, headNext, nextOf, defaultNumbers, numbersOf}
@@ -47,15 +47,6 @@ pub record SectionIn (t : List Marked) (s : Section) : Type 0 where
 -- the answer
 unfoldable pub parsedOf : List Declared → Parsed
 parsedOf ds = cond (ltb 512 (length ds)) TooManyNames (Count (length ds) (length (packed ds)))
-
--- the names that count: all, or those behind a name
-abbrev pub isBehind : Bool → List ℕ → List ℕ → Bool
-isBehind all name n = all || isBefore name n
-
--- record k counts and comes before record `best`, if there is one
-unfoldable pub betterIn : List ℕ → List ℕ → ℕ → ℕ → Bool → List ℕ → Bool
-betterIn xs rs k best all name =
-    isBehind all name (recordIn xs rs k .name) && (eqb best 0 || isBefore (recordIn xs rs k .name) (recordIn xs rs best .name))
 
 -- a default that is there if the number is not 0
 abbrev pub valueOf : ℕ → List ℕ → Option (List ℕ)

@@ -21,9 +21,10 @@ ghost use lib.Seq.{sets};
 ghost use Rattle.spec.specs.Bytes.{ascii};
 ghost use Rattle.spec.specs.Map.{marked};
 ghost use Rattle.spec.specs.Search.{first, keywordHere};
-ghost use Rattle.spec.specs.Declarations.{bodyFrom, packedRecord, packed, firstInOrder, textOr};
+ghost use Rattle.spec.specs.Declarations.{bodyFrom, packedRecord, packed, textOr};
 ghost use Rattle.declared_records.specs.Held.{recordIn, recordsFrom};
-ghost use Rattle.declarations.specs.Records.{recordsIn, isBehind, betterIn, nextNumber, Linked, valueOf, endsOf, declareEnd, sectionOf, SectionIn, recordsOfSection, parsedOf, otherNumbers, finalNumbers, Holds};
+ghost use Rattle.declarations.specs.Chain.{nameIn, Different, Chained, LastAhead, Inserted};
+ghost use Rattle.declarations.specs.Records.{recordsIn, Linked, valueOf, endsOf, declareEnd, sectionOf, SectionIn, recordsOfSection, parsedOf, otherNumbers, finalNumbers, Holds};
 
 // What reading the declarations answers.
 pub enum Parsed {
@@ -46,80 +47,58 @@ pub struct Ends {
     pub value: usize,
 }
 
-// Whether a name counts in the search for the next one: all do, or those behind `name`.
-fn is_behind(all: bool, name: &[u8], here: &[u8]) -> bool
-    ensures { λ r. ⌜ r ≡ isBehind all (now (name .entry)) (now (here .entry)) ⌝ }
-{
-    if all { true } else { comes_before(name, here) }
-}
-
-// Whether record k counts and comes before the best record so far, 0 for none.
-fn is_better(text: &[u8], records: &[u32], k: usize, best: usize, all: bool, name: &[u8]) -> bool
-    requires { ⌜ k ≤ 512 ⌝ }
-    requires { ⌜ best ≤ 512 ⌝ }
-    requires { ⌜ 4104 ≤ length (now records) ⌝ }
-    ensures { λ r. ⌜ r ≡ betterIn (now (text .entry)) (now (records .entry)) k best all (now (name .entry)) ⌝ }
-{
-    let here = name_of(text, records, k);
-    if is_behind(all, name, here) {
-        if best == 0 {
-            true
-        } else {
-            let there = name_of(text, records, best);
-            comes_before(here, there)
-        }
-    } else {
-        false
-    }
-}
-
-// The first in byte order of the names that count, 0 if there is none.
-fn first_name(text: &[u8], records: &[u32], count: usize, all: bool, name: &[u8]) -> usize
+// The last record in the chain that record k comes behind; record 0 is the head.
+fn find_place(text: &[u8], records: &[u32], count: usize, k: usize) -> usize
     requires { ⌜ count ≤ 512 ⌝ }
+    requires { ⌜ k ≤ count ⌝ }
     requires { ⌜ 4104 ≤ length (now records) ⌝ }
-    ensures { λ r. ⌜ r ≡ firstInOrder (isBehind all (now (name .entry))) 1 (recordsFrom (now (text .entry)) (now (records .entry)) 1 count) .number ⌝ }
-    ensures { λ r. ⌜ r ≤ count ⌝ }
-{
-    let mut best: usize = 0;
-    let mut k = count;
-    while 0 < k {
-        if is_better(text, records, k, best, all, name) {
-            best = k;
-            k -= 1;
-        } else {
-            k -= 1;
-        }
-    }
-    best
-}
-
-// The next of record k; record 0 is the head.
-fn next_of(text: &[u8], records: &[u32], count: usize, k: usize) -> usize
-    requires { ⌜ count ≤ 512 ⌝ }
-    requires { ⌜ k ≤ 512 ⌝ }
-    requires { ⌜ 4104 ≤ length (now records) ⌝ }
-    ensures { λ r. ⌜ r ≡ nextNumber (now (text .entry)) (now (records .entry)) count k ⌝ }
-    ensures { λ r. ⌜ r ≤ count ⌝ }
+    requires { ⌜ Chained (nameIn (now text) (now records)) (now records) count k ⌝ }
+    ensures { λ r. ⌜ LastAhead (nameIn (now (text .entry)) (now (records .entry))) (now (records .entry)) count k r ⌝ }
 {
     let name = name_of(text, records, k);
-    if k == 0 {
-        first_name(text, records, count, true, name)
-    } else {
-        first_name(text, records, count, false, name)
+    let mut p: usize = 0;
+    loop {
+        let next = number(records, p, 0);
+        if next == 0 {
+            return p;
+        }
+        let there = name_of(text, records, next);
+        if comes_before(there, name) {
+            p = next;
+        } else {
+            return p;
+        }
     }
 }
 
-// Each record gets its next.
+// Record k is put into the chain of the records behind it.
+fn insert(text: &[u8], records: &mut [u32], count: usize, k: usize)
+    requires { ⌜ count ≤ 512 ⌝ }
+    requires { ⌜ 1 ≤ k ⌝ }
+    requires { ⌜ k ≤ count ⌝ }
+    requires { ⌜ 4104 ≤ length (now records) ⌝ }
+    requires { ⌜ Different (nameIn (now text) (now records)) count ⌝ }
+    requires { ⌜ Chained (nameIn (now text) (now records)) (now records) count k ⌝ }
+    ensures { λ _. ⌜ Inserted (now (text .entry)) (now (records .entry)) count k (now (records .exit)) ⌝ }
+{
+    let p = find_place(text, records, count, k);
+    let next = records[8 * p];
+    records[8 * k] = next;
+    records[8 * p] = k as u32;
+}
+
+// Each record gets its next. The records are put in from the last to the first.
 fn link(text: &[u8], records: &mut [u32], count: usize)
     requires { ⌜ count ≤ 512 ⌝ }
     requires { ⌜ 4104 ≤ length (now records) ⌝ }
+    requires { ⌜ Different (nameIn (now text) (now records)) count ⌝ }
     ensures { λ _. ⌜ Linked (now (text .entry)) (now (records .entry)) count (now (records .exit)) ⌝ }
 {
-    let mut k: usize = 0;
-    while k <= count {
-        let next = next_of(text, records, count, k);
-        records[8 * k] = next as u32;
-        k += 1;
+    records[0] = 0;
+    let mut k = count;
+    while 0 < k {
+        insert(text, records, count, k);
+        k -= 1;
     }
 }
 

@@ -1,56 +1,55 @@
 use native.Mathlib.Omega.{arith}
 use borrow.Author.Needs.{needs}
 use mathlib.Core.Path.{_≡_, refl, _∙_}
-use Prim.Native.Nat.{_+_, _-_, _*_, _≤_}
-use lib.ListN.{length, length-set}
-use Rattle.declarations.proofs.NextLaws.{LinkedTo, linked-none, linked-one, linked-all}
+use Prim.Native.Nat.{_≤_}
+use lib.ListN.{length, set, length-set}
+use lib.Seq.{getD-set-same}
+use Rattle.declarations.proofs.LinkLaws.{LinkedBehind, linked-none, linked-head, linked-different, linked-chained, linked-one, linked-all}
 use Rattle.declarations.proofs.link.Statement.{statement}
 use Rattle.declarations.proofs.link.Tie as tie
 
 abbrev Inv-loop : tie.InvT-loop
-Inv-loop text records₀ count k₀ records k = (k ≤ count + 1) × (length records ≡ length records₀) × LinkedTo text records₀ count k records
+Inv-loop text records₀ count k₀ records k = (k ≤ count) × (length records ≡ length records₀) × LinkedBehind text records₀ count k records
 
 abbrev μ-loop : tie.MeasureT-loop
-μ-loop text records₀ count k₀ records k = count + 1 - k
-
-loop-holds : tie.Need-loop-holds Inv-loop μ-loop
-loop-holds c = (omega arith, refl, linked-none (c .before .before .args .text .now) (c .before .before .args .records .now) (c .before .before .args .count))
-
-next-of-requires : tie.Need-next-of-requires Inv-loop μ-loop
-next-of-requires c κs = search needs
-
-cast-records : tie.Need-cast-records Inv-loop μ-loop
-cast-records c = search needs
-
-mul-records : tie.Need-mul-records Inv-loop μ-loop
-mul-records c = search needs
-
-mul-records-2 : tie.Need-mul-records-2 Inv-loop μ-loop
-mul-records-2 c = search needs
+μ-loop text records₀ count k₀ records k = k
 
 slice-write-records : tie.Need-slice-write-records Inv-loop μ-loop
 slice-write-records c = search needs
 
-add-k : tie.Need-add-k Inv-loop μ-loop
-add-k c = search needs
+loop-holds : tie.Need-loop-holds Inv-loop μ-loop
+loop-holds c =
+    let a = c .before .before .args in
+    (omega arith, refl, linked-none (a .text .now) (set (a .records .now) 0 0) (a .count) (getD-set-same (a .records .now) 0 0 0 (omega arith)))
+
+insert-requires : tie.Need-insert-requires Inv-loop μ-loop
+insert-requires c κs =
+    let a = c .before .before .before .before .before .args in
+    let l = c .before .before .loop in
+    let h = linked-head (a .text .now) (a .records .now) (a .count) (l .k) 0 (l .records) (l .inv .2) in
+    (omega arith, (omega arith, (omega arith, (omega (arith, l .inv .1, length-set (a .records .now) 0 0), (linked-different (a .text .now) (a .records .now) (a .count) (l .k) (l .records) h (c .before .before .before .before .before .pre .1 .1), linked-chained (a .text .now) (a .records .now) (a .count) (l .k) (l .records) h)))))
+
+sub-k : tie.Need-sub-k Inv-loop μ-loop
+sub-k c = search needs
 
 loop-less : tie.Need-loop-less Inv-loop μ-loop
 loop-less c = search needs
 
 loop-again : tie.Need-loop-again Inv-loop μ-loop
 loop-again c =
-    let a = c .before .before .before .before .before .before .args in
-    let l = c .before .before .before .loop in
-    (omega arith, length-set (l .records) (8 * l .k) (c .next-of .result) ∙ l .inv .1, linked-one (a .text .now) (a .records .now) (a .count) (l .k) (l .records) (c .next-of .result) (omega arith) (omega arith) (l .inv .2) (c .next-of .ensures .0))
+    let a = c .before .before .before .before .before .before .before .before .args in
+    let l = c .before .before .before .before .before .loop in
+    (omega arith, c .before .before .insert .kept .1 .0 ∙ l .inv .1, linked-one (a .text .now) (set (a .records .now) 0 0) (a .count) (l .k) (l .records) (l .inv .2) _ (c .before .before .insert .ensures))
 
 same-length : tie.Need-same-length Inv-loop μ-loop
-same-length c = c .before .loop .inv .1
+same-length c = c .before .loop .inv .1 ∙ length-set (c .before .before .before .before .args .records .now) 0 0
 
 returns : tie.Need-returns Inv-loop μ-loop
 returns c =
     let a = c .before .before .before .before .args in
     let l = c .before .loop in
-    linked-all (a .text .now) (a .records .now) (a .count) (l .k) (l .records) (omega arith) (l .inv .2)
+    let z : l .k ≡ 0 = omega arith in
+    linked-all (a .text .now) (a .records .now) (a .count) (l .records) (c .before .before .before .before .pre .1 .1) (linked-head (a .text .now) (a .records .now) (a .count) 0 0 (l .records) (rw z at (l .inv .2)))
 
 pub link-spec : {M : Type 1} → statement M
 link-spec =
@@ -58,13 +57,10 @@ link-spec =
     (tie.spec
     Inv-loop
     μ-loop
-    loop-holds
-    next-of-requires
-    cast-records
-    mul-records
-    mul-records-2
     slice-write-records
-    add-k
+    loop-holds
+    insert-requires
+    sub-k
     loop-less
     loop-again
     same-length

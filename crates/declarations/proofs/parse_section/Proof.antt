@@ -5,6 +5,7 @@ use lib.ListN.{length}
 use Rattle.spec.specs.Map.{marked}
 use Rattle.spec.specs.Declarations.{packed}
 use Rattle.spec.proofs.MapLaws.{marked-length}
+use Rattle.declarations.proofs.NextLaws.{gathered-different}
 use Rattle.declarations.proofs.PackedLaws.{packed-small, count-length, kept-all, packed-all, parsed-over, parsed-count, over-holds}
 use borrow.Author.Needs.{needs}
 use Rattle.declarations.proofs.parse_section.Statement.{statement}
@@ -23,7 +24,11 @@ returns c =
     (parsed-over (a .text .now) t _ _ (c .before .before .before .gather .ensures .0) (c .if1 .taken), over-holds (a .text .now) t _ (a .records .now) (a .declared .now) _ (c .before .before .before .gather .ensures .0) (c .if1 .taken) (c .before .before .before .gather .ensures .1))
 
 link-requires : tie.Need-link-requires
-link-requires c κs = search needs
+link-requires c κs =
+    let a = c .before .before .before .before .before .before .before .before .before .before .args in
+    let g = c .before .before .before .before .gather in
+    let low : g .result ≤ 512 = omega arith in
+    (low, (search needs, gathered-different (a .text .now) _ (g .result) (marked (a .text .now) (a .map .now)) low (g .ensures .0)))
 
 slice-read-head : tie.Need-slice-read-head
 slice-read-head c = search needs
