@@ -7,8 +7,10 @@ mod texts;
 
 use std::process::ExitCode;
 
+use crate::texts::Letters::{First, Last};
 use crate::texts::{
-    exploding, function, long_names, realistic, repeated, repeated_names, FAMILIES,
+    exploding, falling, function, long_names, mixed, realistic, repeated, repeated_names, rising,
+    FAMILIES,
 };
 
 const KB: usize = 1_024;
@@ -79,7 +81,10 @@ fn functions(usual: f64, missed: &mut Vec<String>) {
     let texts = [
         ("realistic, 1 KB", function(KB)),
         ("realistic, 16 KB", function(16 * KB)),
-        ("512 long names in falling order, 16 KB", long_names(16 * KB)),
+        ("512 long names in falling order, 16 KB", long_names(16 * KB, Last, falling)),
+        ("512 long names in rising order, 16 KB", long_names(16 * KB, Last, rising)),
+        ("512 long names in mixed order, 16 KB", long_names(16 * KB, Last, mixed)),
+        ("512 that differ in their first two bytes, 16 KB", long_names(16 * KB, First, falling)),
         ("512 names, the last of them again and again, 16 KB", repeated_names(16 * KB)),
     ];
     for (name, text) in texts {

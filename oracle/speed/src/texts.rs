@@ -79,18 +79,46 @@ const NAMES: usize = 512;
 const FRONT: &str = "DECLARE ";
 const BACK: &str = "\nBEGIN END;";
 
-/// A function that declares so many long names, with a common front, in falling order.
-pub fn long_names(size: usize) -> String {
-    let front = repeated("n", (size - FRONT.len() - BACK.len()) / NAMES - "000 t;".len());
-    let names: String = (0..NAMES).rev().map(|number| format!("{front}{number:03} t;")).collect();
-    declaring(&names, size)
+/// Where in a name the two letters stand that tell it apart from the others.
+pub enum Letters {
+    First,
+    Last,
 }
 
-/// A function that declares so many names, and the last of them again and again.
+/// A function that declares so many long names in this order; the other bytes are the same in all.
+pub fn long_names(size: usize, letters: Letters, order: fn(usize) -> usize) -> String {
+    let other = repeated("n", (size - FRONT.len() - BACK.len()) / NAMES - "aa t;".len());
+    let [front, back] = match letters {
+        Letters::First => ["", &other],
+        Letters::Last => [other.as_str(), ""],
+    };
+    let names = (0..NAMES).map(|index| format!("{front}{}{back} t;", two_letters(order(index))));
+    declaring(&names.collect::<String>(), size)
+}
+
+/// The orders in which the names are declared.
+pub fn rising(index: usize) -> usize {
+    index
+}
+
+pub fn falling(index: usize) -> usize {
+    NAMES - 1 - index
+}
+
+pub fn mixed(index: usize) -> usize {
+    index * 221 % NAMES
+}
+
+fn two_letters(number: usize) -> String {
+    [number / 26, number % 26].map(|digit| char::from(b'a' + digit as u8)).iter().collect()
+}
+
+/// A function that declares so many names of two bytes, and the last of them again and again.
 pub fn repeated_names(size: usize) -> String {
-    let names: String = (0..NAMES).map(|number| format!("n{number:03} t;")).collect();
+    let one = |number| format!("{} t;", two_letters(number));
+    let names: String = (0..NAMES).map(one).collect();
     let rest = size - names.len();
-    declaring(&(names + &repeated("n511 t;", rest)), size)
+    declaring(&(names + &repeated(&one(NAMES - 1), rest)), size)
 }
 
 /// A function of this size whose declarations are as many of these as fit.
