@@ -27,14 +27,14 @@ module _ (xs rs : List ℕ) where
   names-same rs′ h = fun-ext (λ j. ap (λ (d : Declared). d .name) (h j))
 
 module _ (xs rs : List ℕ) (count : ℕ) where
-  -- the records behind record k are in the chain, and all records have their contents
-  pub record LinkedBehind (k : ℕ) (rs′ : List ℕ) : Type 0 where
+  -- the records numbered above k are in the chain, and all records have their contents
+  pub record LinkedAbove (k : ℕ) (rs′ : List ℕ) : Type 0 where
     pub chained : Chained (nameIn xs rs) rs′ count k
     pub same : (j : ℕ) → recordIn xs rs′ j ≡ recordIn xs rs j
     pub behind : drop 4104 rs′ ≡ drop 4104 rs
 
   -- no record is in the chain yet
-  pub linked-none : getD rs 0 0 ≡ 0 → LinkedBehind count rs
+  pub linked-none : getD rs 0 0 ≡ 0 → LinkedAbove count rs
   linked-none h =
       record {
         chained =
@@ -46,7 +46,7 @@ module _ (xs rs : List ℕ) (count : ℕ) where
         behind = refl;
       }
 
-  module _ (k : ℕ) (rs′ : List ℕ) (l : LinkedBehind k rs′) where
+  module _ (k : ℕ) (rs′ : List ℕ) (l : LinkedAbove k rs′) where
     -- what `insert` asks for
     pub linked-different : Different (nameIn xs rs) count → Different (nameIn xs rs′) count
     linked-different u = subst (λ n. Different n count) (sym (names-same xs rs rs′ (l .same))) u
@@ -55,7 +55,7 @@ module _ (xs rs : List ℕ) (count : ℕ) where
     linked-chained = subst (λ n. Chained n rs′ count k) (sym (names-same xs rs rs′ (l .same))) (l .chained)
 
     -- and what it gives
-    pub linked-one : (rs″ : List ℕ) → Inserted xs rs′ count k rs″ → LinkedBehind (k - 1) rs″
+    pub linked-one : (rs″ : List ℕ) → Inserted xs rs′ count k rs″ → LinkedAbove (k - 1) rs″
     linked-one rs″ i =
         record {
           chained = subst (λ n. Chained n rs″ count (k - 1)) (names-same xs rs rs′ (l .same)) (i .chained);
@@ -64,7 +64,7 @@ module _ (xs rs : List ℕ) (count : ℕ) where
         }
 
   -- all are in the chain
-  pub linked-all : (rs′ : List ℕ) → Different (nameIn xs rs) count → LinkedBehind 0 rs′ → Linked xs rs count rs′
+  pub linked-all : (rs′ : List ℕ) → Different (nameIn xs rs) count → LinkedAbove 0 rs′ → Linked xs rs count rs′
   linked-all rs′ u l =
       record {
         next = λ j a. next-is xs rs count u j (getD rs′ (8 * j) 0) (l .chained j record { within = a; later = λ z. omega (arith, z) });
@@ -73,7 +73,7 @@ module _ (xs rs : List ℕ) (count : ℕ) where
       }
 
 -- the head's next may be stored first
-pub linked-head : (xs rs : List ℕ) (count k v : ℕ) (rs′ : List ℕ) → LinkedBehind xs (set rs 0 v) count k rs′ → LinkedBehind xs rs count k rs′
+pub linked-head : (xs rs : List ℕ) (count k v : ℕ) (rs′ : List ℕ) → LinkedAbove xs (set rs 0 v) count k rs′ → LinkedAbove xs rs count k rs′
 linked-head xs rs count k v rs′ l =
     record {
       chained = subst (λ n. Chained n rs′ count k) (names-same xs rs (set rs 0 v) (store-same xs rs 0 v)) (l .chained);

@@ -19,21 +19,21 @@ nameIn xs rs k = recordIn xs rs k .name
 abbrev pub Different : (ℕ → List ℕ) → ℕ → Type 0
 Different n count = (i j : ℕ) → 1 ≤ i → i ≤ count → 1 ≤ j → j ≤ count → isSame (n i) (n j) ≡ true → i ≡ j
 
--- record i comes behind record j; every record comes behind the head
+-- by name record i comes behind record j; every record comes behind the head
 abbrev pub comesBehind : (ℕ → List ℕ) → ℕ → ℕ → Bool
 comesBehind n j i = eqb j 0 || isBefore (n j) (n i)
 
--- record j is the head or one of the records behind record k
+-- record j is the head or one of those numbered above k
 pub record InChain (count k j : ℕ) : Type 0 where
   pub within : j ≤ count
   pub later : (j ≡ 0 → ⊥) → k < j
 
--- m is the first in byte order of names of the records behind record k that come behind record j; 0 if there is none
+-- of the records numbered above k, m is the first by name of those that come behind record j; 0 if there is none
 pub record NextIs (n : ℕ → List ℕ) (count k j m : ℕ) : Type 0 where
   pub held : (m ≡ 0 → ⊥) → (k < m) × (m ≤ count) × (comesBehind n j m ≡ true)
   pub least : (i : ℕ) → k < i → i ≤ count → comesBehind n j i ≡ true → (m ≡ 0 → ⊥) × (isBefore (n i) (n m) ≡ false)
 
--- the records behind record k are in the chain
+-- the records numbered above k are in the chain
 abbrev pub Chained : (ℕ → List ℕ) → List ℕ → ℕ → ℕ → Type 0
 Chained n rs count k = (j : ℕ) → InChain count k j → NextIs n count k j (getD rs (8 * j) 0)
 

@@ -71,7 +71,7 @@ fn find_place(text: &[u8], records: &[u32], count: usize, k: usize) -> usize
     }
 }
 
-// Record k is put into the chain of the records behind it.
+// Record k is put into the chain of those numbered above it.
 fn insert(text: &[u8], records: &mut [u32], count: usize, k: usize)
     requires { ⌜ count ≤ 512 ⌝ }
     requires { ⌜ 1 ≤ k ⌝ }

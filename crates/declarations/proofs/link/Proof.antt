@@ -4,12 +4,12 @@ use mathlib.Core.Path.{_≡_, refl, _∙_}
 use Prim.Native.Nat.{_≤_}
 use lib.ListN.{length, set, length-set}
 use lib.Seq.{getD-set-same}
-use Rattle.declarations.proofs.LinkLaws.{LinkedBehind, linked-none, linked-head, linked-different, linked-chained, linked-one, linked-all}
+use Rattle.declarations.proofs.LinkLaws.{LinkedAbove, linked-none, linked-head, linked-different, linked-chained, linked-one, linked-all}
 use Rattle.declarations.proofs.link.Statement.{statement}
 use Rattle.declarations.proofs.link.Tie as tie
 
 abbrev Inv-loop : tie.InvT-loop
-Inv-loop text records₀ count k₀ records k = (k ≤ count) × (length records ≡ length records₀) × LinkedBehind text records₀ count k records
+Inv-loop text records₀ count k₀ records k = (k ≤ count) × (length records ≡ length records₀) × LinkedAbove text records₀ count k records
 
 abbrev μ-loop : tie.MeasureT-loop
 μ-loop text records₀ count k₀ records k = k
