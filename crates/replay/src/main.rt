@@ -2,7 +2,6 @@
 // with the stored ones. Prints how many answers were compared and how many differ.
 mod ask;
 mod list;
-mod marks;
 mod numbers;
 mod question;
 mod rows;

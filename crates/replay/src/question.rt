@@ -1,17 +1,17 @@
 // A line about the text: KIND NEEDLE FROM NUMBER FOUND PLACE LENGTH RESULT. The search is made, and its numbers and what it
 // wrote are compared with the line's.
 use crate::ask::ask_lent;
-use crate::marks::are_marked;
-use crate::marks::marked_starts;
 use crate::numbers::Numbers;
 use crate::numbers::four;
 use crate::numbers::same_numbers;
 use crate::numbers::wide;
 use classes::byte_at;
+use stored_list::are_marked;
 use stored_list::decode;
 use stored_list::field;
 use stored_list::is_marked;
 use stored_list::marked_bytes;
+use stored_list::marked_numbers;
 use stored_list::number;
 use stored_list::part;
 use stored_list::same;
@@ -150,7 +150,7 @@ pub fn agrees(kind: u8, line: &[u8], text: &[u8], m: usize, k: usize) -> bool {
     let w = decode(field(line, 1), &mut needle);
     let from = number(field(line, 2));
     let mut bytes = marked_bytes();
-    let mut starts = marked_starts();
+    let mut starts = marked_numbers();
     let got = ask_lent(
         kind,
         text,

@@ -1,8 +1,9 @@
-// What the programs share that replay stored lists: the lines of standard input, their fields and texts,
+// What the programs share that replay stored lists: the lines of standard input, their fields, texts and numbers,
 // marked buffers, and the report.
 mod fields;
 mod lines;
 mod marks;
+mod numbers;
 mod runs;
 mod tally;
 
@@ -16,9 +17,14 @@ pub use fields::same;
 pub use lines::Line;
 pub use lines::before_first;
 pub use lines::next_line;
+pub use marks::are_filled;
+pub use marks::are_marked;
 pub use marks::is_filled;
 pub use marks::is_marked;
 pub use marks::marked_bytes;
+pub use marks::marked_numbers;
+pub use numbers::put_numbers;
+pub use numbers::same_front;
 pub use runs::put_runs;
 pub use tally::note;
 pub use tally::print_rows;

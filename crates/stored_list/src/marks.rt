@@ -5,12 +5,22 @@ ghost use lib.ListN.{length};
 // A byte that no result holds: texts are ASCII, and maps hold 0 and 1.
 const MARK: u8 = 165;
 
+// A number that no list of starts and no record holds.
+const NUMBER_MARK: u32 = 2779096485;
+
 // Twice the longest text of a search, and a few bytes more. The array's length alone is known of it, so that no proof goes
 // through its elements.
 pub fn marked_bytes() -> [u8; 131080]
     ensures { λ r. ⌜ 131080 ≡ length r ⌝ }
 {
     [MARK; 131080]
+}
+
+// The same for numbers: as many as a split of the longest text needs, and a few more.
+pub fn marked_numbers() -> [u32; 65544]
+    ensures { λ r. ⌜ 65544 ≡ length r ⌝ }
+{
+    [NUMBER_MARK; 65544]
 }
 
 // Whether all bytes from `from` up to `end` are b.
@@ -27,7 +37,26 @@ pub fn is_filled(buffer: &[u8], from: usize, end: usize, b: u8) -> bool {
     true
 }
 
+// Whether all numbers from `from` up to `end` are n.
+pub fn are_filled(buffer: &[u32], from: usize, end: usize, n: u32) -> bool {
+    let mut i = from;
+    while i < end {
+        if i < buffer.len() {
+            if buffer[i] != n {
+                return false;
+            }
+        }
+        i += 1;
+    }
+    true
+}
+
 // Whether nothing was written from `from` up to `end`.
 pub fn is_marked(buffer: &[u8], from: usize, end: usize) -> bool {
     is_filled(buffer, from, end, MARK)
+}
+
+// The same for numbers.
+pub fn are_marked(buffer: &[u32], from: usize, end: usize) -> bool {
+    are_filled(buffer, from, end, NUMBER_MARK)
 }

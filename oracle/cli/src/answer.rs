@@ -3,12 +3,14 @@
 use reference::context::PlPgSqlContext;
 use reference::declarations::{self, Declaration};
 use reference::preprocessor::PlPgSqlPreprocessor;
+use reference::records::{first_declared, Records};
 use reference::scanner::{Region, Scanner};
 use reference::Error;
 
 use crate::hex;
 use crate::question::Question;
-use crate::stored_body::Answer;
+use crate::runs::Runs;
+use crate::stored_call::{Answer, Function};
 
 /// The field of a default that is not present.
 const ABSENT: &str = ".";
@@ -54,6 +56,18 @@ fn function(text: &str) -> Result<String, String> {
         }
         Err(error) => Ok(numbers(&refused(&error)?, 0)),
     }
+}
+
+/// The answer to a function, with its records, before it is put into a line.
+pub fn preprocessed(text: &str) -> Result<Function, String> {
+    let (answer, records) = match PlPgSqlPreprocessor::preprocess(text) {
+        Ok((output, context)) => {
+            let list = declarations::list(&context)?;
+            (Answer::accepted(&output), Records::new(&first_declared(text), &list))
+        }
+        Err(error) => (refused(&error)?, Records::default()),
+    };
+    Ok(Function { text: Runs::one(text.as_bytes()), answer, records })
 }
 
 fn fields(declaration: &Declaration) -> String {

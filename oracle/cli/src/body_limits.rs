@@ -4,30 +4,30 @@
 
 use std::io::{self, Write};
 
+use crate::lent::{enough, short};
 use crate::runs::{Run, Runs};
-use crate::stored_body::{Answer, Body, Lent, SIZE};
-
-/// The most bytes of the call's text.
-const LIMIT: usize = 16_384;
-
-/// Longer than a buffer must be.
-const LONGER: usize = 70_000;
+use crate::stored_call::{Answer, Body, BODY_LEAST, BODY_LONGER, LIMIT, SIZE};
 
 /// Two runs.
 type Two = [Run<'static>; 2];
 
 pub fn write(out: &mut impl Write) -> io::Result<()> {
-    let any: Vec<Lent> = enough().into_iter().chain(short()).collect();
-    calls(plain_bodies().chain(whole_bodies()).chain(results()).chain(orders()), &enough(), out)?;
-    calls(too_long(), &any, out)?;
-    calls(too_short(), &short(), out)?;
-    calls(not_ascii(), &[[SIZE; 3], [LONGER; 3]], out)
+    let (enough, short) = (enough(BODY_LEAST, BODY_LONGER), short(BODY_LEAST, BODY_LONGER));
+    calls(checked(), &enough, out)?;
+    calls(too_long(), &[&enough[..], &short].concat(), out)?;
+    calls(too_short(), &short, out)?;
+    calls(not_ascii(), &[BODY_LEAST, BODY_LONGER], out)
+}
+
+/// Bodies that pass the checks.
+pub fn checked() -> impl Iterator<Item = Body> {
+    plain_bodies().chain(whole_bodies()).chain(results()).chain(orders())
 }
 
 /// A call of each body with each of the lent lengths.
 fn calls(
     bodies: impl Iterator<Item = Body>,
-    lents: &[Lent],
+    lents: &[[usize; 3]],
     out: &mut impl Write,
 ) -> io::Result<()> {
     for body in bodies {
@@ -37,29 +37,6 @@ fn calls(
         }
     }
     Ok(())
-}
-
-/// Lent lengths that are enough.
-fn enough() -> Vec<Lent> {
-    let one_longer = (0..3).map(|index| with([SIZE; 3], index, LONGER));
-    one_longer.chain([[SIZE; 3], [LONGER; 3]]).collect()
-}
-
-/// Lent lengths where a buffer is too short.
-fn short() -> Vec<Lent> {
-    let mut list = vec![[SIZE - 1; 3], [0; 3]];
-    for index in 0..3 {
-        for length in [SIZE - 1, 0] {
-            list.push(with([SIZE; 3], index, length));
-            list.push(with([LONGER; 3], index, length));
-        }
-    }
-    list
-}
-
-fn with(mut lent: Lent, index: usize, length: usize) -> Lent {
-    lent[index] = length;
-    lent
 }
 
 fn accepted(text: Runs, output: Runs) -> Body {
@@ -129,7 +106,7 @@ fn long_clause() -> Body {
 
 /// A SELECT INTO of 4 bytes for each of its pairs, and more bytes behind it. Pass 4 makes a line of
 /// 35 bytes of each pair, the newline included, which the last one lacks.
-fn select_into(pairs: usize, behind: &[Run]) -> Runs {
+pub fn select_into(pairs: usize, behind: &[Run]) -> Runs {
     let columns = (pairs - 1, &b"c,"[..]);
     let variables = (pairs - 1, &b"v,"[..]);
     let front = [(1, &b"SELECT "[..]), columns, (1, b"c INTO "), variables, (1, b"v FROM t;")];
@@ -137,7 +114,7 @@ fn select_into(pairs: usize, behind: &[Run]) -> Runs {
 }
 
 /// What pass 4 makes of it, and more bytes behind.
-fn set_lines(pairs: usize, behind: &[Run]) -> Runs {
+pub fn set_lines(pairs: usize, behind: &[Run]) -> Runs {
     let line = &b"SET v = (SELECT c FROM t LIMIT 1);\n"[..];
     let front = [(pairs - 1, line), (1, &line[..line.len() - 1])];
     Runs::new(&[&front, behind].concat())
@@ -191,7 +168,7 @@ fn orders() -> impl Iterator<Item = Body> {
 }
 
 /// Refusal 1 comes before 3 and 2.
-fn too_long() -> impl Iterator<Item = Body> {
+pub fn too_long() -> impl Iterator<Item = Body> {
     [LIMIT + 1, LIMIT + 2, SIZE, SIZE + 1, 2 * SIZE].into_iter().flat_map(|length| {
         let texts = [
             Runs::letters(length),
@@ -203,7 +180,7 @@ fn too_long() -> impl Iterator<Item = Body> {
 }
 
 /// Refusal 3 comes before 2, and before any pass.
-fn too_short() -> impl Iterator<Item = Body> {
+pub fn too_short() -> impl Iterator<Item = Body> {
     let letters = [0, 1, LIMIT].map(Runs::letters);
     let high = [Runs::with_byte(1, 0, 200), Runs::with_byte(LIMIT, LIMIT - 1, 200)];
     let passes = [Runs::one(b"NEW.v := 1;"), select_into(1873, &[])];
@@ -211,7 +188,7 @@ fn too_short() -> impl Iterator<Item = Body> {
 }
 
 /// Refusal 2 names the first byte over 127, wherever it stands.
-fn not_ascii() -> impl Iterator<Item = Body> {
+pub fn not_ascii() -> impl Iterator<Item = Body> {
     let alone = (128..=255).map(|high| (Runs::with_byte(1, 0, high), 0));
     let places = [(2, 0), (2, 1), (LIMIT, 0), (LIMIT, LIMIT / 2), (LIMIT, LIMIT - 1)];
     let among =
@@ -236,7 +213,7 @@ mod tests {
     /// The reference has no limits, so it gives the same where none is met.
     #[test]
     fn the_reference_agrees_up_to_the_limits() {
-        for body in plain_bodies().chain(whole_bodies()).chain(results()).chain(orders()) {
+        for body in checked() {
             let (got, expected) = (reference(&body), body.answer);
             if expected.number != 6 {
                 assert_eq!((got.number, got.place), (expected.number, expected.place));

@@ -1,7 +1,7 @@
 //! Bodies whose answers the scope paper gives: its table of rows, and texts for its sentences about
 //! the passes.
 
-use crate::stored_body::{Answer, Body};
+use crate::stored_call::{Answer, Body};
 
 /// All rows as bodies with their answers.
 pub fn all() -> Vec<Body> {

@@ -4,14 +4,17 @@ mod answer;
 mod answers;
 mod body_limits;
 mod body_rows;
+mod function_limits;
+mod function_rows;
 mod generate;
+mod lent;
 mod question;
 #[cfg(test)]
 mod rows;
 mod runs;
 mod stored;
-mod stored_bodies;
-mod stored_body;
+mod stored_call;
+mod stored_calls;
 mod stored_limits;
 
 use std::io::{self, BufWriter, ErrorKind, Write};
@@ -20,7 +23,8 @@ use std::process::ExitCode;
 use texts::hex;
 
 const USAGE: &str = "commands: `answers` (questions on standard input), \
-                     `generate KIND COUNT SEED`, `stored COUNT SEED`, `stored-bodies COUNT SEED`";
+                     `generate KIND COUNT SEED`, `stored COUNT SEED`, \
+                     `stored-calls BODIES FUNCTIONS SEED`";
 
 /// Why a command stopped: each kind has its own exit status.
 pub enum Stop {
@@ -68,11 +72,13 @@ fn run(words: &[String], out: &mut impl Write) -> Result<(), Stop> {
         }
         ["generate", kind, count, seed] => generate::run(kind, count, seed, out),
         ["stored", count, seed] => stored::run(count, seed, out),
-        ["stored-bodies", count, seed] => stored_bodies::run(count, seed, out),
+        ["stored-calls", bodies, functions, seed] => {
+            stored_calls::run(bodies, functions, seed, out)
+        }
         ["answers", ..] => Err(Stop::Usage("`answers` takes no words behind it".into())),
-        ["generate", ..] => Err(Stop::Usage("`generate` takes three words behind it".into())),
-        [list @ ("stored" | "stored-bodies"), ..] => {
-            Err(Stop::Usage(format!("`{list}` takes two words behind it")))
+        ["stored", ..] => Err(Stop::Usage("`stored` takes two words behind it".into())),
+        [name @ ("generate" | "stored-calls"), ..] => {
+            Err(Stop::Usage(format!("`{name}` takes three words behind it")))
         }
         [other, ..] => Err(Stop::Usage(format!("unknown command `{other}`"))),
         [] => Err(Stop::Usage("no command given".into())),

@@ -4,9 +4,10 @@ use crate::answers;
 use crate::body_rows;
 use crate::generate;
 use crate::hex;
+use crate::runs;
 use crate::stored;
-use crate::stored_bodies;
-use crate::stored_body::{Answer, Body};
+use crate::stored_call::{Answer, Body};
+use crate::stored_calls;
 
 /// A question about one text, with the answer it must get.
 fn check(kind: &str, text: &str, more: &str, expected: &str) {
@@ -115,11 +116,14 @@ fn a_stored_text_has_a_line_of_every_search() {
 }
 
 #[test]
-fn a_stored_body_has_a_text_a_result_and_a_call() {
+fn a_stored_call_has_a_text_a_result_and_an_answer() {
     let mut out = Vec::new();
-    assert!(stored_bodies::run("200", "7", &mut out).is_ok());
+    assert!(stored_calls::run("200", "100", "7", &mut out).is_ok());
     let list = String::from_utf8(out).unwrap();
     let kinds: String = list.lines().filter_map(|line| line.chars().next()).collect();
     assert!(kinds.starts_with(&format!("s{}s", "telb".repeat(200))), "{kinds}");
+    let functions = kinds.split('s').nth(4).unwrap();
+    assert_eq!(functions.replace("dn", ""), "telf".repeat(100));
     assert!(list.lines().all(|line| line.len() < 65_536));
+    assert!(list.split_whitespace().all(|field| field.len() <= 2 * runs::LONGEST));
 }

@@ -4,6 +4,9 @@ use std::fmt;
 
 use crate::hex;
 
+/// The most bytes of a run's text.
+pub const LONGEST: usize = 4_096;
+
 /// Some bytes, with how often they stand.
 pub type Run<'a> = (usize, &'a [u8]);
 
@@ -14,8 +17,12 @@ impl Runs {
         Self(runs.iter().map(|(count, bytes)| (*count, bytes.to_vec())).collect())
     }
 
+    /// A text that stands once, in as many runs as it takes.
     pub fn one(text: &[u8]) -> Self {
-        Self::new(&[(1, text)])
+        match text {
+            b"" => Self::new(&[(1, text)]),
+            _ => Self(text.chunks(LONGEST).map(|chunk| (1, chunk.to_vec())).collect()),
+        }
     }
 
     /// Letters `a`.
@@ -26,6 +33,11 @@ impl Runs {
     /// Letters `a` with another byte at a place.
     pub fn with_byte(length: usize, place: usize, byte: u8) -> Self {
         Self::new(&[(place, b"a"), (1, &[byte]), (length - place - 1, b"a")])
+    }
+
+    /// The same behind other runs.
+    pub fn after(self, front: &[Run]) -> Self {
+        Self(Self::new(front).0.into_iter().chain(self.0).collect())
     }
 
     pub fn len(&self) -> usize {

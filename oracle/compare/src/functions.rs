@@ -3,11 +3,11 @@
 use library::Answer;
 use reference::declarations::{self, Declaration};
 use reference::preprocessor::PlPgSqlPreprocessor;
+use reference::records::{chain_leads_through, first_declared, Records};
 
 use crate::bodies::numbered;
 use crate::calls::{BUFFER_SIZE, RECORD_NUMBERS};
 use crate::lent::Lent;
-use crate::records::{chain_leads_through, first_declared, Records};
 use crate::report::Row;
 use crate::subject::{Outcome, Subject};
 

@@ -13,7 +13,6 @@ mod long;
 mod options;
 mod parts;
 mod questions;
-mod records;
 mod report;
 mod results;
 mod searches;

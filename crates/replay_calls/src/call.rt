@@ -1,4 +1,5 @@
-// The body call, with the first bytes of three buffers lent, and the numbers of its answer.
+// The two rewriting calls, with the first bytes and numbers of the buffers lent, and the numbers of their answers.
+use preprocessor::preprocess;
 use preprocessor::transform_body;
 use spec::Refusal;
 use spec::Rewritten;
@@ -42,8 +43,8 @@ fn of_rewritten(r: Rewritten) -> CallNumbers {
     }
 }
 
-// The call with the first m, k and j bytes of the buffers.
-pub fn call_lent(
+// The body call with the first m, k and j bytes of the buffers.
+pub fn call_body(
     text: &[u8],
     output: &mut [u8],
     m: usize,
@@ -62,4 +63,43 @@ pub fn call_lent(
         return four(NO_CALL, 0, 0, 0);
     }
     of_rewritten(transform_body(text, &mut output[..m], &mut work[..k], &mut spare[..j]))
+}
+
+// The function call with the first m, k, j and d bytes and r numbers of the buffers.
+pub fn call_function(
+    text: &[u8],
+    output: &mut [u8],
+    m: usize,
+    work: &mut [u8],
+    k: usize,
+    spare: &mut [u8],
+    j: usize,
+    declared: &mut [u8],
+    d: usize,
+    records: &mut [u32],
+    r: usize,
+) -> CallNumbers {
+    if output.len() < m {
+        return four(NO_CALL, 0, 0, 0);
+    }
+    if work.len() < k {
+        return four(NO_CALL, 0, 0, 0);
+    }
+    if spare.len() < j {
+        return four(NO_CALL, 0, 0, 0);
+    }
+    if declared.len() < d {
+        return four(NO_CALL, 0, 0, 0);
+    }
+    if records.len() < r {
+        return four(NO_CALL, 0, 0, 0);
+    }
+    of_rewritten(preprocess(
+        text,
+        &mut output[..m],
+        &mut work[..k],
+        &mut spare[..j],
+        &mut declared[..d],
+        &mut records[..r],
+    ))
 }

@@ -1,13 +1,13 @@
 use borrow.Author.Needs.{needs}
 use Prim.Native.Nat.{_-_}
-use Rattle.replay.proofs.marks.are_marked.Statement.{statement}
-use Rattle.replay.proofs.marks.are_marked.Tie as tie
+use Rattle.stored_list.proofs.marks.are_filled.Statement.{statement}
+use Rattle.stored_list.proofs.marks.are_filled.Tie as tie
 
 abbrev Inv-loop : tie.InvT-loop
-Inv-loop buffer from end i₀ i = Unit {0}
+Inv-loop buffer from end n i₀ i = Unit {0}
 
 abbrev μ-loop : tie.MeasureT-loop
-μ-loop buffer from end i₀ i = end - i
+μ-loop buffer from end n i₀ i = end - i
 
 loop-holds : tie.Need-loop-holds Inv-loop μ-loop
 loop-holds c = search needs
@@ -33,8 +33,8 @@ loop-again c = search needs
 returns-2 : tie.Need-returns-2 Inv-loop μ-loop
 returns-2 c = search needs
 
-pub are-marked-spec : {M : Type 1} → statement M
-are-marked-spec =
+pub are-filled-spec : {M : Type 1} → statement M
+are-filled-spec =
     tie.close
     (tie.spec
     Inv-loop

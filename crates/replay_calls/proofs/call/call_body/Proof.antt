@@ -2,8 +2,8 @@ use native.Mathlib.Omega.{arith}
 use mathlib.Core.Path.{sym}
 use lib.Seq.{length-take-le}
 use borrow.Author.Needs.{needs}
-use Rattle.replay_bodies.proofs.call.call_lent.Statement.{statement}
-use Rattle.replay_bodies.proofs.call.call_lent.Tie as tie
+use Rattle.replay_calls.proofs.call.call_body.Statement.{statement}
+use Rattle.replay_calls.proofs.call.call_body.Tie as tie
 
 four-requires : tie.Need-four-requires
 four-requires c κs = search needs
@@ -59,8 +59,8 @@ same-length-3 c = search needs
 returns-4 : tie.Need-returns-4
 returns-4 c = search needs
 
-pub call-lent-spec : {M : Type 1} → statement M
-call-lent-spec =
+pub call-body-spec : {M : Type 1} → statement M
+call-body-spec =
     tie.close
     (tie.spec
     four-requires

@@ -1,14 +1,14 @@
-//! The records and the packed text that the scope paper wants for the reference's declarations.
+//! The records and the packed text that the scope paper wants for declarations.
 
-use reference::declarations::{self, Declaration};
-use reference::preprocessor::PlPgSqlPreprocessor;
-use reference::scanner::Scanner;
+use crate::declarations::{self, Declaration};
+use crate::preprocessor::PlPgSqlPreprocessor;
+use crate::scanner::Scanner;
 
 /// The numbers of one record.
 const RECORD: usize = 8;
 
 /// What the declaration text and the record numbers hold in front of their zeros.
-#[derive(Default)]
+#[derive(Debug, Default, PartialEq)]
 pub struct Records {
     pub text: Vec<u8>,
     pub numbers: Vec<u32>,
@@ -24,6 +24,11 @@ impl Records {
         }
         records.chain(order);
         records
+    }
+
+    /// How many records there are behind the head.
+    pub fn count(&self) -> usize {
+        (self.numbers.len() / RECORD).saturating_sub(1)
     }
 
     fn add(&mut self, declaration: &Declaration) {

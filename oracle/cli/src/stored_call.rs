@@ -1,0 +1,134 @@
+//! The two rewriting calls in the list of the program `replay_calls`: a text, its answer, and what
+//! is lent.
+
+use std::io::{self, Write};
+
+use reference::declarations::Declaration;
+use reference::records::Records;
+
+use crate::runs::Runs;
+
+/// The most bytes of a call's text.
+pub const LIMIT: usize = 16_384;
+
+/// The least length of each lent byte buffer, and the most bytes of a pass's result.
+pub const SIZE: usize = 65_536;
+
+/// What a body call is lent at least: output and the two work buffers.
+pub const BODY_LEAST: [usize; 3] = [SIZE; 3];
+
+/// What a function call is lent at least: the declaration text's bytes and the record numbers too.
+pub const FUNCTION_LEAST: [usize; 5] = [SIZE, SIZE, SIZE, SIZE, 4_104];
+
+/// Longer than the buffers must be.
+pub const BODY_LONGER: [usize; 3] = [70_000; 3];
+pub const FUNCTION_LONGER: [usize; 5] = [70_000, 70_000, 70_000, 70_000, 5_000];
+
+pub struct Body {
+    pub text: Runs,
+    pub answer: Answer,
+}
+
+/// The number and the place, and what stands in front of the output.
+pub struct Answer {
+    pub number: usize,
+    pub place: usize,
+    pub output: Runs,
+}
+
+impl Answer {
+    pub fn accepted(output: &str) -> Self {
+        Self { number: 0, place: 0, output: Runs::one(output.as_bytes()) }
+    }
+
+    pub fn qualified(qualifier: &str, name: &str) -> Self {
+        let output = Runs::one(format!("{qualifier}.{name}").as_bytes());
+        Self { number: 4, place: qualifier.len(), output }
+    }
+
+    pub fn clause(clause: &str) -> Self {
+        Self { number: 5, place: 0, output: Runs::one(clause.as_bytes()) }
+    }
+
+    /// A refusal that leaves nothing in the output.
+    pub fn refused(number: usize, place: usize) -> Self {
+        Self { number, place, output: Runs::one(b"") }
+    }
+
+    /// The lines of a call with this answer: what is lent, and the four numbers.
+    fn write(
+        &self,
+        kind: char,
+        lent: &[usize],
+        count: usize,
+        out: &mut impl Write,
+    ) -> io::Result<()> {
+        let Self { number, place, output } = self;
+        writeln!(out, "l {}", spaced(lent))?;
+        writeln!(out, "{kind} {number} {place} {} {count}", output.len())
+    }
+}
+
+impl Body {
+    pub fn new(text: &str, answer: Answer) -> Self {
+        Self { text: Runs::one(text.as_bytes()), answer }
+    }
+
+    /// The lines of the text and the output that it must give.
+    pub fn write_text(&self, out: &mut impl Write) -> io::Result<()> {
+        writeln!(out, "t {}", self.text)?;
+        writeln!(out, "e {}", self.answer.output)
+    }
+
+    /// The lines of a call on the text written last.
+    pub fn write_call(&self, lent: [usize; 3], out: &mut impl Write) -> io::Result<()> {
+        self.answer.write('b', &lent, 0, out)
+    }
+}
+
+/// A function, with the records that it must give; after a refusal there are none.
+pub struct Function {
+    pub text: Runs,
+    pub answer: Answer,
+    pub records: Records,
+}
+
+impl Function {
+    /// A function that declares these, in order of first declaration, or is refused.
+    pub fn new(text: Runs, answer: Answer, declared: &[Declaration]) -> Self {
+        let order: Vec<String> = declared.iter().map(|one| one.name.clone()).collect();
+        let records = match answer.number {
+            0 => Records::new(&order, declared),
+            _ => Records::default(),
+        };
+        Self { text, answer, records }
+    }
+
+    /// The lines of the text and of what it must give. Without records there are zeros alone.
+    pub fn write_text(&self, out: &mut impl Write) -> io::Result<()> {
+        writeln!(out, "t {}", self.text)?;
+        writeln!(out, "e {}", self.answer.output)?;
+        if self.records.count() > 0 {
+            writeln!(out, "d {}", Runs::one(&self.records.text))?;
+            writeln!(out, "n {}", spaced(&self.records.numbers))?;
+        }
+        Ok(())
+    }
+
+    /// The lines of a call on the text written last.
+    pub fn write_call(&self, lent: [usize; 5], out: &mut impl Write) -> io::Result<()> {
+        self.answer.write('f', &lent, self.records.count(), out)
+    }
+}
+
+/// A body is a function that declares nothing, if it holds no BEGIN with text before it.
+impl From<Body> for Function {
+    fn from(Body { text, answer }: Body) -> Self {
+        Self::new(text, answer, &[])
+    }
+}
+
+/// Numbers with single spaces between them.
+fn spaced(numbers: &[impl ToString]) -> String {
+    numbers.iter().map(ToString::to_string).collect::<Vec<_>>().join(" ")
+}

@@ -1,0 +1,75 @@
+//! The command `stored-calls`: the list that the program `replay_calls` runs. For each rewriting
+//! call random texts with the reference's answers, texts for the scope paper's sentences, and the
+//! limits.
+
+use std::io::Write;
+
+use texts::random::Random;
+
+use crate::answer::{preprocessed, rewritten};
+use crate::body_limits;
+use crate::body_rows;
+use crate::function_limits;
+use crate::function_rows;
+use crate::generate::number;
+use crate::stored_call::{Body, Function, BODY_LEAST, FUNCTION_LEAST, SIZE};
+use crate::Stop;
+
+/// The rows of the report: three for the body call, then three for the function call.
+const RANDOM_BODIES: usize = 0;
+const BODY_ROWS: usize = 1;
+const BODY_LIMITS: usize = 2;
+const RANDOM_FUNCTIONS: usize = 3;
+const FUNCTION_ROWS: usize = 4;
+const FUNCTION_LIMITS: usize = 5;
+
+pub fn run(bodies: &str, functions: &str, seed: &str, out: &mut impl Write) -> Result<(), Stop> {
+    let bodies = number(bodies, "BODIES")?;
+    let functions = number(functions, "FUNCTIONS")?;
+    let seed = number(seed, "SEED")?;
+    write_bodies(bodies, seed, out)?;
+    write_functions(functions, seed, out)
+}
+
+fn write_bodies(count: u64, seed: u64, out: &mut impl Write) -> Result<(), Stop> {
+    let (mut random, mut lengths) = (Random::new(seed), Random::new(seed));
+    writeln!(out, "s {RANDOM_BODIES}")?;
+    for _ in 0..count {
+        let text = texts::body(&mut random);
+        let body = Body::new(&text, rewritten(&text).map_err(Stop::Question)?);
+        body.write_text(out)?;
+        body.write_call(any_lent(BODY_LEAST, &mut lengths), out)?;
+    }
+    writeln!(out, "s {BODY_ROWS}")?;
+    for body in body_rows::all() {
+        body.write_text(out)?;
+        body.write_call(BODY_LEAST, out)?;
+        body.write_call([SIZE + 1, 70_000, SIZE + 9], out)?;
+    }
+    writeln!(out, "s {BODY_LIMITS}")?;
+    Ok(body_limits::write(out)?)
+}
+
+fn write_functions(count: u64, seed: u64, out: &mut impl Write) -> Result<(), Stop> {
+    let (mut random, mut lengths) = (Random::new(seed), Random::new(seed));
+    writeln!(out, "s {RANDOM_FUNCTIONS}")?;
+    for _ in 0..count {
+        let text = texts::function(&mut random);
+        let function = preprocessed(&text).map_err(Stop::Question)?;
+        function.write_text(out)?;
+        function.write_call(any_lent(FUNCTION_LEAST, &mut lengths), out)?;
+    }
+    writeln!(out, "s {FUNCTION_ROWS}")?;
+    for function in body_rows::all().into_iter().map(Function::from).chain(function_rows::all()) {
+        function.write_text(out)?;
+        function.write_call(FUNCTION_LEAST, out)?;
+        function.write_call([SIZE + 1, 70_000, SIZE + 9, SIZE + 3, 4_105], out)?;
+    }
+    writeln!(out, "s {FUNCTION_LIMITS}")?;
+    Ok(function_limits::write(out)?)
+}
+
+/// Lengths that are enough: exact ones, or a few more.
+fn any_lent<const N: usize>(least: [usize; N], random: &mut Random) -> [usize; N] {
+    least.map(|length| length + random.below(4))
+}
