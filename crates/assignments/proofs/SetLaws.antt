@@ -21,7 +21,7 @@ use Rattle.spec.proofs.Choice.{and-right}
 use Rattle.spec.proofs.FirstLaws.{first-least}
 use Rattle.spec.proofs.WalkLaws.{starts-exact}
 use Rattle.output.proofs.StoreLaws.{sets-append}
-use Rattle.scanner.proofs.KeywordLaws.{prefix-by-len}
+use Rattle.spec.proofs.WalkLaws.{prefix-by-len}
 use Rattle.targets.proofs.RunLaws.{longBefore, back-part, back-rest}
 use Rattle.assignments.specs.Written.{setText, Writes}
 

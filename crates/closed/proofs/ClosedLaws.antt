@@ -263,8 +263,8 @@ module _ (xs ms : List ℕ) (i p : ℕ) where
       let r = raises-front p (mark (getD ms i 0) (getD xs i 0)) (drop (i + 1) (marked xs ms)) in
       rw (mark-byte, d, ← marked-step xs ms i h) at r
 
-  pub raises-loose : i < length xs → loose ≡ true → raisesFollowed p (drop i (marked xs ms)) ≡ false
-  raises-loose h e = raises-at h ∙ rw e refl
+  pub raises-unfollowed : i < length xs → loose ≡ true → raisesFollowed p (drop i (marked xs ms)) ≡ false
+  raises-unfollowed h e = raises-at h ∙ rw e refl
 
   pub raises-step : i < length xs → loose ≡ false → raisesFollowed p (drop i (marked xs ms)) ≡ raisesFollowed (getD xs i 0) (drop (i + 1) (marked xs ms))
   raises-step h e = raises-at h ∙ rw e refl

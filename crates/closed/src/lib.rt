@@ -154,7 +154,7 @@ fn is_followed(text: &[u8], i: usize) -> bool
 }
 
 // Whether a RAISE stands at i that has something else behind it.
-fn is_loose_raise(text: &[u8], map: &[u8], before: u8, i: usize) -> bool
+fn is_unfollowed_raise(text: &[u8], map: &[u8], before: u8, i: usize) -> bool
     requires { ⌜ i < length (now text) ⌝ }
     ensures { λ r. ⌜ r ≡ (wordHere isIdent (ascii "RAISE") before (drop i (marked (now (text .entry)) (now (map .entry)))) && not (isFollowed (drop (i + 5) (marked (now (text .entry)) (now (map .entry)))))) ⌝ }
 {
@@ -172,7 +172,7 @@ fn has_followed_raises(text: &[u8], map: &[u8]) -> bool
     let mut before: u8 = 0;
     let mut i: usize = 0;
     while i < text.len() {
-        if is_loose_raise(text, map, before, i) {
+        if is_unfollowed_raise(text, map, before, i) {
             return false;
         }
         before = text[i];

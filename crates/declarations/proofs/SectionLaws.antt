@@ -54,7 +54,7 @@ section-in t f g p q =
     record {
       ordered = ordered f g;
       within = within g (λ b e. first-within (keywordHere (ascii "BEGIN")) t 0 b (sym q ∙ e) .1) f;
-      found = ap recordsOfSection (cut t f g ∙ rw (p, q) refl);
+      found = cut t f g ∙ rw (p, q) refl;
     }
   where
     ordered : (f g : Found) → sectionOf f g .from ≤ sectionOf f g .to

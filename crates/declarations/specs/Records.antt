@@ -42,7 +42,9 @@ sectionOf Nothing f = record { from = 0; to = 0 }
 pub record SectionIn (t : List Marked) (s : Section) : Type 0 where
   pub ordered : s .from ≤ s .to
   pub within : s .to ≤ length t
-  pub found : recordsOfSection (between (s .from) (s .to) t) ≡ recordsIn t
+  pub found :
+      between (s .from) (s .to) t
+      ≡ declareSection (first (keywordHere (ascii "DECLARE")) 0 t) (first (keywordHere (ascii "BEGIN")) 0 t) t
 
 -- the answer
 unfoldable pub parsedOf : List Declared → Parsed

@@ -16,7 +16,7 @@ use Rattle.spec.proofs.Choice.{and-right}
 use Rattle.spec.proofs.FirstLaws.{first-least}
 use Rattle.spec.proofs.LengthLaws.{starts-any-case, word-in}
 use Rattle.spec.proofs.MapLaws.{marked-length}
-use Rattle.spec.proofs.WalkLaws.{prefixBy, starts-exact-at, passesAt, first-end, first-hit, first-miss}
+use Rattle.spec.proofs.WalkLaws.{prefixBy, starts-length, starts-exact-at, passesAt, first-end, first-hit, first-miss}
 use Rattle.declared_parts.specs.Parts.{walrusHere, cutOf, cutIn}
 
 -- exact comparison
@@ -40,24 +40,17 @@ module _ (xs : List ℕ) (i : ℕ) (ms : List ℕ) where
     pub walrus-miss : isPrefix (ascii ":=") (drop i xs) ≡ false → first walrusHere i (marked xs ms) ≡ first walrusHere (i + 1) (marked xs ms)
     walrus-miss e = first-miss walrusHere (marked xs ms) i (rw marked-length h) (here ∙ e)
 
--- a text that starts with a word is as long
-starts-long : (w : List ℕ) (t : List Marked) → startsIgnoringCase w t ≡ true → length w ≤ length t
-unfolding startsIgnoringCase
-starts-long [] t h = zero-le
-starts-long (a ∷ w) [] h = absurd (false≢true h)
-starts-long (a ∷ w) (x ∷ t) h = suc-le-suc (starts-long w t (and-right (eqb (upper (byte x)) (upper a)) (startsIgnoringCase w t) h))
-
 module _ (t : List Marked) (i : ℕ) where
   walrus-fits : first walrusHere 0 t ≡ At i → i + 2 ≤ length t
   walrus-fits e =
       let l = first-least walrusHere t 0 i e in
-      omega (arith, l .inside, starts-long (ascii ":=") (drop i t) (starts-any-case (ascii ":=") (drop i t) (l .passes)), length-drop i t)
+      omega (arith, l .inside, starts-length (ascii ":=") (drop i t) (starts-any-case (ascii ":=") (drop i t) (l .passes)), length-drop i t)
 
   default-fits : first (keywordHere (ascii "DEFAULT")) 0 t ≡ At i → i + 7 ≤ length t
   unfolding keywordHere
   default-fits e =
       let l = first-least (keywordHere (ascii "DEFAULT")) t 0 i e in
-      omega (arith, l .inside, starts-long (ascii "DEFAULT") (drop i t) (word-in _ (ascii "DEFAULT") (frontByte (reverse (take i t))) (drop i t) (l .passes)), length-drop i t)
+      omega (arith, l .inside, starts-length (ascii "DEFAULT") (drop i t) (word-in _ (ascii "DEFAULT") (frontByte (reverse (take i t))) (drop i t) (l .passes)), length-drop i t)
 
 -- the two parts stand within the text
 pub record Fits (f g : Found) (n : ℕ) : Type 0 where

@@ -212,13 +212,17 @@ pub fn put_spaced(out: &mut [u8], n: usize, text: &[u8]) -> usize
     o
 }
 
-// Whether x and y are the same bytes. They are compared from the end: names that share a front differ there at once.
+// Whether x and y are the same bytes. They are compared from both ends: names that share a front or an end differ at once.
 pub fn same_bytes(x: &[u8], y: &[u8]) -> bool
     ensures { λ r. ⌜ r ≡ isSame (now (x .entry)) (now (y .entry)) ⌝ }
 {
     if x.len() == y.len() {
-        let mut i = x.len();
+        let n = x.len();
+        let mut i = n;
         while 0 < i {
+            if x[n - i] != y[n - i] {
+                return false;
+            }
             if x[i - 1] == y[i - 1] {
                 i -= 1;
             } else {

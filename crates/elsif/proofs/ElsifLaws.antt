@@ -16,12 +16,11 @@ use Rattle.spec.proofs.FirstLaws.{first-least}
 use Rattle.spec.proofs.LengthLaws.{word-in}
 use Rattle.spec.proofs.MapLaws.{map-append, marked-length}
 use Rattle.spec.proofs.PartLaws.{bytes-part}
-use Rattle.spec.proofs.WalkLaws.{starts-case, drop-step, back-step, bytes-drop, passesAt}
+use Rattle.spec.proofs.WalkLaws.{starts-length, drop-step, back-step, bytes-drop, passesAt}
 use Rattle.spec.specs.Bytes.{ascii, upper, isWord}
 use Rattle.spec.specs.Elsif.{elsifFrom, elsif}
 use Rattle.spec.specs.Map.{Marked, live, byte, marked, bytes, lives, frontByte}
 use Rattle.spec.specs.Search.{Test, first, startsIgnoringCase, wordHere, keywordHere}
-use Rattle.scanner.proofs.KeywordLaws.{prefix-by-len}
 use Rattle.spec.specs.declared.Found.the-variants.{At, Nothing}
 use Rattle.output.proofs.StoreLaws.{sets-more}
 
@@ -31,11 +30,6 @@ keyword = keywordHere (ascii "ELSIF")
 -- what stands from i on, rewritten
 abbrev pub elsifAt : List Marked → ℕ → List Marked
 elsifAt t i = elsifFrom 0 (frontByte (reverse (take i t))) (drop i t)
-
--- a text that starts with a word is at least as long
-starts-length : (w : List ℕ) (t : List Marked) → startsIgnoringCase w t ≡ true → length w ≤ length t
-unfolding bytes
-starts-length w t h = omega (arith, prefix-by-len upper w (bytes t) (sym (starts-case w t) ∙ h), length-map t byte)
 
 -- one step of the walk
 from-copy : (p : ℕ) (u v : List Marked) (x : Marked) → u ≡ x ∷ v → wordHere isWord (ascii "ELSIF") p u ≡ false

@@ -66,6 +66,7 @@ impl<'a> Scanner<'a> {
     {
         searches::next_word_in_code(self.text, map, from, answer)
     }
+
     // Whether a live EXCEPTION has WHEN as its next live word.
     pub fn has_exception_handler(self, map: &mut [u8]) -> Search
         ensures { λ r. ⌜ r ≡ handlerAnswer (now (self .entry .text)) (now (map .entry)) ⌝ }

@@ -1,4 +1,4 @@
--- The five passes over two texts joined, the first sealed: the joined text is accepted exactly if both are, and the result is
+-- The five passes over two texts joined, the first continuable: the joined text is accepted exactly if both are, and the result is
 -- the two results joined. First without the size limits, then with them. Assumes nothing.
 use mathlib.Core.Path.{_≡_, refl, sym, ap, _∙_}
 use mathlib.Core.Bool.{true}
@@ -20,7 +20,7 @@ use Rattle.spec.specs.Body.{bufferSize, Rewriting, accepted, qualifiedTarget, u
 use Rattle.spec.specs.Closed.{endsLive}
 use Rattle.joining.specs.Safe.{raisesSafe}
 use Rattle.joining.specs.Unlimited.{thenPass, unlimited}
-use Rattle.joining.specs.Sealed.{secondText, fourthText, Sealed}
+use Rattle.joining.specs.Continuable.{secondText, fourthText, Continuable}
 use Rattle.joining.proofs.SpanJoin.{marks-join}
 use Rattle.joining.proofs.PassJoin.{requoted-join, elsif-join, assignments-join, select-join, quotes-join}
 use Rattle.joining.proofs.RaiseJoin.{raise-join}
@@ -104,7 +104,7 @@ run-gives xs zs r = rw (r .third) (r .fifth)
 pub unlimited-exactly : (xs zs : List ℕ) → (unlimited xs ≡ accepted zs) ↔ Run xs zs
 unlimited-exactly xs zs = (run-only xs zs, run-gives xs zs)
 
--- ---- two texts, the first sealed
+-- ---- two texts, the first continuable
 
 -- passes 3 and 5 accept both texts, and zs and middle are their two texts joined
 pub record Runs (a b zs middle : List ℕ) : Type 0 where
@@ -115,7 +115,7 @@ pub record Runs (a b zs middle : List ℕ) : Type 0 where
   pub whole : zs ≡ front ++ back
   pub between : middle ≡ first .middle ++ second .middle
 
-module _ (a : List ℕ) (s : Sealed a) (b : List ℕ) where
+module _ (a : List ℕ) (s : Continuable a) (b : List ℕ) where
   run-split : (zs : List ℕ) (r : Run (a ++ b) zs) → Runs a b zs (r .middle)
   unfolding assignPass raisePass
   run-split zs r =
@@ -235,7 +235,7 @@ fit-front a b h = omega (arith, length-append a b)
 fit-back : (a b : List ℕ) → length (a ++ b) ≤ bufferSize → length b ≤ bufferSize
 fit-back a b h = omega (arith, length-append a b)
 
-module _ (a : List ℕ) (s : Sealed a) (b : List ℕ) where
+module _ (a : List ℕ) (s : Continuable a) (b : List ℕ) where
   -- a joined text that is accepted: both are accepted, and the result is the two results joined
   pub rewriting-split : (zs : List ℕ) → rewriting (a ++ b) ≡ accepted zs → Both (rewriting a) (rewriting b) zs
   rewriting-split zs h =

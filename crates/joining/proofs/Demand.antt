@@ -1,4 +1,4 @@
--- Demand 3 about the whole call: first for a body whose texts between the passes are sealed, then for a closed one.
+-- Demand 3 about the whole call: first for a body whose texts between the passes are continuable, then for a closed one.
 -- Assumes nothing.
 use mathlib.Core.Path.{_≡_, refl, sym, ap, _∙_}
 use mathlib.Core.Bool.{Bool, true, false, _&&_}
@@ -20,10 +20,10 @@ use Rattle.spec.specs.declared.Check.the-variants.{Passed, Refused}
 use Rattle.spec.specs.declared.Refusal.{Refusal}
 use Rattle.spec.specs.declared.Refusal.the-variants.{TextTooLong, BufferTooShort, NotAscii}
 use Rattle.spec.proofs.SearchLaws.{NoHigh, check-only, check-always}
-use Rattle.joining.specs.Sealed.{Sealed}
+use Rattle.joining.specs.Continuable.{Continuable}
 use Rattle.joining.specs.Call.{Lent, numberOf, rewritten}
 use Rattle.spec.specs.Closed.{isClosed}
-use Rattle.joining.proofs.Kept.{sealed}
+use Rattle.joining.proofs.Kept.{continuable}
 use Rattle.joining.proofs.Chain.{Both, rewriting-split, rewriting-both}
 
 -- a body is accepted: within the limit, no byte over 127, and the passes accept it
@@ -79,6 +79,10 @@ module _ (l : Lent) (xs : List ℕ) where
       by-check (Refused BufferTooShort) e = absurd (let z : 0 ≡ 3 = sym h ∙ number-refused BufferTooShort e in omega arith)
       by-check (Refused (NotAscii i)) e = absurd (let z : 0 ≡ 2 = sym h ∙ number-refused (NotAscii i) e in omega arith)
 
+  -- the call gives 0, and these bytes, exactly if the text is within the limit and ASCII and the passes accept it with them
+  pub zero-exactly : (numberOf l xs ≡ 0) ↔ ((zs : List ℕ) × Taken xs zs × (rewritten l xs ≡ zs))
+  zero-exactly = ((λ h. let t = zero-taken h in (t .0, t .1, taken-text (t .0) (t .1))), (λ w. taken-zero (w .0) (w .1)))
+
   -- a text that is not refused by 1 is within the limit
   pub not-one : (numberOf l xs ≡ 1 → ⊥) → length xs ≤ textLimit
   unfolding bodyCheck
@@ -104,7 +108,7 @@ high-both [] b p q k i = q k i
 high-both (x ∷ a) b p q zero i = p zero (suc-le-suc zero-le)
 high-both (x ∷ a) b p q (suc k) i = high-both a b (λ j h. p (suc j) (suc-le-suc h)) q k (le-of-suc-le-suc i)
 
-module _ (l : Lent) (a : List ℕ) (s : Sealed a) (b : List ℕ) where
+module _ (l : Lent) (a : List ℕ) (s : Continuable a) (b : List ℕ) where
   split : (zs : List ℕ) → Taken (a ++ b) zs → (us : List ℕ) × (vs : List ℕ) × Taken a us × Taken b vs × (zs ≡ us ++ vs)
   split zs t =
       let w = rewriting-split a s b zs (t .result) in
@@ -145,5 +149,5 @@ pub joined : (l : Lent) (a b : List ℕ) → isClosed a ≡ true → (numberOf l
     → ((numberOf l (a ++ b) ≡ 0) ↔ ((numberOf l a ≡ 0) × (numberOf l b ≡ 0)))
     × (numberOf l (a ++ b) ≡ 0 → rewritten l (a ++ b) ≡ rewritten l a ++ rewritten l b)
 joined l a b c one six =
-    let s = sealed a c in
+    let s = continuable a c in
     ((joined-zero l a s b, (λ w. both-zero l a s b one six (w .0) (w .1))), joined-text l a s b)

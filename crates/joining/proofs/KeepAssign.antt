@@ -1,4 +1,4 @@
--- Pass 3 keeps what a keeper reads. Assumes nothing.
+-- Pass 3 keeps what a reading reads. Assumes nothing.
 use mathlib.Core.Path.{_≡_, refl, sym, ap, _∙_, subst}
 use mathlib.Core.Bool.{Bool, true, false, cond, not, _&&_, _||_, false≢true}
 use mathlib.Core.List.{List, [], _∷_, _++_, reverse, reverse-cons, reverse-append, reverse-reverse, append-assoc}
@@ -21,7 +21,7 @@ use Rattle.spec.specs.Computed.{computed}
 use Rattle.spec.specs.declared.Found.{Found}
 use Rattle.spec.specs.declared.Found.the-variants.{At, Nothing}
 use Rattle.joining.proofs.Bools.{or-first, or-second, ident-not-white, no-ident-zero}
-use Rattle.joining.proofs.Reading.{cut, paste, Keeper}
+use Rattle.joining.proofs.Reading.{cut, paste, Reading}
 use Rattle.joining.proofs.Parts.{NoQuote, no-quotes, front-drop, Read, ends, back-over, edge-behind}
 use Rattle.joining.proofs.Statements.{Shut, shut-append, Statements, FirstOf, statements, ends-append}
 
@@ -61,7 +61,7 @@ back-split back =
     ∙ (ap (λ (z : List Marked). z ++ reverse w) (ap reverse (sym (while-split (ofByte isIdent) b)) ∙ reverse-append n r)
     ∙ append-assoc (reverse r) (reverse n) (reverse w)))
 
-module _ (k : Keeper) where
+module _ (k : Reading) where
   -- read with a `;` behind it
   abbrev pub Piece : List Marked → Type 0
   Piece t = Read k (k .start) (t ++ (live 59 ∷ []))

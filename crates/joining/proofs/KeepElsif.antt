@@ -1,4 +1,4 @@
--- Pass 2 keeps what a keeper reads, where letters leave the state in a word as it is. Assumes nothing.
+-- Pass 2 keeps what a reading reads, where letters leave the state in a word as it is. Assumes nothing.
 use mathlib.Core.Path.{_≡_, refl, sym, _∙_, subst}
 use mathlib.Core.Bool.{Bool, true, false, cond, not, false≢true}
 use mathlib.Core.List.{List, [], _∷_, _++_, cons≢nil}
@@ -13,15 +13,15 @@ use Rattle.spec.specs.Search.{startsIgnoringCase, wordHere}
 use Rattle.spec.specs.Elsif.{elsifFrom, elsif}
 use Rattle.spec.specs.Closed.{endsLive}
 use Rattle.joining.proofs.Bools.{clash, no, other, ident-no-quote}
-use Rattle.joining.proofs.Reading.{Keeper}
+use Rattle.joining.proofs.Reading.{Reading}
 use Rattle.joining.proofs.Parts.{Read}
 use Rattle.joining.proofs.Statements.{is-live, ends-append, ends-rest, ends-ident, Shut}
 use Rattle.joining.proofs.WellFormed.{Open, clear, dash, slash, sign, tag, inSingle, inDouble, liveOk, wellOk, tagged, liveNext, wellNext, next-ident}
-use Rattle.joining.proofs.WellKeeper.{well-keeper}
-use Rattle.joining.proofs.Tame.{Seen, edge, inWord, r1, r2, r3, r4, r5, gap, paren, inLevel, closed, levelLetter, wordStart, seenNext, seenOk, seenEdge, upper-cases, tame-keeper}
+use Rattle.joining.proofs.WellFormedReading.{well-formed-reading}
+use Rattle.joining.proofs.RaiseRead.{Seen, edge, inWord, r1, r2, r3, r4, r5, gap, paren, inLevel, closed, levelLetter, wordStart, seenNext, seenOk, seenEdge, upper-cases, raise-reading}
 
 -- states that the letters of a word leave as they are, and that an E at the edge of a word leads to
-pub record Speller (k : Keeper) : Type 0 where
+pub record Speller (k : Reading) : Type 0 where
   pub still : k .State → Bool
   pub spell : (s : k .State) (c : ℕ) → k .edge s ≡ true → eqb (upper c) 69 ≡ true → k .ok s (live c) ≡ true
       → (k .ok s (live 69) ≡ true) × (k .after s (live c) ≡ k .after s (live 69)) × (still (k .after s (live 69)) ≡ true)
@@ -114,7 +114,7 @@ elsif-ends (x ∷ t) zero p i h =
         tail h = ends-rest x (y ∷ t) h (λ e. absurd (cons≢nil e))
 elsif-ends (x ∷ t) (suc n) p i h = elsif-ends t n (byte x) (i .1) (ends-ident x t (i .0) h)
 
-module _ (k : Keeper) (l : Speller k) where
+module _ (k : Reading) (l : Speller k) where
   abbrev Still : ℕ → k .State → Type 0
   Still zero s = Unit {0}
   Still (suc n) s = l .still s ≡ true
@@ -210,8 +210,8 @@ well-takes tag c h i = rw (ident-no-quote c i, other isIdent 36 c refl i) refl
 well-takes inSingle c h i = absurd (false≢true h)
 well-takes inDouble c h i = absurd (false≢true h)
 
-pub well-speller : Speller well-keeper
-unfolding well-keeper
+pub well-speller : Speller well-formed-reading
+unfolding well-formed-reading
 well-speller = record { still = wellStill; spell = λ s c e u o. well-spell s c u o; keeps = well-keeps; takes = well-takes }
 
 abbrev seenStill : Seen → Bool
@@ -277,6 +277,6 @@ seen-takes paren c h i = absurd (false≢true h)
 seen-takes inLevel c h i = rw i refl
 seen-takes closed c h i = absurd (false≢true h)
 
-pub tame-speller : Speller tame-keeper
-unfolding tame-keeper
-tame-speller = record { still = seenStill; spell = seen-spell; keeps = λ s x h i o. seen-keeps s x h i; takes = seen-takes }
+pub raise-read-speller : Speller raise-reading
+unfolding raise-reading
+raise-read-speller = record { still = seenStill; spell = seen-spell; keeps = λ s x h i o. seen-keeps s x h i; takes = seen-takes }

@@ -22,9 +22,9 @@ use Rattle.joining.proofs.Bools.{clash, no, or-second, and-no, at, anot
 use Rattle.joining.proofs.Reading.{leaves, leaves-append, cut, paste, Takes, takes-cons}
 use Rattle.joining.proofs.Statements.{ends-append, ends-rest}
 use Rattle.joining.proofs.WellFormed.{past, text-step, text-code, text-single, text-double, Open, clear, dash, slash, sign, tag, inSingle, inDouble, liveOk, quotedOk, wellOk, tagged, liveNext, quotedNext, wellNext, isOut, Well, live-out, closesTag, isTag, opens-tag, Literal, single-literal, double-literal}
-use Rattle.joining.proofs.WellKeeper.{quoted-start}
-use Rattle.joining.proofs.TameStart.{followed-tame}
-use Rattle.joining.proofs.Tame.{Seen, edge, inWord, r1, r2, r3, r4, r5, gap, paren, inLevel, closed, levelLetter, wordStart, letterNext, seenNext, seenOk, Tame}
+use Rattle.joining.proofs.WellFormedReading.{quoted-start}
+use Rattle.joining.proofs.RaiseReadStart.{followed-read}
+use Rattle.joining.proofs.RaiseRead.{Seen, edge, inWord, r1, r2, r3, r4, r5, gap, paren, inLevel, closed, levelLetter, wordStart, letterNext, seenNext, seenOk, RaiseRead}
 
 -- ---- the requoted text with its marks
 
@@ -351,7 +351,7 @@ record Fine (xs : List ℕ) : Type 0 where
 -- what pass 1 makes of it
 record Requoted (xs : List ℕ) : Type 0 where
   well : (s : Open) → isOut s ≡ true → Fits s xs → Well s (requotedMarks xs) × (isOut (leaves wellNext s (requotedMarks xs)) ≡ true)
-  tame : (s : Seen) → Tame s (markedText xs) → Tame s (requotedMarks xs)
+  raise-read : (s : Seen) → RaiseRead s (markedText xs) → RaiseRead s (requotedMarks xs)
   ends : endsLive (markedText xs) ≡ true → endsLive (requotedMarks xs) ≡ true
 
 -- a text that ends in a live byte does not end in a quoted row
@@ -409,10 +409,10 @@ code-case c cs e f ih =
           λ s h g.
           let w = r .well (liveNext s c) (live-out s c h) (fits-next s c cs g o) in
           subst (λ (t : List Marked). Well s t × (isOut (leaves wellNext s t) ≡ true)) (sym rt) ((fits-allowed s c cs g o, w .0), w .1);
-      tame =
+      raise-read =
           λ s t.
-          let t2 : Tame s (live c ∷ markedText cs) = subst (λ (u : List Marked). Tame s u) mt t in
-          subst (λ (u : List Marked). Tame s u) (sym rt) (t2 .0, r .tame (seenNext s (live c)) (t2 .1));
+          let t2 : RaiseRead s (live c ∷ markedText cs) = subst (λ (u : List Marked). RaiseRead s u) mt t in
+          subst (λ (u : List Marked). RaiseRead s u) (sym rt) (t2 .0, r .raise-read (seenNext s (live c)) (t2 .1));
       ends = λ _. subst (λ (t : List Marked). endsLive t ≡ true) (sym rt) (live-ends c cs en (r .ends));
     }
 
@@ -445,10 +445,10 @@ module _ (e : Bool) (q : ℕ) (z : Open) (l : Literal q z) (c : ℕ) (cs : List 
               paste wellOk wellNext (quoted c ∷ u) R s (chunk .reads) (subst (λ (y : Open). Well y R) (sym (chunk .end)) (w .0)),
               subst (λ (y : Open). isOut y ≡ true) (sym ends2) (w .1),
             );
-        tame =
+        raise-read =
             λ s y.
-            let t2 = cut (seenOk false) seenNext (quoted c ∷ u) (markedText (drop m cs)) s (subst (λ (v : List Marked). Tame s v) mt y) in
-            subst (λ (v : List Marked). Tame s v) (sym rt) (paste (seenOk false) seenNext (quoted c ∷ u) R s (t2 .0) (r .tame (leaves seenNext s (quoted c ∷ u)) (t2 .1)));
+            let t2 = cut (seenOk false) seenNext (quoted c ∷ u) (markedText (drop m cs)) s (subst (λ (v : List Marked). RaiseRead s v) mt y) in
+            subst (λ (v : List Marked). RaiseRead s v) (sym rt) (paste (seenOk false) seenNext (quoted c ∷ u) R s (t2 .0) (r .raise-read (leaves seenNext s (quoted c ∷ u)) (t2 .1)));
         ends = λ _. subst (λ (y : List Marked). endsLive y ≡ true) (sym rt) (ends-append (quoted c ∷ u) R (r .ends er));
       }
 
@@ -526,20 +526,20 @@ module _ (c : ℕ) (cs : List ℕ) where
               paste wellOk wellNext (quoted 39 ∷ u) R s (chunk .reads) (subst (λ (y : Open). Well y R) (sym (chunk .end)) (w .0)),
               subst (λ (y : Open). isOut y ≡ true) (sym ends2) (w .1),
             );
-        tame =
+        raise-read =
             λ s y.
             let v = map quoted (cl .inner ++ (36 ∷ [])) in
-            let y2 : Tame s (quoted 36 ∷ (v ++ markedText (drop N xs))) =
-            subst (λ (k : ℕ). Tame s (quoted k ∷ (v ++ markedText (drop N xs)))) c36
-            (subst (λ (l : List ℕ). Tame s (map quoted l ++ markedText (drop N xs))) tx (subst (λ (l : List Marked). Tame s l) mt y)) in
+            let y2 : RaiseRead s (quoted 36 ∷ (v ++ markedText (drop N xs))) =
+            subst (λ (k : ℕ). RaiseRead s (quoted k ∷ (v ++ markedText (drop N xs)))) c36
+            (subst (λ (l : List ℕ). RaiseRead s (map quoted l ++ markedText (drop N xs))) tx (subst (λ (l : List Marked). RaiseRead s l) mt y)) in
             let q = dollar-quotes s (y2 .0) in
-            let t2 = cut (seenOk false) seenNext v (markedText (drop N xs)) edge (subst (λ (z : Seen). Tame z (v ++ markedText (drop N xs))) (q .behind-dollar) (y2 .1)) in
+            let t2 = cut (seenOk false) seenNext v (markedText (drop N xs)) edge (subst (λ (z : Seen). RaiseRead z (v ++ markedText (drop N xs))) (q .behind-dollar) (y2 .1)) in
             let row = quoted-row 36 refl (cl .inner) .0 in
-            let rest : Tame edge R = r .tame edge (subst (λ (z : Seen). Tame z (markedText (drop N xs))) (row .end) (t2 .1)) in
+            let rest : RaiseRead edge R = r .raise-read edge (subst (λ (z : Seen). RaiseRead z (markedText (drop N xs))) (row .end) (t2 .1)) in
             let row2 = quoted-row 39 refl (doubled insides) .0 in
             let chunk = takes-cons (seenOk false) seenNext (quoted 39) u s edge edge (q .allowed) (q .behind-quote) row2 in
-            subst (λ (l : List Marked). Tame s l) (sym rt)
-            (paste (seenOk false) seenNext (quoted 39 ∷ u) R s (chunk .reads) (subst (λ (z : Seen). Tame z R) (sym (chunk .end)) rest));
+            subst (λ (l : List Marked). RaiseRead s l) (sym rt)
+            (paste (seenOk false) seenNext (quoted 39 ∷ u) R s (chunk .reads) (subst (λ (z : Seen). RaiseRead z R) (sym (chunk .end)) rest));
         ends = λ _. subst (λ (y : List Marked). endsLive y ≡ true) (sym rt) (ends-append (quoted 39 ∷ u) R (r .ends er));
       }
 
@@ -596,15 +596,15 @@ span-requoted c cs f ih =
 
 requoted-fine : (f : ℕ) (xs : List ℕ) → length xs ≤ f → Fine xs → Requoted xs
 unfolding requotedMarks lexemes lexemesFrom concat markedText marked endsLive
-requoted-fine zero [] b h = record { well = λ s o g. (tt, o); tame = λ s t. tt; ends = λ e. e }
+requoted-fine zero [] b h = record { well = λ s o g. (tt, o); raise-read = λ s t. tt; ends = λ e. e }
 requoted-fine zero (c ∷ cs) b h = absurd (omega arith)
-requoted-fine (suc f) [] b h = record { well = λ s o g. (tt, o); tame = λ s t. tt; ends = λ e. e }
+requoted-fine (suc f) [] b h = record { well = λ s o g. (tt, o); raise-read = λ s t. tt; ends = λ e. e }
 requoted-fine (suc f) (c ∷ cs) b h = span-requoted c cs h (λ n p g. requoted-fine f (drop n (c ∷ cs)) (omega (arith, length-drop n (c ∷ cs))) g)
 
 -- pass 1's text of a closed body: it is well formed, RAISE has what *closed* says behind it, and it ends in a live `;`
 pub record Closes (t : List Marked) : Type 0 where
   pub well : Well clear t
-  pub tame : Tame edge t
+  pub raise-read : RaiseRead edge t
   pub ended : endsLive t ≡ true
 
 pub requote-kept : (a : List ℕ) → isClosed a ≡ true → Closes (requotedMarks a)
@@ -624,6 +624,6 @@ requote-kept a h =
     }) in
     record {
       well = q .well clear refl tt .0;
-      tame = q .tame edge (followed-tame (markedText a) edge 0 refl (and-right p r h2) tt);
+      raise-read = q .raise-read edge (followed-read (markedText a) edge 0 refl (and-right p r h2) tt);
       ended = q .ends en;
     }

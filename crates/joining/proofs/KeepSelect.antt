@@ -1,4 +1,4 @@
--- Pass 4 keeps what a keeper reads. Assumes nothing.
+-- Pass 4 keeps what a reading reads. Assumes nothing.
 use mathlib.Core.Path.{_≡_, refl, sym, ap, _∙_, subst}
 use mathlib.Core.Bool.{Bool, true, false, cond, not, _&&_, false≢true}
 use mathlib.Core.List.{List, [], _∷_, _++_, map, reverse, reverse-cons, reverse-append, reverse-reverse, append-nil}
@@ -21,7 +21,7 @@ use Rattle.spec.specs.Closed.{endsLive}
 use Rattle.spec.specs.declared.Found.{Found}
 use Rattle.spec.specs.declared.Found.the-variants.{At, Nothing}
 use Rattle.joining.proofs.Bools.{clash, no}
-use Rattle.joining.proofs.Reading.{reads-more, leaves-append, cut, paste, Takes, takes-append, Keeper}
+use Rattle.joining.proofs.Reading.{reads-more, leaves-append, cut, paste, Takes, takes-append, Reading}
 use Rattle.joining.proofs.Parts.{PlainWord, Read, ends, Part, Firm, nil-part, drop-end, firm-end, at-word, behind-word, part-between, AllFirm, comma-parts, trim-parts, keep-firm}
 use Rattle.joining.proofs.Statements.{is-live, ends-append, Shut, shut-leaves, shut-append, Statements, FirstOf, statements}
 
@@ -59,7 +59,7 @@ unfolding startsIgnoringCase upper isLower within
 from-front [] h = tt
 from-front (x ∷ t) h = and-left (eqb (upper (byte x)) 70) (startsIgnoringCase (ascii "ROM") t) h
 
-module _ (k : Keeper) where
+module _ (k : Reading) where
   -- what is read to the state z, in the text that pass 4 makes
   abbrev Goes : k .State → k .State → List Marked → Type 0
   Goes s z t = Takes (k .safe) (k .after) s z t

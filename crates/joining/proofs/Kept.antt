@@ -15,50 +15,50 @@ use Rattle.spec.specs.SelectInto.{quoteWalk, selectInto}
 use Rattle.spec.specs.Body.{accepted, forget, assignPass}
 use Rattle.spec.specs.Closed.{endsLive, isClosed}
 use Rattle.joining.specs.Safe.{raisesSafe}
-use Rattle.joining.specs.Sealed.{SealedBehind, Sealed}
+use Rattle.joining.specs.Continuable.{ContinuableBehind, Continuable}
 use Rattle.joining.proofs.WellFormed.{Open, clear, isOut, Formed, scanned, quote-walked}
-use Rattle.joining.proofs.WellKeeper.{well-keeper}
-use Rattle.joining.proofs.Tame.{edge, tame-keeper}
-use Rattle.joining.proofs.TameEnd.{guarded-safe}
+use Rattle.joining.proofs.WellFormedReading.{well-formed-reading}
+use Rattle.joining.proofs.RaiseRead.{edge, raise-reading}
+use Rattle.joining.proofs.RaiseReadEnd.{guarded-safe}
 use Rattle.joining.proofs.Statements.{Shut, shut-leaves}
 use Rattle.joining.proofs.KeepRequote.{requotedMarks, requoted-bytes, requote-kept}
-use Rattle.joining.proofs.KeepElsif.{well-speller, tame-speller, elsif-kept}
+use Rattle.joining.proofs.KeepElsif.{well-speller, raise-read-speller, elsif-kept}
 use Rattle.joining.proofs.KeepAssign.{assign-kept}
 use Rattle.joining.proofs.KeepSelect.{select-kept}
 
 -- a text that both readings take
 record Read (t : List Marked) : Type 0 where
-  well : Shut well-keeper (well-keeper .ok) t
-  tame : Shut tame-keeper (tame-keeper .ok) t
+  well : Shut well-formed-reading (well-formed-reading .ok) t
+  raise-read : Shut raise-reading (raise-reading .ok) t
 
-formed : (t : List Marked) → Shut well-keeper (well-keeper .ok) t → Formed t
-unfolding well-keeper
+formed : (t : List Marked) → Shut well-formed-reading (well-formed-reading .ok) t → Formed t
+unfolding well-formed-reading
 formed t s =
-    record { well = s .reads; out = subst (λ (z : Open). isOut z ≡ true) (sym (shut-leaves well-keeper t clear (s .ended))) refl }
+    record { well = s .reads; out = subst (λ (z : Open). isOut z ≡ true) (sym (shut-leaves well-formed-reading t clear (s .ended))) refl }
 
 -- behind pass 1
 first-both : (a : List ℕ) → isClosed a ≡ true → Read (requotedMarks a)
-unfolding well-keeper tame-keeper
+unfolding well-formed-reading raise-reading
 first-both a h =
     let c = requote-kept a h in
-    record { well = record { reads = c .well; ended = c .ended }; tame = record { reads = c .tame; ended = c .ended } }
+    record { well = record { reads = c .well; ended = c .ended }; raise-read = record { reads = c .raise-read; ended = c .ended } }
 
 second-both : (t : List Marked) → Read t → Read (elsif t)
-second-both t b = record { well = elsif-kept well-keeper well-speller t (b .well); tame = elsif-kept tame-keeper tame-speller t (b .tame) }
+second-both t b = record { well = elsif-kept well-formed-reading well-speller t (b .well); raise-read = elsif-kept raise-reading raise-read-speller t (b .raise-read) }
 
 third-both : (t u : List Marked) → Read t → assignments t ≡ done u → Read u
-third-both t u b e = record { well = assign-kept well-keeper t u (b .well) e; tame = assign-kept tame-keeper t u (b .tame) e }
+third-both t u b e = record { well = assign-kept well-formed-reading t u (b .well) e; raise-read = assign-kept raise-reading t u (b .raise-read) e }
 
 -- behind pass 4
-fourth-formed : (t : List Marked) → Read t → Shut well-keeper (well-keeper .ok) (selectInto t)
-unfolding well-keeper
-fourth-formed t b = select-kept well-keeper t (b .well)
+fourth-formed : (t : List Marked) → Read t → Shut well-formed-reading (well-formed-reading .ok) (selectInto t)
+unfolding well-formed-reading
+fourth-formed t b = select-kept well-formed-reading t (b .well)
 
 fourth-safe : (t : List Marked) → Read t → raisesSafe 0 (selectInto t) ≡ true
-unfolding tame-keeper isIdent isLower isUpper isDigit within
-fourth-safe t b = let s = select-kept tame-keeper t (b .tame) in guarded-safe (selectInto t) edge 0 refl (s .ended) (s .reads)
+unfolding raise-reading isIdent isLower isUpper isDigit within
+fourth-safe t b = let s = select-kept raise-reading t (b .raise-read) in guarded-safe (selectInto t) edge 0 refl (s .ended) (s .reads)
 
-after-both : (t : List Marked) → Read t → SealedBehind (bytes t)
+after-both : (t : List Marked) → Read t → ContinuableBehind (bytes t)
 after-both t b =
     let q = quote-walked t (formed t (b .well)) in
     let u = selectInto t in
@@ -70,17 +70,17 @@ after-both t b =
       raises = rw (q, s) (fourth-safe t b);
     }
 
-after-pass : (t : List Marked) → Read t → (A3 : List ℕ) (o : Outcome) → assignments t ≡ o → forget o ≡ accepted A3 → SealedBehind A3
+after-pass : (t : List Marked) → Read t → (A3 : List ℕ) (o : Outcome) → assignments t ≡ o → forget o ≡ accepted A3 → ContinuableBehind A3
 unfolding forget
 after-pass t b A3 (done u) e h =
     let same : bytes u ≡ A3 = cc in
-    subst SealedBehind same (after-both u (third-both t u b e))
+    subst ContinuableBehind same (after-both u (third-both t u b e))
 after-pass t b A3 (qualified q n) e h = absurd (apart (cc))
 after-pass t b A3 (clause c) e h = absurd (apart (cc))
 
-pub sealed : (a : List ℕ) → isClosed a ≡ true → Sealed a
+pub continuable : (a : List ℕ) → isClosed a ≡ true → Continuable a
 unfolding isClosed assignPass
-sealed a h =
+continuable a h =
     let t1 = requotedMarks a in
     let b1 = first-both a h in
     let m1 : markedText (requoted a) ≡ t1 = ap markedText (sym (requoted-bytes a)) ∙ scanned t1 (formed t1 (b1 .well)) in

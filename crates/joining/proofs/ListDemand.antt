@@ -22,20 +22,20 @@ use Rattle.spec.specs.Answers.{textLimit, bodyCheck, resultOf, bodyResult}
 use Rattle.spec.specs.declared.Check.{Check}
 use Rattle.spec.specs.declared.Check.the-variants.{Passed, Refused}
 use Rattle.spec.specs.declared.Refusal.the-variants.{TextTooLong, BufferTooShort, NotAscii}
-use Rattle.joining.specs.Sealed.{secondText, fourthText, Sealed}
+use Rattle.joining.specs.Continuable.{secondText, fourthText, Continuable}
 use Rattle.joining.specs.Call.{Lent, numberOf, rewritten}
 use Rattle.joining.proofs.Chain.{forget-both, assign-join, second-join, fourth-join, raised-join, rewriting-split, limited-exactly}
 use Rattle.joining.proofs.PassJoin.{requoted-join}
-use Rattle.joining.proofs.Kept.{sealed}
+use Rattle.joining.proofs.Kept.{continuable}
 use Rattle.joining.proofs.Demand.{passes-check, number-passed, number-refused, zero-taken, high-both, not-one, joined-zero, joined-text, both-zero}
 
--- ---- a sealed text that is accepted, and behind it a text that is refusal 6
+-- ---- a continuable text that is accepted, and behind it a text that is refusal 6
 
 -- what is behind is no longer than both
 back-fits : (a b c : List ℕ) → c ≡ a ++ b → length c ≤ bufferSize → bufferSize < length b → ⊥
 back-fits a b c e h k = omega (arith, ap length e, length-append a b)
 
-module _ (a : List ℕ) (s : Sealed a) (us : List ℕ) (r : rewriting a ≡ accepted us) (c : List ℕ) where
+module _ (a : List ℕ) (s : Continuable a) (us : List ℕ) (r : rewriting a ≡ accepted us) (c : List ℕ) where
   -- the text of a after pass 3
   third : List ℕ
   third = limited-exactly a us .0 r .0 .middle
@@ -162,8 +162,8 @@ module _ (l : Lent) (c : List ℕ) where
   pub six-exactly : (numberOf l c ≡ 6) ↔ TooLong c
   six-exactly = (six-only, six-always)
 
--- what meets a size limit meets one behind an accepted sealed body
-module _ (l : Lent) (a : List ℕ) (s : Sealed a) (z : numberOf l a ≡ 0) (c : List ℕ) where
+-- what meets a size limit meets one behind an accepted continuable body
+module _ (l : Lent) (a : List ℕ) (s : Continuable a) (z : numberOf l a ≡ 0) (c : List ℕ) where
   pub one-behind : numberOf l c ≡ 1 → numberOf l (a ++ c) ≡ 1
   one-behind h = one-always l (a ++ c) (omega (arith, one-only l c h, length-append a c))
 
@@ -197,8 +197,8 @@ module _ (l : Lent) (b : List ℕ) where
   unfolding concat
   step a bodies c k more one six = ((only, always), text)
     where
-      s : Sealed a
-      s = sealed a k
+      s : Continuable a
+      s = continuable a k
 
       behind : numberOf l c ≡ 0 → ((numberOf l c ≡ 0) ↔ AllZero bodies) × (numberOf l c ≡ 0 → rewritten l c ≡ concat (map (rewritten l) bodies) ++ rewritten l b)
       behind h = more (λ e. omega arith) (λ e. omega arith)

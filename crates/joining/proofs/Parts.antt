@@ -17,7 +17,7 @@ use Rattle.spec.specs.Search.{Test, startsIgnoringCase, ontoFirst, piecesFrom, 
 use Rattle.spec.specs.Assignments.{trimEnd, trim}
 use Rattle.spec.specs.SelectInto.{part}
 use Rattle.joining.proofs.Bools.{clash, yes, or-first, or-second, quotes, no-quote}
-use Rattle.joining.proofs.Reading.{Reads, leaves, leaves-append, cut, Keeper}
+use Rattle.joining.proofs.Reading.{Reads, leaves, leaves-append, cut, Reading}
 
 -- what stands at the front behind a run of such bytes is none of them
 pub front-drop : (f : ℕ → Bool) → f 0 ≡ false → (t : List Marked) → f (frontByte (dropWhile (ofByte f) t)) ≡ false
@@ -52,7 +52,7 @@ abbrev pub PlainWord : List ℕ → Type 0
 PlainWord [] = Unit {0}
 PlainWord (a ∷ w) = (isQuote (upper a) ≡ false) × PlainWord w
 
-module _ (k : Keeper) where
+module _ (k : Reading) where
   abbrev pub Read : k .State → List Marked → Type 0
   Read s t = Reads (k .ok) (k .after) s t
 

@@ -58,7 +58,7 @@ reads-more ok more after h [] s r = tt
 reads-more ok more after h (x ∷ t) s r = (h s x (r .0), reads-more ok more after h t (after s x) (r .1))
 
 -- What passes 3 and 4 ask of a reading so that what they make of a text that is read is read too.
-pub record Keeper : Type 1 where
+pub record Reading : Type 1 where
   pub State : Type 0
   pub start : State
   -- what is allowed before pass 4, and behind it

@@ -9,7 +9,7 @@ use Rattle.spec.specs.Bytes.{within, isDigit, isLower, isUpper, isIdent}
 use Rattle.spec.specs.Map.{Marked, live, quoted, byte, isLiveByte}
 use Rattle.spec.specs.Search.{byteHere, ontoFirst, piecesFrom, pieces}
 use Rattle.spec.specs.Closed.{endsLive}
-use Rattle.joining.proofs.Reading.{Reads, leaves, paste, Keeper}
+use Rattle.joining.proofs.Reading.{Reads, leaves, paste, Reading}
 use Rattle.joining.proofs.Parts.{Read}
 
 pub is-live : (b : ℕ) (x : Marked) → isLiveByte b x ≡ true → x ≡ live b
@@ -36,7 +36,7 @@ unfolding endsLive isIdent isLower isUpper isDigit within
 ends-ident x [] i h = absurd (false≢true (subst (λ (y : Marked). isIdent (byte y) ≡ true) (is-live 59 x h) i))
 ends-ident x (y ∷ t) i h = h
 
-module _ (k : Keeper) where
+module _ (k : Reading) where
   -- a text that is read and ends in a live `;`
   pub record Shut (ok : k .State → Marked → Bool) (t : List Marked) : Type 0 where
     pub reads : Reads ok (k .after) (k .start) t

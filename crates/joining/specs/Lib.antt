@@ -1,4 +1,4 @@
 pub mod Safe
 pub mod Unlimited
-pub mod Sealed
+pub mod Continuable
 pub mod Call

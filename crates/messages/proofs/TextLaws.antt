@@ -75,13 +75,6 @@ empty-drop (x ∷ t) (suc i) = empty-drop t i ∙ shift (length t) i
         (λ e. e ∙ sym (le-leb (suc a) (suc b) (suc-le-suc (leb-true a b e))))
         (λ e. e ∙ sym (lt-leb (suc a) (suc b) (suc-le-suc (leb-false a b e))))
 
--- a word that stands in front is no longer than the text
-pub prefix-within : (f : ℕ → ℕ) (w xs : List ℕ) → prefixBy f w xs ≡ true → length w ≤ length xs
-unfolding prefixBy
-prefix-within f [] xs h = zero-le
-prefix-within f (a ∷ w) [] h = absurd (false≢true h)
-prefix-within f (a ∷ w) (x ∷ xs) h = suc-le-suc (prefix-within f w xs (and-right (eqb (f x) (f a)) (prefixBy f w xs) h))
-
 -- skipping by a test on bytes goes to the run's end
 pub skip-to : (f : ℕ → Bool) (t : List Marked) (i : ℕ) → dropWhile (ofByte f) (drop i t) ≡ drop (runEnd f (bytes t) i) t
 skip-to f t i =

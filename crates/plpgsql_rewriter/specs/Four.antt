@@ -3,14 +3,13 @@ use Prim.Native.Nat.{ℕ}
 use mathlib.Core.Bool.{cond}
 use mathlib.Core.List.{List, [], _∷_}
 use lib.Dec.{ltb}
-use lib.ListN.{length}
-use Rattle.spec.specs.Answers.{SearchNumbers, searchNumbers, refusalNumber, refusalPlace, wordPart, callNumbers}
+use Rattle.spec.specs.Answers.{SearchNumbers, searchNumbers, filledNumbers, callNumbers}
 use Rattle.spec.specs.declared.Rewritten.{Rewritten}
 use Rattle.spec.specs.declared.Search.{Search}
 use Rattle.spec.specs.declared.Filled.{Filled}
 use Rattle.spec.specs.declared.Filled.the-variants.{Count, Refused}
 
--- a number in 32 bits; a larger one, which only an offset in a needle can be, is the largest
+-- a number in 32 bits; a larger one is the largest
 unfoldable pub narrow : ℕ → ℕ
 narrow n = cond (ltb n 4294967296) n 4294967295
 
@@ -21,9 +20,13 @@ four n len = n .number ∷ n .found ∷ narrow (n .place) ∷ narrow len ∷ []
 abbrev pub fourFound : Search → List ℕ
 fourFound s = four (searchNumbers s) 0
 
+-- how much was written
+abbrev pub countOf : Filled → ℕ
+countOf (Count n) = n
+countOf (Refused r) = 0
+
 abbrev pub fourFilled : Filled → List ℕ
-fourFilled (Count n) = 0 ∷ 0 ∷ 0 ∷ narrow n ∷ []
-fourFilled (Refused r) = refusalNumber r ∷ 0 ∷ narrow (refusalPlace r) ∷ 0 ∷ []
+fourFilled f = four (filledNumbers f) (countOf f)
 
 -- of a call: number, place, output length, records
 abbrev pub fourCalled : Rewritten → List ℕ

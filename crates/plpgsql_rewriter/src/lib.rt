@@ -101,6 +101,7 @@ fn put_called(answer: &mut [u32; 4], r: Rewritten)
     }
 }
 
+// `regions` of crate `searches`; the fourth number is 0.
 #[no_mangle]
 pub extern "C" fn plpgsql_regions(text: &[u8], map: &mut [u8], answer: &mut [u32; 4])
     ensures { λ _. ⌜ now (map .exit) ≡ mapExit (now (text .entry)) (now (map .entry)) [] ⌝ }
@@ -110,6 +111,7 @@ pub extern "C" fn plpgsql_regions(text: &[u8], map: &mut [u8], answer: &mut [u32
     put_filled(answer, f);
 }
 
+// `find_keyword`.
 #[no_mangle]
 pub extern "C" fn plpgsql_find_keyword(
     text: &[u8],
@@ -125,6 +127,7 @@ pub extern "C" fn plpgsql_find_keyword(
     put_found(answer, s);
 }
 
+// `find_in_code`.
 #[no_mangle]
 pub extern "C" fn plpgsql_find_in_code(text: &[u8], map: &mut [u8], byte: u8, answer: &mut [u32; 4])
     ensures { λ _. ⌜ now (map .exit) ≡ mapExit (now (text .entry)) (now (map .entry)) [] ⌝ }
@@ -134,6 +137,7 @@ pub extern "C" fn plpgsql_find_in_code(text: &[u8], map: &mut [u8], byte: u8, an
     put_found(answer, s);
 }
 
+// `find_str_in_code`.
 #[no_mangle]
 pub extern "C" fn plpgsql_find_str_in_code(
     text: &[u8],
@@ -157,6 +161,7 @@ fn put_word(answer: &mut [u32; 4], three: [u32; 3], len: usize)
     *answer = [three[0], three[1], p, l];
 }
 
+// `next_word_in_code`: place and length stand for the part that it hands back.
 #[no_mangle]
 pub extern "C" fn plpgsql_next_word_in_code(
     text: &[u8],
@@ -172,6 +177,7 @@ pub extern "C" fn plpgsql_next_word_in_code(
     put_word(answer, three, word.len());
 }
 
+// `split_in_code`; the fourth number counts the pieces.
 #[no_mangle]
 pub extern "C" fn plpgsql_split_in_code(
     text: &[u8],
@@ -188,6 +194,7 @@ pub extern "C" fn plpgsql_split_in_code(
     put_filled(answer, f);
 }
 
+// `requote_dollar_literals`; the fourth number is the length of the result.
 #[no_mangle]
 pub extern "C" fn plpgsql_requote_dollar_literals(
     text: &[u8],
@@ -201,6 +208,7 @@ pub extern "C" fn plpgsql_requote_dollar_literals(
     put_filled(answer, f);
 }
 
+// `has_unterminated_dollar_quote`.
 #[no_mangle]
 pub extern "C" fn plpgsql_has_unterminated_dollar_quote(text: &[u8], answer: &mut [u32; 4])
     ensures { λ _. ⌜ now (answer .exit) ≡ fourFound (unterminatedAnswer (now (text .entry))) ⌝ }
@@ -209,6 +217,7 @@ pub extern "C" fn plpgsql_has_unterminated_dollar_quote(text: &[u8], answer: &mu
     put_found(answer, s);
 }
 
+// `has_exception_handler`.
 #[no_mangle]
 pub extern "C" fn plpgsql_has_exception_handler(text: &[u8], map: &mut [u8], answer: &mut [u32; 4])
     ensures { λ _. ⌜ now (map .exit) ≡ mapExit (now (text .entry)) (now (map .entry)) [] ⌝ }
@@ -218,6 +227,7 @@ pub extern "C" fn plpgsql_has_exception_handler(text: &[u8], map: &mut [u8], ans
     put_found(answer, s);
 }
 
+// The body call.
 #[no_mangle]
 pub extern "C" fn plpgsql_transform_body(
     text: &[u8],
@@ -235,6 +245,7 @@ pub extern "C" fn plpgsql_transform_body(
     put_called(answer, r);
 }
 
+// The function call.
 #[no_mangle]
 pub extern "C" fn plpgsql_preprocess(
     text: &[u8],
@@ -256,6 +267,7 @@ pub extern "C" fn plpgsql_preprocess(
     put_called(answer, r);
 }
 
+// `is_closed`: whether a body may be rewritten apart from what stands behind it.
 #[no_mangle]
 pub extern "C" fn plpgsql_is_closed(text: &[u8], map: &mut [u8], answer: &mut [u32; 4])
     ensures { λ _. ⌜ now (map .exit) ≡ mapExit (now (text .entry)) (now (map .entry)) [] ⌝ }

@@ -10,9 +10,10 @@ use lib.ListN.{length, take, drop}
 use lib.Seq.{drop-append-add, drop-drop}
 use Rattle.spec.proofs.Apart.{apart}
 use Rattle.spec.proofs.Choice.{by}
+use Rattle.spec.proofs.RefusalCalls.{function-passes}
 use Rattle.spec.proofs.MapLaws.{map-length, text-length}
 use Rattle.spec.proofs.RecordLaws.{numbers-length}
-use Rattle.spec.proofs.WalkLaws.{marked-behind}
+use Rattle.spec.proofs.WalkLaws.{marked-kept}
 use Rattle.spec.specs.Bytes.{ascii}
 use Rattle.spec.specs.Search.{first, keywordHere}
 use Rattle.spec.specs.Map.{mapOf, marked, markedText}
@@ -42,11 +43,7 @@ pub parsed-names : (ds : List Declared) → parsedOf ds ≡ TooManyNames → 512
 unfolding parsedOf
 parsed-names ds e = by (ltb 512 (length ds)) (λ p. ltb-true 512 (length ds) p) (λ p. let q : Count (length ds) (length (packed ds)) ≡ TooManyNames = rw p at e in absurd (apart (cc)))
 
--- the call's result, with few names and with too many
-pub function-ran : (xs : List ℕ) → length (recordsOf xs) ≤ 512 → functionResult xs ≡ resultOf (recordsOf xs) (rewriting (bodyOf xs))
-unfolding functionResult recordLimit
-function-ran xs h = rw (le-ltb 512 (length (recordsOf xs)) h) refl
-
+-- the call's result with too many names
 pub function-refused : (xs : List ℕ) → 512 < length (recordsOf xs) → functionResult xs ≡ withoutRecords rewritten.TooManyNames []
 unfolding functionResult recordLimit
 function-refused xs h = rw (lt-ltb 512 (length (recordsOf xs)) h) refl
@@ -93,11 +90,7 @@ at-most (rewritten.QualifiedTarget q l) n m h = omega arith
 at-most (rewritten.UsingClause l) n m h = omega arith
 at-most rewritten.ResultTooLong n m h = omega arith
 
--- the map in front of the work buffer is the text's, and what is behind the size stays
-pub work-map : (xs d : List ℕ) → marked xs (keptBehind (mapOf xs) d) ≡ markedText xs
-unfolding keptBehind markedText
-work-map xs d = marked-behind xs (mapOf xs) (drop (length (mapOf xs)) d) (omega (arith, map-length xs))
-
+-- what is behind the size stays
 pub kept-drop : (ms d : List ℕ) (n : ℕ) → length ms ≤ n → drop n (keptBehind ms d) ≡ drop n d
 unfolding keptBehind
 kept-drop ms d n h =
@@ -111,7 +104,8 @@ unfolding zeroedTo
 zeroed-same n ys d e h = rw h refl
 
 -- the texts are at most twice as long as the text
-packed-fits : (xs : List ℕ) → length (packed (recordsOf xs)) ≤ 2 * length xs
+pub packed-fits : (xs : List ℕ) → length (packed (recordsOf xs)) ≤ 2 * length xs
+unfolding recordsIn
 packed-fits xs =
     let t = markedText xs in
     let f = first (keywordHere (ascii "DECLARE")) 0 t in
@@ -120,13 +114,13 @@ packed-fits xs =
     let a = sectionOf f g .from in
     let b = sectionOf f g .to in
     let e : length (packed (recordsOfSection (between a b t))) ≡ length (packed (recordsOf xs)) =
-    ap (λ (ds : List Declared). length (packed ds)) (s .found ∙ records-in xs) in
+    ap (λ (ds : List Declared). length (packed ds)) (ap recordsOfSection (s .found) ∙ records-in xs) in
     omega (arith, packed-small (between a b t), between-length t a b (s .ordered) (s .within), text-length xs, s .within, e)
 
 -- `work` held the text's map when the declarations were read
 module _ (xs work work′ : List ℕ) (m : work′ ≡ keptBehind (mapOf xs) work) where
   mapped : marked xs work′ ≡ markedText xs
-  mapped = ap (marked xs) m ∙ work-map xs work
+  mapped = ap (marked xs) m ∙ marked-kept xs work
 
   the-records : recordsIn (marked xs work′) ≡ recordsOf xs
   the-records = ap recordsIn mapped ∙ records-in xs
@@ -142,7 +136,8 @@ module _ (xs work work′ : List ℕ) (m : work′ ≡ keptBehind (mapOf xs) wor
     the-body = sym (b ∙ ap (λ t. bodyFrom (first (keywordHere (ascii "BEGIN")) 0 t) xs) mapped)
 
     result : functionResult xs ≡ resultOf (recordsOf xs) (rewriting (drop start xs))
-    result = function-ran xs (told .0) ∙ ap (λ ys. resultOf (recordsOf xs) (rewriting ys)) the-body
+    unfolding recordLimit
+    result = function-passes xs (told .0) ∙ ap (λ ys. resultOf (recordsOf xs) (rewriting ys)) the-body
 
     pub count-small : c ≤ 512
     count-small = omega (arith, told .0, told .1)

@@ -13,19 +13,13 @@ use lib.Seq.{getD-drop}
 use Rattle.spec.proofs.Choice.{by, and-left, and-right, and-both}
 use Rattle.spec.proofs.FirstLaws.{first-least}
 use Rattle.spec.proofs.LengthLaws.{word-in}
-use Rattle.spec.proofs.WalkLaws.{starts-case, back-step}
+use Rattle.spec.proofs.WalkLaws.{starts-length, back-step}
 use Rattle.spec.specs.Bytes.{within, isLower, isUpper, isIdent, upper}
 use Rattle.spec.specs.Lists.{all}
 use Rattle.spec.specs.Map.{Marked, live, byte, bytes, frontByte, frontLive}
 use Rattle.spec.specs.Search.{first, startsIgnoringCase, wordHere}
 use Rattle.spec.specs.SelectInto.{depthOf, topWordHere}
-use Rattle.scanner.proofs.KeywordLaws.{prefix-by-len}
 use Rattle.spec.specs.declared.Found.the-variants.{At}
-
--- a text that starts with a word is at least as long
-starts-length : (w : List ℕ) (t : List Marked) → startsIgnoringCase w t ≡ true → length w ≤ length t
-unfolding bytes
-starts-length w t h = omega (arith, prefix-by-len upper w (bytes t) (sym (starts-case w t) ∙ h), length-map t byte)
 
 lower-upper : (x : ℕ) → isLower x ≡ true → isUpper (x - 32) ≡ true
 unfolding isLower isUpper within

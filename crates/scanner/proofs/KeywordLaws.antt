@@ -10,20 +10,13 @@ use lib.ListN.{length, take, drop, getD, length-drop}
 use lib.Seq.{drop-drop}
 use Rattle.spec.proofs.Choice.{by, and-right}
 use Rattle.spec.proofs.MapLaws.{marked-length}
-use Rattle.spec.proofs.WalkLaws.{prefixBy, prefix-hit, starts-case-at, passesAt, front-live, front-byte, byte-before, first-hit, first-miss}
+use Rattle.spec.proofs.WalkLaws.{prefix-by-len, prefixBy, prefix-hit, starts-case-at, passesAt, front-live, front-byte, byte-before, first-hit, first-miss}
 use Rattle.spec.proofs.FirstLaws.{none-first}
 use Rattle.spec.specs.Bytes.{within, isDigit, isLower, isUpper, isIdent, isWord, upper}
 use Rattle.spec.specs.Map.{marked, frontByte}
 use Rattle.spec.specs.Search.{first, wordHere, keywordHere}
 use Rattle.spec.specs.declared.Found.the-variants.{At, Nothing}
 use Rattle.scanner.specs.Edges.{edges}
-
--- the text compared by f is at least as long as the word
-pub prefix-by-len : (f : ℕ → ℕ) (w xs : List ℕ) → prefixBy f w xs ≡ true → length w ≤ length xs
-unfolding prefixBy
-prefix-by-len f [] xs h = zero-le
-prefix-by-len f (a ∷ w) [] h = absurd (false≢true h)
-prefix-by-len f (a ∷ w) (x ∷ xs) h = suc-le-suc (prefix-by-len f w xs (and-right (eqb (f x) (f a)) (prefixBy f w xs) h))
 
 -- one byte more of a word compared with the text at offset i
 pub next-byte : (f : ℕ → ℕ) (w xs : List ℕ) (i j : ℕ) → j < length w → i + j < length xs → f (getD xs (i + j) 0) ≡ f (getD w j 0)

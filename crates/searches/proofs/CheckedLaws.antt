@@ -12,7 +12,7 @@ use lib.ListN.{length, drop}
 use lib.Seq.{sets, sets-eq}
 use Rattle.spec.proofs.Choice.{by}
 use Rattle.spec.proofs.MapLaws.{map-length}
-use Rattle.spec.proofs.WalkLaws.{marked-behind}
+use Rattle.spec.proofs.WalkLaws.{marked-kept}
 use Rattle.spec.proofs.SearchLaws.{check-only}
 use Rattle.spec.specs.Map.{mapOf, marked, markedText}
 use Rattle.spec.specs.Answers.{searchLimit, checkOf, exitOf, keptBehind, filledAnswer, mapCheck, mapExit, splitCheck, requoteCheck, refusalPlace}
@@ -20,11 +20,6 @@ use Rattle.spec.specs.declared.Check.{Check}
 use Rattle.spec.specs.declared.Check.the-variants.{Passed, Refused}
 use Rattle.spec.specs.declared.Refusal.{Refusal}
 use Rattle.spec.specs.declared.Refusal.the-variants.{TextTooLong, BufferTooShort, NotAscii}
-
--- the text beside a lent map that has the text's map in front
-pub marked-kept : (xs lent : List ℕ) → marked xs (keptBehind (mapOf xs) lent) ≡ markedText xs
-unfolding keptBehind markedText
-marked-kept xs lent = marked-behind xs (mapOf xs) (drop (length (mapOf xs)) lent) (omega (arith, map-length xs))
 
 -- the check by the length of the lent map
 pub map-fits : (xs lent needle : List ℕ) → length xs ≤ length lent → mapCheck xs lent needle ≡ checkOf 65536 true xs needle

@@ -12,7 +12,7 @@ use Rattle.spec.proofs.Choice.{and-left, and-right}
 use Rattle.spec.proofs.FirstLaws.{first-least}
 use Rattle.spec.proofs.LengthLaws.{word-in}
 use Rattle.spec.proofs.MapLaws.{marked-bytes, marked-length}
-use Rattle.spec.proofs.WalkLaws.{bytes-drop, first-within}
+use Rattle.spec.proofs.WalkLaws.{bytes-drop, first-within, starts-length}
 use Rattle.spec.proofs.PartLaws.{marked-part, bytes-part}
 use Rattle.spec.specs.Bytes.{ascii, isIdent, isW, upper}
 use Rattle.spec.specs.Lists.{dropEnd}
@@ -28,13 +28,6 @@ use Rattle.select_into.proofs.EndLaws.{listed-trimmed}
 use Rattle.select_into.proofs.SetLaws.{lines-bytes, indentation-bytes}
 
 -- ---- where a keyword stands
-
-starts-length : (w : List ℕ) (t : List Marked) → startsIgnoringCase w t ≡ true → length w ≤ length t
-unfolding startsIgnoringCase
-starts-length [] t h = zero-le
-starts-length (a ∷ w) [] h = absurd (false≢true h)
-starts-length (a ∷ w) (x ∷ t) h =
-    suc-le-suc (starts-length w t (and-right (eqb (upper (byte x)) (upper a)) (startsIgnoringCase w t) h))
 
 -- all of it stands within the text
 pub word-within : (w xs ms : List ℕ) (i j : ℕ) → first (topWordHere w) i (marked xs ms) ≡ At j → j + length w ≤ length xs

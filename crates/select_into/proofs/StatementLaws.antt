@@ -9,7 +9,7 @@ use lib.ListN.{length, take, drop, getD, length-drop}
 use lib.Seq.{take-suc, getD-drop}
 use Rattle.spec.proofs.BytesLaws.{bytes-append}
 use Rattle.spec.proofs.FirstLaws.{first-least}
-use Rattle.spec.proofs.JoinedPieces.{pieces-cons}
+use Rattle.spec.proofs.JoinedPieces.{live-byte, pieces-cons}
 use Rattle.spec.proofs.MapLaws.{marked-length}
 use Rattle.spec.proofs.WalkLaws.{drop-step, bytes-drop, piecesAt, pieces-cut, pieces-last}
 use Rattle.spec.proofs.PartLaws.{marked-part}
@@ -17,10 +17,6 @@ use Rattle.spec.specs.Map.{Marked, live, quoted, marked, bytes, isLiveByte}
 use Rattle.spec.specs.Search.{first, byteHere, pieces}
 use Rattle.spec.specs.SelectInto.{selectStatement, joinSelects, selectInto}
 use Rattle.spec.specs.declared.Found.the-variants.{At, Nothing}
-
-live-byte : (b : ℕ) (x : Marked) → isLiveByte b x ≡ true → x ≡ live b
-live-byte b (live c) h = ap live (eqb-true c b h)
-live-byte b (quoted c) h = absurd (false≢true h)
 
 front-live : (b : ℕ) (back u v : List Marked) (x : Marked) → u ≡ x ∷ v → byteHere b back u ≡ true → x ≡ live b
 unfolding byteHere

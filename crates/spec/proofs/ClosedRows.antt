@@ -1,10 +1,11 @@
--- Why each clause of *closed* is needed: a text that only this clause keeps from being closed, and a text that is lost or
--- changed behind it. Then texts that are closed, so that the joining law speaks of something. Assumes nothing.
+-- Why each clause of *closed* is needed: a text that is not closed, as it breaks this clause, and a text that is lost or changed
+-- behind it. Then texts that are closed, and two that are accepted joined, so that the joining law speaks of something.
+-- Assumes nothing.
 use mathlib.Core.Path.{_≡_, refl}
 use mathlib.Core.Bool.{true}
 use Rattle.spec.specs.Bytes.{ascii}
 use Rattle.spec.specs.Closed.{isClosed}
-use Rattle.spec.specs.Table.{isLoss}
+use Rattle.spec.specs.Table.{body, row, isLoss}
 use Rattle.spec.specs.Computed.{computed}
 
 last-byte-live : isLoss "elsi" "f" ≡ true
@@ -47,6 +48,10 @@ dollar-does-not-excuse : isLoss "$$$$RAISE;" "NOTICE" ≡ true
 unfolding computed
 dollar-does-not-excuse = refl
 
+literal-does-not-excuse : isLoss "$$x$$RAISE;" "NOTICE" ≡ true
+unfolding computed
+literal-does-not-excuse = refl
+
 assignment-closed : isClosed (ascii "IF a THEN v := $$x;y$$; END IF;") ≡ true
 unfolding computed
 assignment-closed = refl
@@ -58,3 +63,19 @@ select-closed = refl
 raise-closed : isClosed (ascii "RAISE EXCEPTION 'bus locked'; prefix_raise := 1;") ≡ true
 unfolding computed
 raise-closed = refl
+
+front-closed : isClosed (ascii "RAISE EXCEPTION 'a';") ≡ true
+unfolding computed
+front-closed = refl
+
+front-alone : body "RAISE EXCEPTION 'a';" ≡ row 0 0 25 0 "SELECT RAISE(ABORT, 'a');"
+unfolding computed
+front-alone = refl
+
+behind-alone : body "v := 1 ;" ≡ row 0 0 10 0 "SET v = 1;"
+unfolding computed
+behind-alone = refl
+
+joined : body "RAISE EXCEPTION 'a';v := 1 ;" ≡ row 0 0 35 0 "SELECT RAISE(ABORT, 'a');SET v = 1;"
+unfolding computed
+joined = refl

@@ -34,7 +34,7 @@ pieces-cons f back (x ∷ t) =
     onto [] = (x ∷ [], [], refl)
     onto (p ∷ ps) = (x ∷ p, ps, refl)
 
-live-byte : (b : ℕ) (x : Marked) → isLiveByte b x ≡ true → x ≡ live b
+pub live-byte : (b : ℕ) (x : Marked) → isLiveByte b x ≡ true → x ≡ live b
 live-byte b (live c) h = ap live (eqb-true c b h)
 live-byte b (quoted c) h = absurd (false≢true h)
 

@@ -1,6 +1,6 @@
 -- What the two calls answer, by what the passes give: 7 exactly if too many names are declared, the body call never 7 and
 -- with no records, and each other answer exactly if the passes give it. Assumes nothing.
-use mathlib.Core.Path.{_≡_, refl, sym}
+use mathlib.Core.Path.{_≡_, refl, sym, ap}
 use mathlib.Core.Logic.{_↔_}
 use mathlib.Core.List.{List, [], _∷_, _++_}
 use Prim.Native.Nat.{ℕ, _≤_, _<_}
@@ -13,11 +13,12 @@ use Rattle.spec.proofs.Choice.{by}
 use Rattle.spec.proofs.RefusalLaws.{Accepts, Qualifies, Uses, Exceeds, accepted-exactly, qualified-exactly, using-exactly, too-long-exactly}
 use Rattle.spec.specs.Body.{Rewriting, accepted, qualifiedTarget, usingClause, resultTooLong, rewriting}
 use Rattle.spec.specs.Declarations.{recordLimit, Declared, recordsOf, bodyOf}
-use Rattle.spec.specs.Answers.{callNumbers, resultOf, bodyResult, functionResult, callAnswer, bodyCheck, bodyAnswer}
+use Rattle.spec.specs.Answers.{callNumbers, resultOf, bodyResult, functionResult, callAnswer, bodyCheck, bodyAnswer, functionCheck, functionAnswer}
 use Rattle.spec.specs.declared.Refusal.{Refusal}
 use Rattle.spec.specs.declared.Refusal.the-variants.{TextTooLong, BufferTooShort, NotAscii}
 use Rattle.spec.specs.declared.Check.{Check}
 use Rattle.spec.specs.declared.Check.the-variants as check
+use Rattle.spec.specs.declared.Rewritten.{Rewritten}
 use Rattle.spec.specs.declared.Rewritten.the-variants as rewritten
 
 -- ---- what is answered for what the passes give
@@ -196,3 +197,48 @@ pub function-passes : (xs : List ℕ)
     → functionResult xs ≡ resultOf (recordsOf xs) (rewriting (bodyOf xs))
 unfolding functionResult
 function-passes xs h = rw (le-ltb recordLimit (length (recordsOf xs)) h)
+
+-- ---- the numbers handed back, the checks included
+
+-- 0 and 4 to 7 are given exactly if the checks pass and the answer behind them has the number
+called-number : (k : Check) (a : Rewritten) (n : ℕ) → (n ≡ 1 → ⊥) → (n ≡ 2 → ⊥) → (n ≡ 3 → ⊥)
+    → (callNumbers (callAnswer k a) .number ≡ n) ↔ ((k ≡ check.Passed) × (callNumbers a .number ≡ n))
+called-number check.Passed a n x y z = ((λ h. (refl, h)), (λ w. w .1))
+called-number (check.Refused TextTooLong) a n x y z = ((λ h. absurd (x (sym h))), (λ w. let e = w .0 in absurd (apart (cc))))
+called-number (check.Refused BufferTooShort) a n x y z = ((λ h. absurd (z (sym h))), (λ w. let e = w .0 in absurd (apart (cc))))
+called-number (check.Refused (NotAscii i)) a n x y z = ((λ h. absurd (y (sym h))), (λ w. let e = w .0 in absurd (apart (cc))))
+
+-- 1, 3 and 2 exactly if the checks say so
+called-refused : (k : Check) (a : Rewritten) (f : Refusal) → ((g : Refusal) → a ≡ rewritten.Refused g → ⊥)
+    → (callAnswer k a ≡ rewritten.Refused f) ↔ (k ≡ check.Refused f)
+called-refused check.Passed a f h = ((λ e. absurd (h f e)), (λ e. absurd (apart (cc))))
+called-refused (check.Refused g) a f h = ((λ e. let i : g ≡ f = cc in ap check.Refused i), (λ e. let i : g ≡ f = cc in ap rewritten.Refused i))
+
+pub body-number : (xs out a b : List ℕ) (n : ℕ) → (n ≡ 1 → ⊥) → (n ≡ 2 → ⊥) → (n ≡ 3 → ⊥)
+    → (callNumbers (bodyAnswer xs out a b) .number ≡ n)
+    ↔ ((bodyCheck xs out a b ≡ check.Passed) × (callNumbers (resultOf [] (rewriting xs) .answer) .number ≡ n))
+unfolding bodyAnswer bodyResult
+body-number xs out a b n = called-number (bodyCheck xs out a b) (resultOf [] (rewriting xs) .answer) n
+
+pub body-refused : (xs out a b : List ℕ) (f : Refusal) → (bodyAnswer xs out a b ≡ rewritten.Refused f) ↔ (bodyCheck xs out a b ≡ check.Refused f)
+unfolding bodyAnswer
+body-refused xs out a b f = called-refused (bodyCheck xs out a b) (bodyResult xs .answer) f (body-not-refused xs)
+
+-- the answer of the function call behind its checks is `functionResult`: see `too-many-names` and `function-passes`
+pub function-number : (xs out a b text numbers : List ℕ) (n : ℕ) → (n ≡ 1 → ⊥) → (n ≡ 2 → ⊥) → (n ≡ 3 → ⊥)
+    → (callNumbers (functionAnswer xs out a b text numbers) .number ≡ n)
+    ↔ ((functionCheck xs out a b text numbers ≡ check.Passed) × (callNumbers (functionResult xs .answer) .number ≡ n))
+unfolding functionAnswer
+function-number xs out a b text numbers n = called-number (functionCheck xs out a b text numbers) (functionResult xs .answer) n
+
+pub function-refused : (xs out a b text numbers : List ℕ) (f : Refusal)
+    → (functionAnswer xs out a b text numbers ≡ rewritten.Refused f) ↔ (functionCheck xs out a b text numbers ≡ check.Refused f)
+unfolding functionAnswer functionResult
+function-refused xs out a b text numbers f =
+    called-refused (functionCheck xs out a b text numbers) (functionResult xs .answer) f not-refused
+  where
+    not-refused : (g : Refusal) → functionResult xs .answer ≡ rewritten.Refused g → ⊥
+    not-refused g h =
+        by (ltb recordLimit (length (recordsOf xs)))
+        (λ e. let q : rewritten.TooManyNames ≡ rewritten.Refused g = rw e at h in absurd (apart (cc)))
+        (λ e. result-not-refused (recordsOf xs) (rewriting (bodyOf xs)) g (rw e at h))

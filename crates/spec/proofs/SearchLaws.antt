@@ -13,7 +13,7 @@ use lib.ListN.{length, take, drop, getD, length-drop, length-map}
 use lib.Seq.{getD-drop, drop-drop}
 use Rattle.spec.proofs.Choice.{by, cond-case, and-left, and-right, and-both}
 use Rattle.spec.proofs.MapLaws.{map-length, marked-length, text-length}
-use Rattle.spec.proofs.WalkLaws.{climb, any-default, map-take, mark-skipped, mark-word, marked-at, live-inside, word-at, needle-at, byte-at, byte-before, bytes-drop, prefixBy, starts-case, passesAt, while-take, while-drop, while-length, while-passes, while-fails, while-least, while-passes-at, while-fails-at, while-least-at, while-hit, cutsFrom, cutsAt, starts-cuts, cuts-end, cuts-hit, cuts-miss}
+use Rattle.spec.proofs.WalkLaws.{climb, any-default, map-take, mark-skipped, mark-word, marked-at, live-inside, word-at, needle-at, byte-at, byte-before, bytes-drop, prefixBy, prefix-by-len, starts-case, passesAt, while-take, while-drop, while-length, while-passes, while-fails, while-least, while-passes-at, while-fails-at, while-least-at, while-hit, cutsFrom, cutsAt, starts-cuts, cuts-end, cuts-hit, cuts-miss}
 use Rattle.spec.proofs.FirstLaws.{apart, LeastOf, NoneOf, Says, found-least, least-found, found-none, none-found, sought-least, least-sought, sought-none, none-sought}
 use Rattle.spec.specs.Bytes.{ascii, within, isDigit, isLower, isUpper, isIdent, isWord, isW, isN, isHigh, upper}
 use Rattle.spec.specs.Lists.{isEmpty, takeWhile, dropWhile, any, keep}
@@ -37,12 +37,6 @@ pub record Same (f : ℕ → ℕ) (w xs : List ℕ) (j : ℕ) : Type 0 where
   pub fits : j + length w ≤ length xs
   pub same : (i : ℕ) → i < length w → f (getD xs (j + i) 0) ≡ f (getD w i 0)
 
-prefix-fits : (f : ℕ → ℕ) (w xs : List ℕ) → prefixBy f w xs ≡ true → length w ≤ length xs
-unfolding prefixBy
-prefix-fits f [] xs h = zero-le
-prefix-fits f (a ∷ w) [] h = absurd (false≢true h)
-prefix-fits f (a ∷ w) (x ∷ xs) h = suc-le-suc (prefix-fits f w xs (and-right (eqb (f x) (f a)) (prefixBy f w xs) h))
-
 prefix-same : (f : ℕ → ℕ) (w xs : List ℕ) → prefixBy f w xs ≡ true → (i : ℕ) → i < length w → f (getD xs i 0) ≡ f (getD w i 0)
 unfolding prefixBy
 prefix-same f [] xs h i k = absurd (omega arith)
@@ -63,7 +57,7 @@ same-prefix f (a ∷ w) (x ∷ xs) h s =
 pub prefix-at : (f : ℕ → ℕ) (w xs : List ℕ) (j : ℕ) → j ≤ length xs → prefixBy f w (drop j xs) ≡ true → Same f w xs j
 prefix-at f w xs j h e =
     record {
-      fits = omega (arith, prefix-fits f w (drop j xs) e, length-drop j xs);
+      fits = omega (arith, prefix-by-len f w (drop j xs) e, length-drop j xs);
       same = λ i k. ap f (sym (getD-drop j xs i 0)) ∙ prefix-same f w (drop j xs) e i k;
     }
 

@@ -1,7 +1,7 @@
 -- A text read from an index on: what stands there, one step of each search, of `takeWhile` and `dropWhile`, and the pieces
 -- up to a separator, for every test. Assumes nothing.
 use mathlib.Core.Path.{_≡_, refl, sym, ap, _∙_}
-use mathlib.Core.Bool.{Bool, true, false, cond, not, _&&_}
+use mathlib.Core.Bool.{Bool, true, false, cond, not, _&&_, false≢true}
 use mathlib.Core.List.{List, [], _∷_, _++_, map, reverse, reverse-append}
 use Prim.Native.Nat.{ℕ, zero, suc, _+_, _-_, _≤_, _<_, zero-le, suc-le-suc}
 use native.Mathlib.Nat.{le-of-suc-le-suc}
@@ -11,12 +11,13 @@ use borrow.Author.Tests.{ltb-true, ltb-false, eq-eqb, ne-eqb}
 use lib.Dec.{eqb, ltb, eqb·suc-zero}
 use lib.ListN.{length, take, drop, getD, length-reverse, length-drop, drop-of-length-le, List·getD-eq-default}
 use lib.Seq.{length-take-le, take-suc, drop-cons, drop-nil, getD-drop, drop-drop}
-use Rattle.spec.proofs.Choice.{by}
-use Rattle.spec.proofs.MapLaws.{mark-byte, marked-length, marked-bytes}
+use Rattle.spec.proofs.Choice.{by, and-right}
+use Rattle.spec.proofs.MapLaws.{mark-byte, map-length, marked-length, marked-bytes}
 use Rattle.spec.specs.Bytes.{upper, isWord, isN}
 use Rattle.spec.specs.Lists.{takeWhile, dropWhile}
-use Rattle.spec.specs.Map.{Marked, live, quoted, byte, isLive, mark, marked, bytes, frontByte, frontLive, isLiveByte}
+use Rattle.spec.specs.Map.{Marked, live, quoted, byte, isLive, mark, mapOf, marked, markedText, bytes, frontByte, frontLive, isLiveByte}
 use Rattle.spec.specs.Search.{Test, firstFrom, first, startsIgnoringCase, starts, wordHere, byteHere, needleHere, isSkipped, isWordMark, ontoFirst, piecesFrom, startsFrom}
+use Rattle.spec.specs.Answers.{keptBehind}
 use Rattle.spec.specs.declared.Found.the-variants.{At, Nothing}
 
 -- ---- lists
@@ -86,6 +87,11 @@ unfolding marked
 marked-behind [] ms r h = refl
 marked-behind (c ∷ cs) [] r h = absurd (omega arith)
 marked-behind (c ∷ cs) (m ∷ ms) r h = ap (λ (t : List Marked). mark m c ∷ t) (marked-behind cs ms r (le-of-suc-le-suc h))
+
+-- the map in front of a buffer is the text's
+pub marked-kept : (xs lent : List ℕ) → marked xs (keptBehind (mapOf xs) lent) ≡ markedText xs
+unfolding keptBehind markedText
+marked-kept xs lent = marked-behind xs (mapOf xs) (drop (length (mapOf xs)) lent) (omega (arith, map-length xs))
 
 -- the element at i is the byte at i with the map byte at i; past the map's end a byte is live
 pub marked-at : (xs ms : List ℕ) (i : ℕ) (d : Marked) → i < length xs → getD (marked xs ms) i d ≡ mark (getD ms i 0) (getD xs i 0)
@@ -176,6 +182,20 @@ prefixBy f (a ∷ w) [] = false
 prefixBy f (a ∷ w) (x ∷ xs) =
     let more = prefixBy f w xs in
     eqb (f x) (f a) && more
+
+-- a text in front of which a word stands is at least as long
+pub prefix-by-len : (f : ℕ → ℕ) (w xs : List ℕ) → prefixBy f w xs ≡ true → length w ≤ length xs
+unfolding prefixBy
+prefix-by-len f [] xs h = zero-le
+prefix-by-len f (a ∷ w) [] h = absurd (false≢true h)
+prefix-by-len f (a ∷ w) (x ∷ xs) h = suc-le-suc (prefix-by-len f w xs (and-right (eqb (f x) (f a)) (prefixBy f w xs) h))
+
+pub starts-length : (w : List ℕ) (t : List Marked) → startsIgnoringCase w t ≡ true → length w ≤ length t
+unfolding startsIgnoringCase
+starts-length [] t h = zero-le
+starts-length (a ∷ w) [] h = absurd (false≢true h)
+starts-length (a ∷ w) (x ∷ t) h =
+    suc-le-suc (starts-length w t (and-right (eqb (upper (byte x)) (upper a)) (startsIgnoringCase w t) h))
 
 -- the comparison from an index of w and an index of xs on: all of w is compared, xs is at its end, the bytes agree, or not
 module _ (f : ℕ → ℕ) (w xs : List ℕ) (k i : ℕ) where

@@ -45,7 +45,8 @@ raisesFollowed p (x ∷ t) =
     let here = isFollowed (drop 4 t) && more in
     cond (wordHere isIdent (ascii "RAISE") p (x ∷ t)) here more
 
--- a closed body
+-- a closed body: its last byte is a live `;`, no backslash stands anywhere in it (byte 92), its spans are plain, and each RAISE
+-- has a word behind it
 unfoldable pub isClosed : List ℕ → Bool
 isClosed xs =
     endsLive (markedText xs)

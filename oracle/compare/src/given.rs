@@ -7,6 +7,9 @@ use texts::hex;
 /// The texts in a file, one for each line.
 pub fn texts_in(path: &str) -> Result<Vec<String>, String> {
     let file = fs::read_to_string(path).map_err(|error| format!("`{path}`: {error}"))?;
+    if file.is_empty() {
+        return Err(format!("`{path}` has no question"));
+    }
     file.lines().map(text_of).collect()
 }
 

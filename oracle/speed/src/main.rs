@@ -7,7 +7,7 @@ mod texts;
 
 use std::process::ExitCode;
 
-use crate::texts::Letters::{First, Last};
+use crate::texts::Letters::{First, Last, Middle};
 use crate::texts::{
     exploding, falling, function, long_names, mixed, realistic, repeated, repeated_names, rising,
     FAMILIES,
@@ -85,7 +85,10 @@ fn functions(usual: f64, missed: &mut Vec<String>) {
         ("512 long names in rising order, 16 KB", long_names(16 * KB, Last, rising)),
         ("512 long names in mixed order, 16 KB", long_names(16 * KB, Last, mixed)),
         ("512 that differ in their first two bytes, 16 KB", long_names(16 * KB, First, falling)),
-        ("512 names, the last of them again and again, 16 KB", repeated_names(16 * KB)),
+        ("512 that differ in the middle, 16 KB", long_names(16 * KB, Middle, falling)),
+        ("512 of 2 bytes, the last again and again, 16 KB", repeated_names(16 * KB, 2, Last)),
+        ("the same with 13 bytes, differing in front", repeated_names(16 * KB, 13, First)),
+        ("the same with 13 bytes, differing in the middle", repeated_names(16 * KB, 13, Middle)),
     ];
     for (name, text) in texts {
         let (ours, rust) = (measure::our_function(&text), measure::reference_function(&text));

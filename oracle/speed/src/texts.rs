@@ -80,19 +80,28 @@ const FRONT: &str = "DECLARE ";
 const BACK: &str = "\nBEGIN END;";
 
 /// Where in a name the two letters stand that tell it apart from the others.
+#[derive(Clone, Copy)]
 pub enum Letters {
     First,
+    Middle,
     Last,
+}
+
+/// A name of so many bytes.
+fn name(number: usize, length: usize, letters: Letters) -> String {
+    let other = length - 2;
+    let before = match letters {
+        Letters::First => 0,
+        Letters::Middle => other / 2,
+        Letters::Last => other,
+    };
+    format!("{}{}{}", "n".repeat(before), two_letters(number), "n".repeat(other - before))
 }
 
 /// A function that declares so many long names in this order; the other bytes are the same in all.
 pub fn long_names(size: usize, letters: Letters, order: fn(usize) -> usize) -> String {
-    let other = repeated("n", (size - FRONT.len() - BACK.len()) / NAMES - "aa t;".len());
-    let [front, back] = match letters {
-        Letters::First => ["", &other],
-        Letters::Last => [other.as_str(), ""],
-    };
-    let names = (0..NAMES).map(|index| format!("{front}{}{back} t;", two_letters(order(index))));
+    let length = (size - FRONT.len() - BACK.len()) / NAMES - " t;".len();
+    let names = (0..NAMES).map(|index| format!("{} t;", name(order(index), length, letters)));
     declaring(&names.collect::<String>(), size)
 }
 
@@ -113,9 +122,9 @@ fn two_letters(number: usize) -> String {
     [number / 26, number % 26].map(|digit| char::from(b'a' + digit as u8)).iter().collect()
 }
 
-/// A function that declares so many names of two bytes, and the last of them again and again.
-pub fn repeated_names(size: usize) -> String {
-    let one = |number| format!("{} t;", two_letters(number));
+/// A function that declares names of this length in falling order, and the last of them again and again.
+pub fn repeated_names(size: usize, length: usize, letters: Letters) -> String {
+    let one = |index| format!("{} t;", name(falling(index), length, letters));
     let names: String = (0..NAMES).map(one).collect();
     let rest = size - names.len();
     declaring(&(names + &repeated(&one(NAMES - 1), rest)), size)

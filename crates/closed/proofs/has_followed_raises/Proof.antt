@@ -5,7 +5,7 @@ use Prim.Native.Nat.{_-_}
 use lib.ListN.{length, drop}
 use Rattle.spec.specs.Map.{marked}
 use Rattle.spec.specs.Closed.{raisesFollowed}
-use Rattle.closed.proofs.ClosedLaws.{raises-loose, raises-step, raises-end}
+use Rattle.closed.proofs.ClosedLaws.{raises-unfollowed, raises-step, raises-end}
 use Rattle.closed.proofs.has_followed_raises.Statement.{statement}
 use Rattle.closed.proofs.has_followed_raises.Tie as tie
 
@@ -18,11 +18,11 @@ abbrev μ-loop : tie.MeasureT-loop
 loop-holds : tie.Need-loop-holds Inv-loop μ-loop
 loop-holds c = refl
 
-is-loose-raise-requires : tie.Need-is-loose-raise-requires Inv-loop μ-loop
-is-loose-raise-requires c κs = search needs
+is-unfollowed-raise-requires : tie.Need-is-unfollowed-raise-requires Inv-loop μ-loop
+is-unfollowed-raise-requires c κs = search needs
 
 returns : tie.Need-returns Inv-loop μ-loop
-returns c = sym (c .before .before .before .loop .inv ∙ raises-loose (c .before .before .before .before .before .before .args .text .now) (c .before .before .before .before .before .before .args .map .now) (c .before .before .before .loop .i) (c .before .before .before .loop .before) (omega arith) (sym (c .before .is-loose-raise .ensures) ∙ c .if1 .taken))
+returns c = sym (c .before .before .before .loop .inv ∙ raises-unfollowed (c .before .before .before .before .before .before .args .text .now) (c .before .before .before .before .before .before .args .map .now) (c .before .before .before .loop .i) (c .before .before .before .loop .before) (omega arith) (sym (c .before .is-unfollowed-raise .ensures) ∙ c .if1 .taken))
 
 shared-slice-read-before : tie.Need-shared-slice-read-before Inv-loop μ-loop
 shared-slice-read-before c = search needs
@@ -34,7 +34,7 @@ loop-less : tie.Need-loop-less Inv-loop μ-loop
 loop-less c = search needs
 
 loop-again : tie.Need-loop-again Inv-loop μ-loop
-loop-again c = c .before .before .before .before .loop .inv ∙ raises-step (c .before .before .before .before .before .before .before .args .text .now) (c .before .before .before .before .before .before .before .args .map .now) (c .before .before .before .before .loop .i) (c .before .before .before .before .loop .before) (omega arith) (sym (c .before .before .is-loose-raise .ensures) ∙ c .before .if1 .left)
+loop-again c = c .before .before .before .before .loop .inv ∙ raises-step (c .before .before .before .before .before .before .before .args .text .now) (c .before .before .before .before .before .before .before .args .map .now) (c .before .before .before .before .loop .i) (c .before .before .before .before .loop .before) (omega arith) (sym (c .before .before .is-unfollowed-raise .ensures) ∙ c .before .if1 .left)
 
 returns-2 : tie.Need-returns-2 Inv-loop μ-loop
 returns-2 c = sym (c .before .loop .inv ∙ raises-end (c .before .before .before .before .args .text .now) (c .before .before .before .before .args .map .now) (c .before .loop .i) (c .before .loop .before) (omega arith))
@@ -46,7 +46,7 @@ has-followed-raises-spec =
     Inv-loop
     μ-loop
     loop-holds
-    is-loose-raise-requires
+    is-unfollowed-raise-requires
     returns
     shared-slice-read-before
     add-i

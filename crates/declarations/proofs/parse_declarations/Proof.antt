@@ -18,7 +18,8 @@ inside c = omega (arith, c .find-section .ensures .within, marked-length (c .bef
 
 -- its records are those of the text
 same : (c : tie.After-find-section) → recordsOfSection (marked (between (c .find-section .result .from) (c .find-section .result .to) (c .before .before .before .before .before .args .text .now)) (between (c .find-section .result .from) (c .find-section .result .to) (c .before .before .before .before .before .args .map .now))) ≡ recordsIn (marked (c .before .before .before .before .before .args .text .now) (c .before .before .before .before .before .args .map .now))
-same c = ap recordsOfSection (marked-between (c .before .before .before .before .before .args .text .now) (c .before .before .before .before .before .args .map .now) (c .find-section .result .from) (c .find-section .result .to)) ∙ c .find-section .ensures .found
+unfolding recordsIn
+same c = ap recordsOfSection (marked-between (c .before .before .before .before .before .args .text .now) (c .before .before .before .before .before .args .map .now) (c .find-section .result .from) (c .find-section .result .to)) ∙ ap recordsOfSection (c .find-section .ensures .found)
 
 find-section-requires : tie.Need-find-section-requires
 find-section-requires c κs = search needs

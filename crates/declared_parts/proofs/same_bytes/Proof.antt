@@ -8,10 +8,10 @@ use Rattle.declared_parts.proofs.same_bytes.Statement.{statement}
 use Rattle.declared_parts.proofs.same_bytes.Tie as tie
 
 abbrev Inv-loop : tie.InvT-loop
-Inv-loop x y i₀ i = (i ≤ length x) × (drop i x ≡ drop i y)
+Inv-loop x y n i₀ i = (i ≤ length x) × (drop i x ≡ drop i y)
 
 abbrev μ-loop : tie.MeasureT-loop
-μ-loop x y i₀ i = i
+μ-loop x y n i₀ i = i
 
 loop-holds : tie.Need-loop-holds Inv-loop μ-loop
 loop-holds c = (omega arith, same-end (c .before .args .x .now) (c .before .args .y .now) (c .if1 .taken))
@@ -28,6 +28,21 @@ sub-if2-2 c = search needs
 shared-slice-read-if2-2 : tie.Need-shared-slice-read-if2-2 Inv-loop μ-loop
 shared-slice-read-if2-2 c = search needs
 
+returns : tie.Need-returns Inv-loop μ-loop
+returns c = not-same (c .before .before .before .before .before .before .args .x .now) (c .before .before .before .before .before .before .args .y .now) (λ e. c .if2 .taken (ap (λ l. getD l (length (c .before .before .before .before .before .before .args .x .now) - c .before .before .before .before .loop .i) 0) e))
+
+sub-if3 : tie.Need-sub-if3 Inv-loop μ-loop
+sub-if3 c = search needs
+
+shared-slice-read-if3 : tie.Need-shared-slice-read-if3 Inv-loop μ-loop
+shared-slice-read-if3 c = search needs
+
+sub-if3-2 : tie.Need-sub-if3-2 Inv-loop μ-loop
+sub-if3-2 c = search needs
+
+shared-slice-read-if3-2 : tie.Need-shared-slice-read-if3-2 Inv-loop μ-loop
+shared-slice-read-if3-2 c = search needs
+
 sub-i : tie.Need-sub-i Inv-loop μ-loop
 sub-i c = search needs
 
@@ -35,16 +50,16 @@ loop-less : tie.Need-loop-less Inv-loop μ-loop
 loop-less c = search needs
 
 loop-again : tie.Need-loop-again Inv-loop μ-loop
-loop-again c = (omega arith, same-step (c .before .before .before .before .before .before .args .x .now) (c .before .before .before .before .before .before .args .y .now) (c .before .before .before .before .loop .i) (omega arith) (omega arith) (c .before .before .before .before .before .if1 .taken) (c .if2 .taken) (c .before .before .before .before .loop .inv .1))
-
-returns : tie.Need-returns Inv-loop μ-loop
-returns c = not-same (c .before .before .before .before .before .before .args .x .now) (c .before .before .before .before .before .before .args .y .now) (λ e. c .if2 .left (ap (λ l. getD l (c .before .before .before .before .loop .i - 1) 0) e))
+loop-again c = (omega arith, same-step (c .before .before .before .before .before .before .before .before .before .args .x .now) (c .before .before .before .before .before .before .before .before .before .args .y .now) (c .before .before .before .before .before .before .before .loop .i) (omega arith) (omega arith) (c .before .before .before .before .before .before .before .before .if1 .taken) (c .if3 .taken) (c .before .before .before .before .before .before .before .loop .inv .1))
 
 returns-2 : tie.Need-returns-2 Inv-loop μ-loop
-returns-2 c = same-all (c .before .before .before .args .x .now) (c .before .before .before .args .y .now) (c .before .loop .i) (omega arith) (c .before .loop .inv .1)
+returns-2 c = not-same (c .before .before .before .before .before .before .before .before .before .args .x .now) (c .before .before .before .before .before .before .before .before .before .args .y .now) (λ e. c .if3 .left (ap (λ l. getD l (c .before .before .before .before .before .before .before .loop .i - 1) 0) e))
 
 returns-3 : tie.Need-returns-3 Inv-loop μ-loop
-returns-3 c = not-same (c .before .args .x .now) (c .before .args .y .now) (λ e. c .if1 .left (ap length e))
+returns-3 c = same-all (c .before .before .before .args .x .now) (c .before .before .before .args .y .now) (c .before .loop .i) (omega arith) (c .before .loop .inv .1)
+
+returns-4 : tie.Need-returns-4 Inv-loop μ-loop
+returns-4 c = not-same (c .before .args .x .now) (c .before .args .y .now) (λ e. c .if1 .left (ap length e))
 
 pub same-bytes-spec : {M : Type 1} → statement M
 same-bytes-spec =
@@ -57,9 +72,14 @@ same-bytes-spec =
     shared-slice-read-if2
     sub-if2-2
     shared-slice-read-if2-2
+    returns
+    sub-if3
+    shared-slice-read-if3
+    sub-if3-2
+    shared-slice-read-if3-2
     sub-i
     loop-less
     loop-again
-    returns
     returns-2
-    returns-3)
+    returns-3
+    returns-4)

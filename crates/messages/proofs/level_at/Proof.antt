@@ -1,5 +1,5 @@
 use Rattle.spec.specs.Bytes.{ascii, upper}
-use Rattle.messages.proofs.TextLaws.{prefix-within}
+use Rattle.spec.proofs.WalkLaws.{prefix-by-len}
 use native.Mathlib.Omega.{arith}
 use mathlib.Core.Path.{sym, _∙_}
 use Rattle.messages.proofs.ReadingLaws.{level-first, level-rest}
@@ -17,7 +17,7 @@ is-other-level-requires : tie.Need-is-other-level-requires
 is-other-level-requires c κs = search needs
 
 returns : tie.Need-returns
-returns c = ((λ t e. sym (level-first t _ e (sym (c .before .starts-ignoring-case .ensures) ∙ c .if1 .taken))), prefix-within upper (ascii "EXCEPTION") (c .before .before .before .before .args .rest .now) (sym (c .before .starts-ignoring-case .ensures) ∙ c .if1 .taken))
+returns c = ((λ t e. sym (level-first t _ e (sym (c .before .starts-ignoring-case .ensures) ∙ c .if1 .taken))), prefix-by-len upper (ascii "EXCEPTION") (c .before .before .before .before .args .rest .now) (sym (c .before .starts-ignoring-case .ensures) ∙ c .if1 .taken))
 
 returns-2 : tie.Need-returns-2
 returns-2 c = ((λ t e. sym (level-rest t _ e (sym (c .before .before .before .starts-ignoring-case .ensures) ∙ c .before .before .if1 .left) ∙ (c .before .is-other-level .ensures t e ∙ rw (c .if2 .taken)))), omega arith)

@@ -9,7 +9,7 @@ use Rattle.spec.specs.Map.{bytes, lives}
 use Rattle.spec.specs.Body.{accepted, forget}
 use Rattle.spec.specs.Raise.{Fate, message, fateText}
 use Rattle.messages.specs.Readings.{aborting}
-use Rattle.messages.proofs.TextLaws.{prefix-within}
+use Rattle.spec.proofs.WalkLaws.{prefix-by-len}
 use Rattle.messages.proofs.MessageLaws.{message-le}
 use Rattle.messages.proofs.UsingLaws.{at-using, at-plain}
 use borrow.Author.Needs.{needs}
@@ -23,7 +23,7 @@ starts-ignoring-case-requires : tie.Need-starts-ignoring-case-requires
 starts-ignoring-case-requires c κs = search needs
 
 read-using-requires : tie.Need-read-using-requires
-read-using-requires c κs = (prefix-within upper (ascii "USING") (c .before .before .before .before .args .content .now) (sym (c .before .starts-ignoring-case .ensures) ∙ c .if1 .taken), omega arith)
+read-using-requires c κs = (prefix-by-len upper (ascii "USING") (c .before .before .before .before .args .content .now) (sym (c .before .starts-ignoring-case .ensures) ∙ c .if1 .taken), omega arith)
 
 extract-first-string-literal-requires : tie.Need-extract-first-string-literal-requires
 extract-first-string-literal-requires c κs = search needs

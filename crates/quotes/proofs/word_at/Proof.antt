@@ -7,7 +7,7 @@ use lib.ListN.{length, take, drop, length-drop}
 use Rattle.spec.specs.Bytes.{upper}
 use Rattle.spec.proofs.AheadLaws.{rest-of}
 use Rattle.spec.proofs.WalkLaws.{prefixBy}
-use Rattle.scanner.proofs.KeywordLaws.{prefix-by-len}
+use Rattle.spec.proofs.WalkLaws.{prefix-by-len}
 use Rattle.quotes.proofs.DepthLaws.{word-here}
 use borrow.Author.Needs.{needs}
 use Rattle.quotes.proofs.word_at.Statement.{statement}

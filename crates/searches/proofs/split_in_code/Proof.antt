@@ -1,3 +1,4 @@
+use Rattle.spec.proofs.WalkLaws.{marked-kept}
 use mathlib.Core.Path.{_≡_, refl, sym, ap, _∙_}
 use mathlib.Core.List.{[]}
 use lib.ListN.{length}
@@ -5,7 +6,7 @@ use Rattle.spec.specs.Map.{mapOf, marked, markedText}
 use Rattle.spec.specs.Search.{splitInCode, startsFrom, pieces, byteHere}
 use Rattle.spec.specs.Answers.{checkOf, splitCheck, splitAnswer, splitMapExit, splitExit, keptBehind, filledAnswer}
 use Rattle.spec.specs.declared.Check.the-variants.{Passed}
-use Rattle.searches.proofs.CheckedLaws.{marked-kept, split-fits, split-short-map, split-short-starts, refused-count, short-exit, passed-fits}
+use Rattle.searches.proofs.CheckedLaws.{split-fits, split-short-map, split-short-starts, refused-count, short-exit, passed-fits}
 use borrow.Author.Needs.{needs}
 use Rattle.searches.proofs.split_in_code.Statement.{statement}
 use Rattle.searches.proofs.split_in_code.Tie as tie

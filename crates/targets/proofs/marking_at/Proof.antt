@@ -7,7 +7,7 @@ use lib.ListN.{take, drop, getD, length-drop}
 use Rattle.spec.specs.Bytes.{isWord, upper}
 use Rattle.spec.proofs.Choice.{and-left}
 use Rattle.spec.proofs.WalkLaws.{prefixBy}
-use Rattle.scanner.proofs.KeywordLaws.{prefix-by-len}
+use Rattle.spec.proofs.WalkLaws.{prefix-by-len}
 use Rattle.targets.specs.Words.{entries, blank}
 use Rattle.targets.specs.declared.Marking.{Marking}
 use Rattle.targets.proofs.MarkLaws.{entry-long, entry-size, metFrom, isEntryAt, met-dead, met-inside, met-none, met-hit, met-miss}

@@ -20,14 +20,14 @@ abbrev pub fourthText : List ℕ → List ℕ
 fourthText ys = bytes (selectInto (quoteWalk 0 ys))
 
 -- of the text after pass 3: passes 4 and 5 can go on behind it
-pub record SealedBehind (ys : List ℕ) : Type 0 where
+pub record ContinuableBehind (ys : List ℕ) : Type 0 where
   pub quotes : endsLive (quoteWalk 0 ys) ≡ true
   pub marks : endsLive (markedText (fourthText ys)) ≡ true
   pub raises : raisesSafe 0 (markedText (fourthText ys)) ≡ true
 
 -- of a text: all five passes can go on behind it
-pub record Sealed (a : List ℕ) : Type 0 where
+pub record Continuable (a : List ℕ) : Type 0 where
   pub first : endsLive (markedText a) ≡ true
   pub second : endsLive (markedText (requoted a)) ≡ true
   pub third : endsLive (markedText (secondText a)) ≡ true
-  pub behind : (ys : List ℕ) → assignPass (secondText a) ≡ accepted ys → SealedBehind ys
+  pub behind : (ys : List ℕ) → assignPass (secondText a) ≡ accepted ys → ContinuableBehind ys

@@ -8,7 +8,7 @@ use Rattle.spec.proofs.Choice.{by, or-left, or-right}
 use Rattle.spec.specs.Bytes.{ascii, within, isDigit, isLower, isUpper, isIdent, isQuote, isW}
 use Rattle.spec.specs.Map.{Marked, live, quoted, byte, lives}
 use Rattle.joining.proofs.Bools.{clash, at, other, no-quote, white-no-quote}
-use Rattle.joining.proofs.Reading.{leaves, Takes, Keeper}
+use Rattle.joining.proofs.Reading.{leaves, Takes, Reading}
 use Rattle.joining.proofs.WellFormed.{Open, clear, dash, slash, sign, tag, inSingle, inDouble, liveOk, quotedOk, wellOk, liveNext, quotedNext, wellNext, isOut, Well, next-ident, live-quote, live-in, live-out}
 
 pub well-back : (s : Open) (x : Marked) → isQuote (byte x) ≡ false → wellOk s x ≡ true → isOut (wellNext s x) ≡ true → isOut s ≡ true
@@ -171,9 +171,9 @@ well-space inSingle h = absurd (false≢true h)
 well-space inDouble h = absurd (false≢true h)
 
 -- passes 3 and 4 may cut and glue well formed text as they do
-unfoldable pub well-keeper : Keeper
+unfoldable pub well-formed-reading : Reading
 unfolding liveNext isIdent isLower isUpper isDigit within lives isQuote
-well-keeper =
+well-formed-reading =
     record {
       State = Open;
       start = clear;

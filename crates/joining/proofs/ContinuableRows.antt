@@ -1,4 +1,4 @@
--- A text that is sealed, with something for each pass to do, so that the laws on sealed texts speak of something. Assumes
+-- A text that is continuable, with something for each pass to do, so that the laws on continuable texts speak of something. Assumes
 -- nothing.
 use mathlib.Core.Path.{_≡_, refl, subst}
 use mathlib.Core.List.{List}
@@ -7,7 +7,7 @@ use Rattle.spec.specs.Bytes.{ascii}
 use Rattle.spec.specs.Body.{accepted, assignPass}
 use Rattle.spec.specs.Computed.{computed}
 use Rattle.joining.specs.Safe.{endsLevelSafely, safeBehind, raisesSafe}
-use Rattle.joining.specs.Sealed.{secondText, SealedBehind, Sealed}
+use Rattle.joining.specs.Continuable.{secondText, ContinuableBehind, Continuable}
 
 abbrev sample : List ℕ
 sample = ascii "IF a THEN v := $$it's$$; ELSIF b THEN SELECT c INTO d FROM t; RAISE NOTICE 'n'; RAISE EXCEPTION 'e'; END IF;"
@@ -15,7 +15,7 @@ sample = ascii "IF a THEN v := $$it's$$; ELSIF b THEN SELECT c INTO d FROM t; RA
 abbrev sampleBehind : List ℕ
 sampleBehind = ascii "IF a THEN SET v = 'it''s'; ELSEIF b THEN SELECT c INTO d FROM t; RAISE NOTICE 'n'; RAISE EXCEPTION 'e'; END IF;"
 
-sample-behind : SealedBehind sampleBehind
+sample-behind : ContinuableBehind sampleBehind
 unfolding computed endsLevelSafely safeBehind raisesSafe
 sample-behind = record { quotes = refl; marks = refl; raises = refl }
 
@@ -23,9 +23,9 @@ sample-assigned : assignPass (secondText sample) ≡ accepted sampleBehind
 unfolding computed
 sample-assigned = refl
 
-sample-sealed : Sealed sample
+sample-continuable : Continuable sample
 unfolding computed
-sample-sealed =
+sample-continuable =
     record {
       first = refl;
       second = refl;
@@ -33,5 +33,5 @@ sample-sealed =
       behind = λ ys e.
           let f = sample-assigned in
           let g : sampleBehind ≡ ys = cc in
-          subst SealedBehind g sample-behind;
+          subst ContinuableBehind g sample-behind;
     }

@@ -12,7 +12,7 @@ use Rattle.spec.proofs.Choice.{by, cond-case, and-left}
 use Rattle.spec.specs.Bytes.{ascii, within, isDigit, isLower, isUpper, isIdent, isW, upper}
 use Rattle.spec.specs.Map.{Marked, live, byte, isLive, lives, frontByte}
 use Rattle.joining.proofs.Bools.{clash, no, or-cases, and-no, at, another, ident-not-white}
-use Rattle.joining.proofs.Reading.{Reads, leaves, Takes, Keeper}
+use Rattle.joining.proofs.Reading.{Reads, leaves, Takes, Reading}
 
 -- where the reading stands: behind no identifier byte, in a word, behind so many letters of RAISE, behind RAISE and a
 -- space, behind RAISE and `)`, in a word that a level may begin, behind that and `)`
@@ -164,7 +164,7 @@ seen-safer inLevel x h =
     (λ f. rw f (by (eqb (byte x) 59) (λ g. rw g refl) (λ g. clash (sym (rw (e, f, g) at h)))))))
 seen-safer closed x h = absurd (false≢true h)
 
--- ---- what a keeper asks
+-- ---- what a reading asks
 
 pub seen-alive : (s : Seen) (x : Marked) → seenOk false s x ≡ true → seenRest s ≡ true
 seen-alive edge x h = refl
@@ -243,13 +243,13 @@ seen-edges closed x i = rw i refl
 
 -- ---- reading from the start
 
-abbrev pub Tame : Seen → List Marked → Type 0
-Tame s t = Reads (seenOk false) seenNext s t
+abbrev pub RaiseRead : Seen → List Marked → Type 0
+RaiseRead s t = Reads (seenOk false) seenNext s t
 
 -- the edge asks less than the space behind RAISE, a word less than one that a level may begin
 record Lower (u : List Marked) : Type 0 where
-  from-gap : Tame gap u → Tame edge u
-  from-level : Tame inLevel u → Tame inWord u
+  from-gap : RaiseRead gap u → RaiseRead edge u
+  from-level : RaiseRead inLevel u → RaiseRead inWord u
 
 lower : (u : List Marked) → Lower u
 unfolding seenNext wordStart
@@ -281,12 +281,12 @@ lower (x ∷ u) =
     level-end : isIdent (byte x) ≡ false → seenOk false inLevel x ≡ true → eqb (byte x) 41 ≡ false
     level-end e h = by (eqb (byte x) 41) (λ f. let g = eqb-true (byte x) 41 f in clash (sym (rw (e, g) at h))) (λ f. f)
 
-pub tame-rest : (u : List Marked) (s : Seen) → seenRest s ≡ true → Tame s u → seenRest (leaves seenNext s u) ≡ true
-tame-rest [] s h r = h
-tame-rest (x ∷ u) s h r = tame-rest u (seenNext s x) (seen-forth s x (r .0)) (r .1)
+pub raise-read-rest : (u : List Marked) (s : Seen) → seenRest s ≡ true → RaiseRead s u → seenRest (leaves seenNext s u) ≡ true
+raise-read-rest [] s h r = h
+raise-read-rest (x ∷ u) s h r = raise-read-rest u (seenNext s x) (seen-forth s x (r .0)) (r .1)
 
 -- what begins behind no identifier byte, or with none, is read from the start
-behind-word : (x : Marked) (u : List Marked) (s : Seen) → isIdent (byte x) ≡ false → seenRest s ≡ true → Tame s (x ∷ u) → Tame edge u
+behind-word : (x : Marked) (u : List Marked) (s : Seen) → isIdent (byte x) ≡ false → seenRest s ≡ true → RaiseRead s (x ∷ u) → RaiseRead edge u
 unfolding seenNext wordStart letterNext
 behind-word x u edge i h r = rw i at (r .1)
 behind-word x u inWord i h r = rw i at (r .1)
@@ -303,12 +303,12 @@ behind-word x u paren i h r = absurd (false≢true h)
 behind-word x u inLevel i h r = rw i at (lower (x ∷ u) .from-level r .1)
 behind-word x u closed i h r = absurd (false≢true h)
 
-seen-start : (u : List Marked) (s : Seen) → (seenEdge s || not (isIdent (frontByte u))) ≡ true → seenRest s ≡ true → Tame s u → Tame edge u
+seen-start : (u : List Marked) (s : Seen) → (seenEdge s || not (isIdent (frontByte u))) ≡ true → seenRest s ≡ true → RaiseRead s u → RaiseRead edge u
 unfolding frontByte seenNext wordStart
 seen-start [] s e h r = tt
 seen-start (x ∷ u) s e h r = by (seenEdge s) (λ d. at-edge s d h r) (λ d. let i = no (isIdent (byte x)) (rw d at e) in (refl, rw i (behind-word x u s i h r)))
   where
-    at-edge : (s : Seen) → seenEdge s ≡ true → seenRest s ≡ true → Tame s (x ∷ u) → Tame edge (x ∷ u)
+    at-edge : (s : Seen) → seenEdge s ≡ true → seenRest s ≡ true → RaiseRead s (x ∷ u) → RaiseRead edge (x ∷ u)
     at-edge edge d h r = r
     at-edge gap d h r = lower (x ∷ u) .from-gap r
     at-edge inWord d h r = absurd (false≢true d)
@@ -321,9 +321,9 @@ seen-start (x ∷ u) s e h r = by (seenEdge s) (λ d. at-edge s d h r) (λ d. le
     at-edge inLevel d h r = absurd (false≢true d)
     at-edge closed d h r = absurd (false≢true h)
 
-pub seen-fresh : (u : List Marked) (s : Seen) → (seenEdge s || not (isIdent (frontByte u))) ≡ true → seenRest s ≡ true → Tame s u
-    → Tame edge u × (seenRest (leaves seenNext s u) ≡ true → seenRest (leaves seenNext edge u) ≡ true)
-seen-fresh u s e h r = let w = seen-start u s e h r in (w, (λ _. tame-rest u edge refl w))
+pub seen-fresh : (u : List Marked) (s : Seen) → (seenEdge s || not (isIdent (frontByte u))) ≡ true → seenRest s ≡ true → RaiseRead s u
+    → RaiseRead edge u × (seenRest (leaves seenNext s u) ≡ true → seenRest (leaves seenNext edge u) ≡ true)
+seen-fresh u s e h r = let w = seen-start u s e h r in (w, (λ _. raise-read-rest u edge refl w))
 
 -- ---- the bytes that the passes cut at and the texts that they put in
 
@@ -530,16 +530,16 @@ gap-or-edge paren h P a b = absurd (false≢true h)
 gap-or-edge inLevel h P a b = a
 gap-or-edge closed h P a b = absurd (false≢true h)
 
-pub seen-from : (s : Seen) (x : Marked) (t : List Marked) → seenFirm s ≡ true → eqb (upper (byte x)) 70 ≡ true → Tame edge (x ∷ t)
-    → Tame (seenNext s (live 32)) (x ∷ t) × (leaves seenNext (seenNext s (live 32)) (x ∷ t) ≡ leaves seenNext edge (x ∷ t))
+pub seen-from : (s : Seen) (x : Marked) (t : List Marked) → seenFirm s ≡ true → eqb (upper (byte x)) 70 ≡ true → RaiseRead edge (x ∷ t)
+    → RaiseRead (seenNext s (live 32)) (x ∷ t) × (leaves seenNext (seenNext s (live 32)) (x ∷ t) ≡ leaves seenNext edge (x ∷ t))
 seen-from s x t h f r =
-    gap-or-edge s h (λ (z : Seen). Tame z (x ∷ t) × (leaves seenNext z (x ∷ t) ≡ leaves seenNext edge (x ∷ t)))
+    gap-or-edge s h (λ (z : Seen). RaiseRead z (x ∷ t) × (leaves seenNext z (x ∷ t) ≡ leaves seenNext edge (x ∷ t)))
     (r, refl)
-    ((f-allowed x f, subst (λ (z : Seen). Tame z t) (sym (f-next x f)) (r .1)), ap (λ (z : Seen). leaves seenNext z t) (f-next x f))
+    ((f-allowed x f, subst (λ (z : Seen). RaiseRead z t) (sym (f-next x f)) (r .1)), ap (λ (z : Seen). leaves seenNext z t) (f-next x f))
 
 -- passes 3 and 4 may cut and glue such text as they do
-unfoldable pub tame-keeper : Keeper
-tame-keeper =
+unfoldable pub raise-reading : Reading
+raise-reading =
     record {
       State = Seen;
       start = edge;

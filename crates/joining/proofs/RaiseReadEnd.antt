@@ -21,8 +21,8 @@ use Rattle.joining.specs.Safe.{endsLevelSafely, levelSafe, safeBehind, r
 use Rattle.joining.proofs.Bools.{clash, no, yes, at}
 use Rattle.joining.proofs.Reading.{Reads}
 use Rattle.joining.proofs.Statements.{is-live, ends-rest, ends-ident}
-use Rattle.joining.proofs.Tame.{Seen, edge, inWord, r1, r2, r3, r4, r5, gap, paren, inLevel, closed, levelLetter, level-letter, upper-cases, wordStart, letterNext, seenNext, seenOk, seenEdge}
-use Rattle.joining.proofs.TameStart.{edge-byte}
+use Rattle.joining.proofs.RaiseRead.{Seen, edge, inWord, r1, r2, r3, r4, r5, gap, paren, inLevel, closed, levelLetter, level-letter, upper-cases, wordStart, letterNext, seenNext, seenOk, seenEdge}
+use Rattle.joining.proofs.RaiseReadStart.{edge-byte}
 
 abbrev pub Guarded : Seen → List Marked → Type 0
 Guarded s t = Reads (seenOk true) seenNext s t

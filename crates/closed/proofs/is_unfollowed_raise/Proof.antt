@@ -4,8 +4,8 @@ use Rattle.spec.specs.Bytes.{ascii, isIdent}
 use Rattle.closed.proofs.ClosedLaws.{word-fits, followed-lives}
 use Prim.Native.Nat.{_+_}
 use borrow.Author.Needs.{needs}
-use Rattle.closed.proofs.is_loose_raise.Statement.{statement}
-use Rattle.closed.proofs.is_loose_raise.Tie as tie
+use Rattle.closed.proofs.is_unfollowed_raise.Statement.{statement}
+use Rattle.closed.proofs.is_unfollowed_raise.Tie as tie
 
 is-raise-at-requires : tie.Need-is-raise-at-requires
 is-raise-at-requires c κs = search needs
@@ -22,7 +22,7 @@ returns c = rw (sym (c .before .before .is-raise-at .ensures) ∙ c .before .if1
 returns-2 : tie.Need-returns-2
 returns-2 c = simp (sym (c .before .is-raise-at .ensures) ∙ c .if1 .left)
 
-pub is-loose-raise-spec : {M : Type 1} → statement M
-is-loose-raise-spec =
+pub is-unfollowed-raise-spec : {M : Type 1} → statement M
+is-unfollowed-raise-spec =
     tie.close
     (tie.spec is-raise-at-requires add-is-followed is-followed-requires returns returns-2)

@@ -12,7 +12,7 @@ use Rattle.spec.specs.Map.{Marked, byte, isLive, frontByte, frontLive, ofByte}
 use Rattle.spec.specs.Search.{startsIgnoringCase, wordHere}
 use Rattle.spec.specs.Closed.{endsWord, isFollowed, raisesFollowed}
 use Rattle.joining.proofs.Bools.{no, or-cases, at, other, ident-not-white}
-use Rattle.joining.proofs.Tame.{Seen, edge, inWord, r1, r2, r3, r4, r5, gap, paren, inLevel, closed, levelLetter, level-letter, wordStart, letterNext, seenNext, seenOk, seenEdge, Tame}
+use Rattle.joining.proofs.RaiseRead.{Seen, edge, inWord, r1, r2, r3, r4, r5, gap, paren, inLevel, closed, levelLetter, level-letter, wordStart, letterNext, seenNext, seenOk, seenEdge, RaiseRead}
 
 -- where w stands in front and no identifier byte behind it, what follows is as *closed* says
 abbrev Owes : List ℕ → List Marked → Type 0
@@ -151,8 +151,8 @@ step paren p x t e h k = absurd k
 step inLevel p x t e h k = level-known x t k
 step closed p x t e h k = absurd k
 
-pub followed-tame : (t : List Marked) (s : Seen) (p : ℕ) → seenEdge s ≡ not (isIdent p) → raisesFollowed p t ≡ true → Known s t → Tame s t
-followed-tame [] s p e h k = tt
-followed-tame (x ∷ t) s p e h k =
+pub followed-read : (t : List Marked) (s : Seen) (p : ℕ) → seenEdge s ≡ not (isIdent p) → raisesFollowed p t ≡ true → Known s t → RaiseRead s t
+followed-read [] s p e h k = tt
+followed-read (x ∷ t) s p e h k =
     let w = step s p x t e h k in
-    (w .0, followed-tame t (seenNext s x) (byte x) (edge-byte s x) (followed-rest p x t h) (w .1))
+    (w .0, followed-read t (seenNext s x) (byte x) (edge-byte s x) (followed-rest p x t h) (w .1))
