@@ -1,5 +1,5 @@
-// The stored list, line by line. Two kinds of line prepare for the questions behind them: `t RUNS` gives the text, and
-// `l BYTES STARTS` lends buffers of these lengths.
+// The stored list, line by line. Three kinds of line prepare for the questions behind them: `t RUNS` gives the text,
+// `l BYTES STARTS` lends buffers of these lengths, and `x` says that the answers are wrong.
 use crate::ask::KINDS;
 use crate::question::agrees;
 use crate::rows;
@@ -21,6 +21,8 @@ pub struct State {
     pub starts: usize,
     // Whether a line gave these lengths.
     pub limits: bool,
+    // Whether a line said that the answers are wrong.
+    pub wrong: bool,
 }
 
 // A text of n bytes, with buffers that are longer than any search needs.
@@ -30,6 +32,7 @@ fn with_text(n: usize) -> State {
         bytes: 0,
         starts: 0,
         limits: false,
+        wrong: false,
     };
     if n < 65537 {
         state.bytes = 2 * n + 3;
@@ -45,13 +48,21 @@ fn with_lent(mut state: State, bytes: usize, starts: usize) -> State {
     state
 }
 
+fn with_wrong(mut state: State) -> State {
+    state.wrong = true;
+    state
+}
+
 // The row of the report that a question belongs to.
-fn row_of(kind: u8, limits: bool) -> usize {
+fn row_of(kind: u8, state: State) -> usize {
     let row = next_place(&KINDS, 0, kind);
     if row == rows::UNKNOWN {
         return row;
     }
-    if limits {
+    if state.wrong {
+        return rows::WRONG;
+    }
+    if state.limits {
         return rows::LIMITS;
     }
     row
@@ -60,7 +71,7 @@ fn row_of(kind: u8, limits: bool) -> usize {
 // Makes the search of a line and counts it.
 fn compare(kind: u8, line: &[u8], text: &[u8], state: State, tally: &mut [u32]) {
     let same = agrees(kind, line, text, state.bytes, state.starts);
-    note(tally, row_of(kind, state.limits), same);
+    note(tally, row_of(kind, state), same);
 }
 
 // Takes one line.
@@ -72,6 +83,9 @@ fn take_line(line: &[u8], text: &mut [u8], before: State, tally: &mut [u32]) -> 
     if kind == b'l' {
         let bytes = number(field(line, 1));
         return with_lent(before, bytes, number(field(line, 2)));
+    }
+    if kind == b'x' {
+        return with_wrong(before);
     }
     compare(kind, line, part(text, 0, before.text), before, tally);
     before

@@ -8,9 +8,9 @@ use stored_list::marked_bytes;
 use stored_list::marked_numbers;
 use stored_list::print_rows;
 
-// The names of the rows.
-const NAMES: [u8; 96] =
-    *b"random_bodies body_rows body_limits random_functions function_rows function_limits unknown_lines";
+// The names of the rows. The answers of the last one are stored wrong, so that all of them must differ.
+const NAMES: [u8; 110] =
+    *b"random_bodies body_rows body_limits random_functions function_rows function_limits unknown_lines wrong_answers";
 
 fn main() {
     let mut lines = io::large_buffer();
@@ -19,7 +19,7 @@ fn main() {
     let mut result = marked_bytes();
     let mut declared = marked_bytes();
     let mut numbers = marked_numbers();
-    let mut tally = [0u32; 14];
+    let mut tally = [0u32; 16];
     list::replay(
         &mut lines,
         &mut text,
@@ -28,5 +28,5 @@ fn main() {
         &mut numbers,
         &mut tally,
     );
-    print_rows(&NAMES, &tally, 7);
+    print_rows(&NAMES, &tally, 8);
 }

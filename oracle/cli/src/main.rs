@@ -16,6 +16,9 @@ mod stored;
 mod stored_call;
 mod stored_calls;
 mod stored_limits;
+mod wrong;
+mod wrong_calls;
+mod wrong_searches;
 
 use std::io::{self, BufWriter, ErrorKind, Write};
 use std::process::ExitCode;

@@ -1,5 +1,5 @@
 //! The command `stored`: the list that the program `replay` runs. Random texts, each with the
-//! reference's answers to one question of every kind, and the limits behind them.
+//! reference's answers to one question of every kind, then the limits, and wrong answers.
 
 use std::io::Write;
 
@@ -12,6 +12,7 @@ use crate::hex;
 use crate::question::Question;
 use crate::runs::Runs;
 use crate::stored_limits;
+use crate::wrong_searches;
 use crate::Stop;
 
 pub fn run(count: &str, seed: &str, out: &mut impl Write) -> Result<(), Stop> {
@@ -25,7 +26,7 @@ pub fn run(count: &str, seed: &str, out: &mut impl Write) -> Result<(), Stop> {
         }
     }
     stored_limits::write(out)?;
-    Ok(())
+    wrong_searches::write(out)
 }
 
 fn questions(text: &str, random: &mut Random) -> Vec<Question> {
@@ -44,7 +45,7 @@ fn questions(text: &str, random: &mut Random) -> Vec<Question> {
 }
 
 /// The letter of the kind, a needle, a start, the four numbers of the answer, and the result.
-fn line(question: &Question) -> Result<String, String> {
+pub fn line(question: &Question) -> Result<String, String> {
     let reply = answer(question)?;
     let coded = |text: &str| hex::encode(text.as_bytes());
     Ok(match question {

@@ -129,6 +129,6 @@ impl From<Body> for Function {
 }
 
 /// Numbers with single spaces between them.
-fn spaced(numbers: &[impl ToString]) -> String {
+pub fn spaced(numbers: &[impl ToString]) -> String {
     numbers.iter().map(ToString::to_string).collect::<Vec<_>>().join(" ")
 }

@@ -1,6 +1,6 @@
 //! The command `stored-calls`: the list that the program `replay_calls` runs. For each rewriting
-//! call random texts with the reference's answers, texts for the scope paper's sentences, and the
-//! limits.
+//! call random texts with the reference's answers, texts for the scope paper's sentences, the
+//! limits, and wrong answers.
 
 use std::io::Write;
 
@@ -13,22 +13,27 @@ use crate::function_limits;
 use crate::function_rows;
 use crate::generate::number;
 use crate::stored_call::{Body, Function, BODY_LEAST, FUNCTION_LEAST, SIZE};
+use crate::wrong_calls;
 use crate::Stop;
 
-/// The rows of the report: three for the body call, then three for the function call.
+/// The rows of the report: three for the body call, three for the function call, and behind the
+/// row of the unknown lines the one whose answers are wrong.
 const RANDOM_BODIES: usize = 0;
 const BODY_ROWS: usize = 1;
 const BODY_LIMITS: usize = 2;
 const RANDOM_FUNCTIONS: usize = 3;
 const FUNCTION_ROWS: usize = 4;
 const FUNCTION_LIMITS: usize = 5;
+const WRONG_ANSWERS: usize = 7;
 
 pub fn run(bodies: &str, functions: &str, seed: &str, out: &mut impl Write) -> Result<(), Stop> {
     let bodies = number(bodies, "BODIES")?;
     let functions = number(functions, "FUNCTIONS")?;
     let seed = number(seed, "SEED")?;
     write_bodies(bodies, seed, out)?;
-    write_functions(functions, seed, out)
+    write_functions(functions, seed, out)?;
+    writeln!(out, "s {WRONG_ANSWERS}")?;
+    Ok(wrong_calls::write(out)?)
 }
 
 fn write_bodies(count: u64, seed: u64, out: &mut impl Write) -> Result<(), Stop> {

@@ -6,7 +6,7 @@ use std::io::{self, Write};
 use crate::runs::Runs;
 
 /// The letters of the searches.
-const KINDS: &str = "mkbswpquh";
+pub const KINDS: &str = "mkbswpquh";
 
 /// The most bytes of a search's text.
 const LIMIT: usize = 65_536;
