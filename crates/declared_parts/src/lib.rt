@@ -220,10 +220,10 @@ pub fn same_bytes(x: &[u8], y: &[u8]) -> bool
         let n = x.len();
         let mut i = n;
         while 0 < i {
-            if x[n - i] != y[n - i] {
+            if x[i - 1] != y[i - 1] {
                 return false;
             }
-            if x[i - 1] == y[i - 1] {
+            if x[n - i] == y[n - i] {
                 i -= 1;
             } else {
                 return false;

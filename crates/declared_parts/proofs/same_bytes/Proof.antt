@@ -29,7 +29,7 @@ shared-slice-read-if2-2 : tie.Need-shared-slice-read-if2-2 Inv-loop μ-loop
 shared-slice-read-if2-2 c = search needs
 
 returns : tie.Need-returns Inv-loop μ-loop
-returns c = not-same (c .before .before .before .before .before .before .args .x .now) (c .before .before .before .before .before .before .args .y .now) (λ e. c .if2 .taken (ap (λ l. getD l (length (c .before .before .before .before .before .before .args .x .now) - c .before .before .before .before .loop .i) 0) e))
+returns c = not-same (c .before .before .before .before .before .before .args .x .now) (c .before .before .before .before .before .before .args .y .now) (λ e. c .if2 .taken (ap (λ l. getD l (c .before .before .before .before .loop .i - 1) 0) e))
 
 sub-if3 : tie.Need-sub-if3 Inv-loop μ-loop
 sub-if3 c = search needs
@@ -50,10 +50,10 @@ loop-less : tie.Need-loop-less Inv-loop μ-loop
 loop-less c = search needs
 
 loop-again : tie.Need-loop-again Inv-loop μ-loop
-loop-again c = (omega arith, same-step (c .before .before .before .before .before .before .before .before .before .args .x .now) (c .before .before .before .before .before .before .before .before .before .args .y .now) (c .before .before .before .before .before .before .before .loop .i) (omega arith) (omega arith) (c .before .before .before .before .before .before .before .before .if1 .taken) (c .if3 .taken) (c .before .before .before .before .before .before .before .loop .inv .1))
+loop-again c = (omega arith, same-step (c .before .before .before .before .before .before .before .before .before .args .x .now) (c .before .before .before .before .before .before .before .before .before .args .y .now) (c .before .before .before .before .before .before .before .loop .i) (omega arith) (omega arith) (c .before .before .before .before .before .before .before .before .if1 .taken) (c .before .before .before .if2 .left) (c .before .before .before .before .before .before .before .loop .inv .1))
 
 returns-2 : tie.Need-returns-2 Inv-loop μ-loop
-returns-2 c = not-same (c .before .before .before .before .before .before .before .before .before .args .x .now) (c .before .before .before .before .before .before .before .before .before .args .y .now) (λ e. c .if3 .left (ap (λ l. getD l (c .before .before .before .before .before .before .before .loop .i - 1) 0) e))
+returns-2 c = not-same (c .before .before .before .before .before .before .before .before .before .args .x .now) (c .before .before .before .before .before .before .before .before .before .args .y .now) (λ e. c .if3 .left (ap (λ l. getD l (length (c .before .before .before .before .before .before .before .before .before .args .x .now) - c .before .before .before .before .before .before .before .loop .i) 0) e))
 
 returns-3 : tie.Need-returns-3 Inv-loop μ-loop
 returns-3 c = same-all (c .before .before .before .args .x .now) (c .before .before .before .args .y .now) (c .before .loop .i) (omega arith) (c .before .loop .inv .1)
