@@ -12,7 +12,7 @@ use output::put_all;
 use scanner::find_keyword_in;
 use spec::Found;
 ghost use mathlib.Core.Path.{_≡_};
-ghost use mathlib.Core.Bool.{cond};
+ghost use mathlib.Core.Bool.{true, cond};
 ghost use mathlib.Core.List.{_∷_};
 ghost use Prim.Native.Nat.{_+_, _*_, _^_, _≤_, _<_};
 ghost use lib.Dec.{eqb};
@@ -23,7 +23,7 @@ ghost use Rattle.spec.specs.Map.{marked};
 ghost use Rattle.spec.specs.Search.{first, keywordHere};
 ghost use Rattle.spec.specs.Declarations.{bodyFrom, packedRecord, packed, textOr};
 ghost use Rattle.declared_records.specs.Held.{recordIn, recordsFrom};
-ghost use Rattle.declarations.specs.Chain.{nameIn, Different, Chained, LastAhead, Inserted};
+ghost use Rattle.declarations.specs.Chain.{nameIn, Different, Chained, LastAhead, Inserted, comesBehind, InChain};
 ghost use Rattle.declarations.specs.Records.{recordsIn, Linked, valueOf, endsOf, declareEnd, sectionOf, SectionIn, recordsOfSection, parsedOf, otherNumbers, finalNumbers, Holds};
 
 // What reading the declarations answers.
@@ -47,16 +47,37 @@ pub struct Ends {
     pub value: usize,
 }
 
-// The last record in the chain that record k comes behind; record 0 is the head.
-fn find_place(text: &[u8], records: &[u32], count: usize, k: usize) -> usize
+// Where the search for record k's place starts: at the record put in last if k comes behind it, else at the head.
+fn start_of(text: &[u8], records: &[u32], count: usize, k: usize) -> usize
+    requires { ⌜ count ≤ 512 ⌝ }
+    requires { ⌜ k ≤ count ⌝ }
+    requires { ⌜ 4104 ≤ length (now records) ⌝ }
+    ensures { λ r. ⌜ InChain count k r ⌝ }
+    ensures { λ r. ⌜ comesBehind (nameIn (now (text .entry)) (now (records .entry))) r k ≡ true ⌝ }
+{
+    if count <= k {
+        return 0;
+    }
+    let name = name_of(text, records, k);
+    let last = name_of(text, records, k + 1);
+    if comes_before(last, name) {
+        return k + 1;
+    }
+    0
+}
+
+// The last record in the chain that record k comes behind, from one that it comes behind on; record 0 is the head.
+fn find_place(text: &[u8], records: &[u32], count: usize, k: usize, from: usize) -> usize
     requires { ⌜ count ≤ 512 ⌝ }
     requires { ⌜ k ≤ count ⌝ }
     requires { ⌜ 4104 ≤ length (now records) ⌝ }
     requires { ⌜ Chained (nameIn (now text) (now records)) (now records) count k ⌝ }
+    requires { ⌜ InChain count k from ⌝ }
+    requires { ⌜ comesBehind (nameIn (now text) (now records)) from k ≡ true ⌝ }
     ensures { λ r. ⌜ LastAhead (nameIn (now (text .entry)) (now (records .entry))) (now (records .entry)) count k r ⌝ }
 {
     let name = name_of(text, records, k);
-    let mut p: usize = 0;
+    let mut p = from;
     loop {
         let next = number(records, p, 0);
         if next == 0 {
@@ -81,7 +102,8 @@ fn insert(text: &[u8], records: &mut [u32], count: usize, k: usize)
     requires { ⌜ Chained (nameIn (now text) (now records)) (now records) count k ⌝ }
     ensures { λ _. ⌜ Inserted (now (text .entry)) (now (records .entry)) count k (now (records .exit)) ⌝ }
 {
-    let p = find_place(text, records, count, k);
+    let from = start_of(text, records, count, k);
+    let p = find_place(text, records, count, k, from);
     let next = records[8 * p];
     records[8 * k] = next;
     records[8 * p] = k as u32;

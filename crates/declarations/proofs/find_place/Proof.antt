@@ -9,10 +9,10 @@ use Rattle.declarations.proofs.find_place.Statement.{statement}
 use Rattle.declarations.proofs.find_place.Tie as tie
 
 abbrev Inv-loop : tie.InvT-loop
-Inv-loop text records count k name p₀ p = InChain count k p × (comesBehind (nameIn text records) p k ≡ true)
+Inv-loop text records count k from name p₀ p = InChain count k p × (comesBehind (nameIn text records) p k ≡ true)
 
 abbrev μ-loop : tie.MeasureT-loop
-μ-loop text records count k name p₀ p = howMany (comesBehind (nameIn text records) p) count
+μ-loop text records count k from name p₀ p = howMany (comesBehind (nameIn text records) p) count
 
 -- what is tested
 tested : (c : tie.After-comes-before Inv-loop μ-loop) → c .comes-before .result ≡ isBefore (nameIn (c .before .before .before .before .before .before .before .before .args .text .now) (c .before .before .before .before .before .before .before .before .args .records .now) (c .before .before .before .number .result)) (nameIn (c .before .before .before .before .before .before .before .before .args .text .now) (c .before .before .before .before .before .before .before .before .args .records .now) (c .before .before .before .before .before .before .before .before .args .k))
@@ -22,7 +22,7 @@ name-of-requires : tie.Need-name-of-requires Inv-loop μ-loop
 name-of-requires c κs = search needs
 
 loop-holds : tie.Need-loop-holds Inv-loop μ-loop
-loop-holds c = (record { within = omega arith; later = λ z. absurd (z refl) }, refl)
+loop-holds c = (c .before .before .before .pre .1 .1 .1 .1 .0, c .before .before .before .pre .1 .1 .1 .1 .1)
 
 number-requires : tie.Need-number-requires Inv-loop μ-loop
 number-requires c κs = (omega (arith, c .loop .inv .0 .within), search needs)
@@ -30,12 +30,12 @@ number-requires c κs = (omega (arith, c .loop .inv .0 .within), search needs)
 returns : tie.Need-returns Inv-loop μ-loop
 returns c =
     let a = c .before .before .before .before .before .before .args in
-    walk-ends (nameIn (a .text .now) (a .records .now)) (a .records .now) (a .count) (a .k) (c .before .before .loop .p) (c .before .number .result) (c .before .before .before .before .before .before .pre .1 .1 .1) (c .before .before .loop .inv .0) (c .before .before .loop .inv .1) (c .before .number .ensures .0) (c .if1 .taken)
+    walk-ends (nameIn (a .text .now) (a .records .now)) (a .records .now) (a .count) (a .k) (c .before .before .loop .p) (c .before .number .result) (c .before .before .before .before .before .before .pre .1 .1 .1 .0) (c .before .before .loop .inv .0) (c .before .before .loop .inv .1) (c .before .number .ensures .0) (c .if1 .taken)
 
 name-of-requires-2 : tie.Need-name-of-requires-2 Inv-loop μ-loop
 name-of-requires-2 c κs =
     let a = c .before .before .before .before .before .before .args in
-    (omega (arith, walk-within (nameIn (a .text .now) (a .records .now)) (a .records .now) (a .count) (a .k) (c .before .before .loop .p) (c .before .number .result) (c .before .before .before .before .before .before .pre .1 .1 .1) (c .before .before .loop .inv .0) (c .before .before .loop .inv .1) (c .before .number .ensures .0)), search needs)
+    (omega (arith, walk-within (nameIn (a .text .now) (a .records .now)) (a .records .now) (a .count) (a .k) (c .before .before .loop .p) (c .before .number .result) (c .before .before .before .before .before .before .pre .1 .1 .1 .0) (c .before .before .loop .inv .0) (c .before .before .loop .inv .1) (c .before .number .ensures .0)), search needs)
 
 comes-before-requires : tie.Need-comes-before-requires Inv-loop μ-loop
 comes-before-requires c κs = search needs
@@ -43,18 +43,18 @@ comes-before-requires c κs = search needs
 loop-less : tie.Need-loop-less Inv-loop μ-loop
 loop-less c =
     let a = c .before .before .before .before .before .before .before .before .before .args in
-    walk-fewer (nameIn (a .text .now) (a .records .now)) (a .records .now) (a .count) (a .k) (c .before .before .before .before .before .loop .p) (c .before .before .before .before .number .result) (c .before .before .before .before .before .before .before .before .before .pre .1 .1 .1) (c .before .before .before .before .before .loop .inv .0) (c .before .before .before .before .before .loop .inv .1) (c .before .before .before .before .number .ensures .0) (c .before .before .before .if1 .left)
+    walk-fewer (nameIn (a .text .now) (a .records .now)) (a .records .now) (a .count) (a .k) (c .before .before .before .before .before .loop .p) (c .before .before .before .before .number .result) (c .before .before .before .before .before .before .before .before .before .pre .1 .1 .1 .0) (c .before .before .before .before .before .loop .inv .0) (c .before .before .before .before .before .loop .inv .1) (c .before .before .before .before .number .ensures .0) (c .before .before .before .if1 .left)
 
 loop-again : tie.Need-loop-again Inv-loop μ-loop
 loop-again c =
     let a = c .before .before .before .before .before .before .before .before .before .args in
     let n = nameIn (a .text .now) (a .records .now) in
-    (walk-held n (a .records .now) (a .count) (a .k) (c .before .before .before .before .before .loop .p) (c .before .before .before .before .number .result) (c .before .before .before .before .before .before .before .before .before .pre .1 .1 .1) (c .before .before .before .before .before .loop .inv .0) (c .before .before .before .before .before .loop .inv .1) (c .before .before .before .before .number .ensures .0) (c .before .before .before .if1 .left), behind-other n (c .before .before .before .before .number .result) (a .k) (c .before .before .before .if1 .left) ∙ (sym (tested (c .before)) ∙ c .if2 .taken))
+    (walk-held n (a .records .now) (a .count) (a .k) (c .before .before .before .before .before .loop .p) (c .before .before .before .before .number .result) (c .before .before .before .before .before .before .before .before .before .pre .1 .1 .1 .0) (c .before .before .before .before .before .loop .inv .0) (c .before .before .before .before .before .loop .inv .1) (c .before .before .before .before .number .ensures .0) (c .before .before .before .if1 .left), behind-other n (c .before .before .before .before .number .result) (a .k) (c .before .before .before .if1 .left) ∙ (sym (tested (c .before)) ∙ c .if2 .taken))
 
 returns-2 : tie.Need-returns-2 Inv-loop μ-loop
 returns-2 c =
     let a = c .before .before .before .before .before .before .before .before .before .args in
-    walk-stops (nameIn (a .text .now) (a .records .now)) (a .records .now) (a .count) (a .k) (c .before .before .before .before .before .loop .p) (c .before .before .before .before .number .result) (c .before .before .before .before .before .before .before .before .before .pre .1 .1 .1) (c .before .before .before .before .before .loop .inv .0) (c .before .before .before .before .before .loop .inv .1) (c .before .before .before .before .number .ensures .0) (sym (tested (c .before)) ∙ c .if2 .left)
+    walk-stops (nameIn (a .text .now) (a .records .now)) (a .records .now) (a .count) (a .k) (c .before .before .before .before .before .loop .p) (c .before .before .before .before .number .result) (c .before .before .before .before .before .before .before .before .before .pre .1 .1 .1 .0) (c .before .before .before .before .before .loop .inv .0) (c .before .before .before .before .before .loop .inv .1) (c .before .before .before .before .number .ensures .0) (sym (tested (c .before)) ∙ c .if2 .left)
 
 pub find-place-spec : {M : Type 1} → statement M
 find-place-spec =

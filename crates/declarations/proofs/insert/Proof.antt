@@ -6,8 +6,13 @@ use Rattle.declarations.proofs.LinkLaws.{inserted}
 use Rattle.declarations.proofs.insert.Statement.{statement}
 use Rattle.declarations.proofs.insert.Tie as tie
 
+start-of-requires : tie.Need-start-of-requires
+start-of-requires c κs = search needs
+
 find-place-requires : tie.Need-find-place-requires
-find-place-requires c κs = search needs
+find-place-requires c κs =
+    let p = c .before .before .before .before .before .pre in
+    (p .0, (p .1 .1 .0, (p .1 .1 .1 .0, (p .1 .1 .1 .1 .1, (c .before .start-of .ensures .0, c .before .start-of .ensures .1)))))
 
 mul-next : tie.Need-mul-next
 mul-next c = search needs
@@ -38,7 +43,7 @@ mul-records-4 c = search needs
 
 slice-write-records-2 : tie.Need-slice-write-records-2
 slice-write-records-2 c =
-    let a = c .before .before .before .before .before .args in
+    let a = c .before .before .before .before .before .before .before .args in
     let l = length-set (a .records .now) (8 * a .k) (getD (a .records .now) (8 * c .before .find-place .result) 0) in
     omega (arith, l, c .before .find-place .ensures .held .within)
 
@@ -47,13 +52,14 @@ same-length c = search needs
 
 returns : tie.Need-returns
 returns c =
-    let a = c .before .before .before .before .before .args in
-    inserted (a .text .now) (a .records .now) (a .count) (a .k) (c .before .find-place .result) (c .before .before .before .before .before .pre .1 .1 .1 .1 .0) (c .before .before .before .before .before .pre .1 .0) (c .before .before .before .before .before .pre .1 .1 .0) (c .before .before .before .before .before .pre .0) (c .before .before .before .before .before .pre .1 .1 .1 .0) (c .before .before .before .before .before .pre .1 .1 .1 .1 .1) (c .before .find-place .ensures)
+    let a = c .before .before .before .before .before .before .before .args in
+    inserted (a .text .now) (a .records .now) (a .count) (a .k) (c .before .find-place .result) (c .before .before .before .before .before .before .before .pre .1 .1 .1 .1 .0) (c .before .before .before .before .before .before .before .pre .1 .0) (c .before .before .before .before .before .before .before .pre .1 .1 .0) (c .before .before .before .before .before .before .before .pre .0) (c .before .before .before .before .before .before .before .pre .1 .1 .1 .0) (c .before .before .before .before .before .before .before .pre .1 .1 .1 .1 .1) (c .before .find-place .ensures)
 
 pub insert-spec : {M : Type 1} → statement M
 insert-spec =
     tie.close
     (tie.spec
+    start-of-requires
     find-place-requires
     mul-next
     mul-next-2
