@@ -6,37 +6,22 @@ use std::io::{self, Write};
 
 use crate::lent::{enough, short};
 use crate::runs::{Run, Runs};
-use crate::stored_call::{Answer, Body, BODY_LEAST, BODY_LONGER, LIMIT, SIZE};
+use crate::stored_call::{write_all, Answer, Body, BODY_LEAST, BODY_LONGER, LIMIT, SIZE};
 
 /// Two runs.
 type Two = [Run<'static>; 2];
 
 pub fn write(out: &mut impl Write) -> io::Result<()> {
     let (enough, short) = (enough(BODY_LEAST, BODY_LONGER), short(BODY_LEAST, BODY_LONGER));
-    calls(checked(), &enough, out)?;
-    calls(too_long(), &[&enough[..], &short].concat(), out)?;
-    calls(too_short(), &short, out)?;
-    calls(not_ascii(), &[BODY_LEAST, BODY_LONGER], out)
+    write_all(checked(), &enough, out)?;
+    write_all(too_long(), &[&enough[..], &short].concat(), out)?;
+    write_all(too_short(), &short, out)?;
+    write_all(not_ascii(), &[BODY_LEAST, BODY_LONGER], out)
 }
 
 /// Bodies that pass the checks.
 pub fn checked() -> impl Iterator<Item = Body> {
     plain_bodies().chain(whole_bodies()).chain(results()).chain(orders())
-}
-
-/// A call of each body with each of the lent lengths.
-fn calls(
-    bodies: impl Iterator<Item = Body>,
-    lents: &[[usize; 3]],
-    out: &mut impl Write,
-) -> io::Result<()> {
-    for body in bodies {
-        body.write_text(out)?;
-        for lent in lents {
-            body.write_call(*lent, out)?;
-        }
-    }
-    Ok(())
 }
 
 fn accepted(text: Runs, output: Runs) -> Body {

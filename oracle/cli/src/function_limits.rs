@@ -8,7 +8,7 @@ use reference::declarations::Declaration;
 use crate::body_limits::{self, select_into, set_lines};
 use crate::lent::{enough, short};
 use crate::runs::{Run, Runs, LONGEST};
-use crate::stored_call::{Answer, Function, FUNCTION_LEAST, FUNCTION_LONGER, LIMIT};
+use crate::stored_call::{write_all, Answer, Function, FUNCTION_LEAST, FUNCTION_LONGER, LIMIT};
 
 /// The most names that are declared.
 const NAMES: usize = 512;
@@ -16,25 +16,10 @@ const NAMES: usize = 512;
 pub fn write(out: &mut impl Write) -> io::Result<()> {
     let enough = enough(FUNCTION_LEAST, FUNCTION_LONGER);
     let short = short(FUNCTION_LEAST, FUNCTION_LONGER);
-    calls(checked(), &enough, out)?;
-    calls(too_long(), &[&enough[..], &short].concat(), out)?;
-    calls(too_short(), &short, out)?;
-    calls(not_ascii(), &[FUNCTION_LEAST, FUNCTION_LONGER], out)
-}
-
-/// A call of each function with each of the lent lengths.
-fn calls(
-    functions: impl Iterator<Item = Function>,
-    lents: &[[usize; 5]],
-    out: &mut impl Write,
-) -> io::Result<()> {
-    for function in functions {
-        function.write_text(out)?;
-        for lent in lents {
-            function.write_call(*lent, out)?;
-        }
-    }
-    Ok(())
+    write_all(checked(), &enough, out)?;
+    write_all(too_long(), &[&enough[..], &short].concat(), out)?;
+    write_all(too_short(), &short, out)?;
+    write_all(not_ascii(), &[FUNCTION_LEAST, FUNCTION_LONGER], out)
 }
 
 /// Functions that pass the checks.

@@ -69,19 +69,48 @@ impl Answer {
     }
 }
 
+/// A text with what a call on it must give, to be written to the list.
+pub trait Stored {
+    /// A length for each lent buffer.
+    type Lent: Copy;
+
+    /// The lines of the text and of what it must give.
+    fn write_text(&self, out: &mut impl Write) -> io::Result<()>;
+
+    /// The lines of a call on the text written last.
+    fn write_call(&self, lent: Self::Lent, out: &mut impl Write) -> io::Result<()>;
+
+    /// The text, and a call with each of the lent lengths.
+    fn write_calls(&self, lents: &[Self::Lent], out: &mut impl Write) -> io::Result<()> {
+        self.write_text(out)?;
+        lents.iter().try_for_each(|lent| self.write_call(*lent, out))
+    }
+}
+
+/// A call of each text with each of the lent lengths.
+pub fn write_all<S: Stored>(
+    all: impl IntoIterator<Item = S>,
+    lents: &[S::Lent],
+    out: &mut impl Write,
+) -> io::Result<()> {
+    all.into_iter().try_for_each(|one| one.write_calls(lents, out))
+}
+
 impl Body {
     pub fn new(text: &str, answer: Answer) -> Self {
         Self { text: Runs::one(text.as_bytes()), answer }
     }
+}
 
-    /// The lines of the text and the output that it must give.
-    pub fn write_text(&self, out: &mut impl Write) -> io::Result<()> {
+impl Stored for Body {
+    type Lent = [usize; 3];
+
+    fn write_text(&self, out: &mut impl Write) -> io::Result<()> {
         writeln!(out, "t {}", self.text)?;
         writeln!(out, "e {}", self.answer.output)
     }
 
-    /// The lines of a call on the text written last.
-    pub fn write_call(&self, lent: [usize; 3], out: &mut impl Write) -> io::Result<()> {
+    fn write_call(&self, lent: [usize; 3], out: &mut impl Write) -> io::Result<()> {
         self.answer.write('b', &lent, 0, out)
     }
 }
@@ -103,9 +132,13 @@ impl Function {
         };
         Self { text, answer, records }
     }
+}
 
-    /// The lines of the text and of what it must give. Without records there are zeros alone.
-    pub fn write_text(&self, out: &mut impl Write) -> io::Result<()> {
+impl Stored for Function {
+    type Lent = [usize; 5];
+
+    /// Without records there are zeros alone.
+    fn write_text(&self, out: &mut impl Write) -> io::Result<()> {
         writeln!(out, "t {}", self.text)?;
         writeln!(out, "e {}", self.answer.output)?;
         if self.records.count() > 0 {
@@ -115,8 +148,7 @@ impl Function {
         Ok(())
     }
 
-    /// The lines of a call on the text written last.
-    pub fn write_call(&self, lent: [usize; 5], out: &mut impl Write) -> io::Result<()> {
+    fn write_call(&self, lent: [usize; 5], out: &mut impl Write) -> io::Result<()> {
         self.answer.write('f', &lent, self.records.count(), out)
     }
 }

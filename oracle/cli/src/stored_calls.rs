@@ -12,7 +12,7 @@ use crate::body_rows;
 use crate::function_limits;
 use crate::function_rows;
 use crate::generate::number;
-use crate::stored_call::{Body, Function, BODY_LEAST, FUNCTION_LEAST, SIZE};
+use crate::stored_call::{write_all, Body, Function, Stored, BODY_LEAST, FUNCTION_LEAST, SIZE};
 use crate::wrong_calls;
 use crate::Stop;
 
@@ -42,15 +42,10 @@ fn write_bodies(count: u64, seed: u64, out: &mut impl Write) -> Result<(), Stop>
     for _ in 0..count {
         let text = texts::body(&mut random);
         let body = Body::new(&text, rewritten(&text).map_err(Stop::Question)?);
-        body.write_text(out)?;
-        body.write_call(any_lent(BODY_LEAST, &mut lengths), out)?;
+        body.write_calls(&[any_lent(BODY_LEAST, &mut lengths)], out)?;
     }
     writeln!(out, "s {BODY_ROWS}")?;
-    for body in body_rows::all() {
-        body.write_text(out)?;
-        body.write_call(BODY_LEAST, out)?;
-        body.write_call([SIZE + 1, 70_000, SIZE + 9], out)?;
-    }
+    write_all(body_rows::all(), &[BODY_LEAST, [SIZE + 1, 70_000, SIZE + 9]], out)?;
     writeln!(out, "s {BODY_LIMITS}")?;
     Ok(body_limits::write(out)?)
 }
@@ -61,15 +56,11 @@ fn write_functions(count: u64, seed: u64, out: &mut impl Write) -> Result<(), St
     for _ in 0..count {
         let text = texts::function(&mut random);
         let function = preprocessed(&text).map_err(Stop::Question)?;
-        function.write_text(out)?;
-        function.write_call(any_lent(FUNCTION_LEAST, &mut lengths), out)?;
+        function.write_calls(&[any_lent(FUNCTION_LEAST, &mut lengths)], out)?;
     }
     writeln!(out, "s {FUNCTION_ROWS}")?;
-    for function in body_rows::all().into_iter().map(Function::from).chain(function_rows::all()) {
-        function.write_text(out)?;
-        function.write_call(FUNCTION_LEAST, out)?;
-        function.write_call([SIZE + 1, 70_000, SIZE + 9, SIZE + 3, 4_105], out)?;
-    }
+    let rows = body_rows::all().into_iter().map(Function::from).chain(function_rows::all());
+    write_all(rows, &[FUNCTION_LEAST, [SIZE + 1, 70_000, SIZE + 9, SIZE + 3, 4_105]], out)?;
     writeln!(out, "s {FUNCTION_LIMITS}")?;
     Ok(function_limits::write(out)?)
 }
