@@ -1,10 +1,14 @@
 /*
  * The C interface of the rewriter of PL/pgSQL trigger bodies for SQLite.
  *
- * A part of memory is handed over as a pointer and a length in bytes, for records and starts in
- * 32-bit numbers. The caller owes this: a pointer is not null and valid for its length, aligned for its
- * type, and the buffers of one call overlap neither each other nor the text nor the answer. The library
- * keeps no pointer, allocates nothing, and holds no state, so calls may run in several threads.
+ * A part of memory is handed over as a pointer and a length. Lengths of texts and byte buffers are in
+ * bytes. Those of `records` and `starts` count 32-bit numbers, not bytes: for an array of 4,104 numbers
+ * hand over 4104, not sizeof.
+ *
+ * The caller owes this: each pointer is valid for its length and aligned for its type, and the buffers
+ * of one call overlap neither each other nor the text nor the answer. No pointer may be null, not even
+ * for the length 0: for an empty part of memory hand over the address of any byte. The library keeps no
+ * pointer, allocates nothing, and holds no state, so calls may run in several threads.
  *
  * Whatever the texts hold and however long the buffers are, each call returns and answers as told here.
  *
@@ -32,7 +36,38 @@ extern "C" {
 #define PLPGSQL_NAME_LIMIT 512
 #define PLPGSQL_RECORD_SIZE 8
 
-/* The first number of every answer. The searches give the first four only. */
+/* The numbers of every answer. */
+#define PLPGSQL_ANSWER_SIZE 4
+
+/* The places in the answer of a rewriting call. */
+enum plpgsql_call_answer {
+    PLPGSQL_CALL_NUMBER = 0,
+    PLPGSQL_CALL_PLACE = 1,
+    PLPGSQL_CALL_LENGTH = 2, /* of the output */
+    PLPGSQL_CALL_RECORDS = 3
+};
+
+/* The places in the answer of a search. */
+enum plpgsql_search_answer {
+    PLPGSQL_SEARCH_NUMBER = 0,
+    PLPGSQL_SEARCH_FOUND = 1,
+    PLPGSQL_SEARCH_PLACE = 2,
+    PLPGSQL_SEARCH_LENGTH = 3 /* of what was found or written */
+};
+
+/* The places in a record; record k begins at the number k * PLPGSQL_RECORD_SIZE of records. */
+enum plpgsql_record {
+    PLPGSQL_RECORD_NEXT = 0,
+    PLPGSQL_RECORD_NAME_START = 1,
+    PLPGSQL_RECORD_NAME_LENGTH = 2,
+    PLPGSQL_RECORD_TYPE_START = 3,
+    PLPGSQL_RECORD_TYPE_LENGTH = 4,
+    PLPGSQL_RECORD_HAS_DEFAULT = 5,
+    PLPGSQL_RECORD_DEFAULT_START = 6,
+    PLPGSQL_RECORD_DEFAULT_LENGTH = 7
+};
+
+/* The first number of every answer. The searches give 0 to 3 only. */
 enum plpgsql_number {
     PLPGSQL_ACCEPTED = 0,
     PLPGSQL_TEXT_TOO_LONG = 1,    /* the text is longer than its limit */
@@ -75,20 +110,21 @@ void plpgsql_transform_body(
     uint8_t *output, size_t output_length,
     uint8_t *work, size_t work_length,
     uint8_t *spare, size_t spare_length,
-    uint32_t answer[4]);
+    uint32_t answer[PLPGSQL_ANSWER_SIZE]);
 
 /*
  * Rewrites a function: cuts off the declarations and what else stands before the first BEGIN, and
- * rewrites the rest. It needs declared, of 65,536 bytes or more, and records, of 4,104 numbers or more,
- * besides.
+ * rewrites the rest. It needs declared, of 65,536 bytes or more, and records, of 4,104 numbers or more
+ * (records_length counts numbers), besides.
  *
  * After 0 the first 4,104 numbers of records are the records and then zeros, and the first 65,536 bytes
  * of declared are their texts and then zeros. After 4, 5, 6 and 7 they are zeros.
  *
- * A record is eight numbers: next, start and length of the name, start and length of the type, 1 if a
- * default is present and else 0, start and length of the default (0 and 0 if it is absent). Starts are
- * offsets in declared. Record 0 is the head, of which only next is used. A next is the number of a
- * record: the chain from the head leads through all records in byte order of names and ends with 0.
+ * A record is eight numbers (enum plpgsql_record): next, start and length of the name, start and length
+ * of the type, 1 if a default is present and else 0, start and length of the default (0 and 0 if it is
+ * absent). Starts are offsets in declared. Record 0 is the head: its next leads to the first record, and
+ * its other seven numbers are 0. A next is the number of a record: the chain from the head leads through
+ * all records in byte order of names and ends with 0.
  * The records stand in order of first declaration; a later declaration of a name replaces its type and
  * default. The texts stand one behind the other in the order of the records: name, type, default.
  */
@@ -99,7 +135,7 @@ void plpgsql_preprocess(
     uint8_t *spare, size_t spare_length,
     uint8_t *declared, size_t declared_length,
     uint32_t *records, size_t records_length,
-    uint32_t answer[4]);
+    uint32_t answer[PLPGSQL_ANSWER_SIZE]);
 
 /* ---- The searches ----
  *
@@ -112,7 +148,8 @@ void plpgsql_preprocess(
  *   1: the text is too long; found, place and length 0.
  *   3: a buffer is too short; found, place and length 0.
  *   2: place is the offset of the first byte over 127, in the text or else in keyword or needle; found
- *      and length 0.
+ *      and length 0. A keyword or needle may have any length: an offset of 2^32 or more is given as
+ *      2^32 - 1.
  *
  * The checks come in the order 1, 3, 2, and each of these numbers leaves all buffers as they were.
  * After 0 a map holds a byte for each byte of the text, 0 for a live one and 1 for a quoted one, also
@@ -123,7 +160,7 @@ void plpgsql_preprocess(
 void plpgsql_regions(
     const uint8_t *text, size_t text_length,
     uint8_t *map, size_t map_length,
-    uint32_t answer[4]);
+    uint32_t answer[PLPGSQL_ANSWER_SIZE]);
 
 /*
  * The first place at `from` or behind it where the keyword stands in any letter case, with a live first
@@ -135,14 +172,14 @@ void plpgsql_find_keyword(
     uint8_t *map, size_t map_length,
     const uint8_t *keyword, size_t keyword_length,
     size_t from,
-    uint32_t answer[4]);
+    uint32_t answer[PLPGSQL_ANSWER_SIZE]);
 
 /* The first live byte that equals this one. A byte over 127 is never found. */
 void plpgsql_find_in_code(
     const uint8_t *text, size_t text_length,
     uint8_t *map, size_t map_length,
     uint8_t byte,
-    uint32_t answer[4]);
+    uint32_t answer[PLPGSQL_ANSWER_SIZE]);
 
 /*
  * The first place where the bytes of the needle stand, with a live first byte. An empty needle finds
@@ -152,7 +189,7 @@ void plpgsql_find_str_in_code(
     const uint8_t *text, size_t text_length,
     uint8_t *map, size_t map_length,
     const uint8_t *needle, size_t needle_length,
-    uint32_t answer[4]);
+    uint32_t answer[PLPGSQL_ANSWER_SIZE]);
 
 /*
  * The word at `from` or behind it, past quoted bytes and white space (9, 10, 12, 13 and 32): live
@@ -163,19 +200,19 @@ void plpgsql_next_word_in_code(
     const uint8_t *text, size_t text_length,
     uint8_t *map, size_t map_length,
     size_t from,
-    uint32_t answer[4]);
+    uint32_t answer[PLPGSQL_ANSWER_SIZE]);
 
 /*
  * Splits the text at each live byte that equals the separator. Length is the number of pieces, found 0
- * and place 0. Starts needs one number more than the text has bytes; it holds the offset of each
- * piece, and what lies behind is not written. The empty text has one piece.
+ * and place 0. Starts needs one number more than the text has bytes (starts_length counts numbers);
+ * it holds the offset of each piece, and what lies behind is not written. The empty text has one piece.
  */
 void plpgsql_split_in_code(
     const uint8_t *text, size_t text_length,
     uint8_t *map, size_t map_length,
     uint32_t *starts, size_t starts_length,
     uint8_t separator,
-    uint32_t answer[4]);
+    uint32_t answer[PLPGSQL_ANSWER_SIZE]);
 
 /*
  * Writes the text with each dollar literal as one in single quotes. Length is the number of bytes
@@ -185,18 +222,18 @@ void plpgsql_split_in_code(
 void plpgsql_requote_dollar_literals(
     const uint8_t *text, size_t text_length,
     uint8_t *output, size_t output_length,
-    uint32_t answer[4]);
+    uint32_t answer[PLPGSQL_ANSWER_SIZE]);
 
 /* Found is 1 if a dollar literal is not closed. Place is 0. */
 void plpgsql_has_unterminated_dollar_quote(
     const uint8_t *text, size_t text_length,
-    uint32_t answer[4]);
+    uint32_t answer[PLPGSQL_ANSWER_SIZE]);
 
 /* Found is 1 if there is a live EXCEPTION whose next live word is WHEN. Place is 0. */
 void plpgsql_has_exception_handler(
     const uint8_t *text, size_t text_length,
     uint8_t *map, size_t map_length,
-    uint32_t answer[4]);
+    uint32_t answer[PLPGSQL_ANSWER_SIZE]);
 
 /*
  * Found is 1 if the body is closed: it ends in a live `;`, holds no backslash, no comment and no newline
@@ -209,7 +246,7 @@ void plpgsql_has_exception_handler(
 void plpgsql_is_closed(
     const uint8_t *text, size_t text_length,
     uint8_t *map, size_t map_length,
-    uint32_t answer[4]);
+    uint32_t answer[PLPGSQL_ANSWER_SIZE]);
 
 #ifdef __cplusplus
 }

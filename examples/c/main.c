@@ -29,14 +29,17 @@ static const char *const FUNCTION =
     "    RETURN NEW;\n"
     "END;";
 
-static void print_answer(const uint32_t answer[4]) {
-    printf("%u %u %u %u\n", (unsigned)answer[0], (unsigned)answer[1], (unsigned)answer[2], (unsigned)answer[3]);
-    fwrite(output, 1, answer[2], stdout);
+static void print_answer(const uint32_t answer[PLPGSQL_ANSWER_SIZE]) {
+    for (int i = 0; i < PLPGSQL_ANSWER_SIZE; i++) {
+        printf(i == 0 ? "%u" : " %u", (unsigned)answer[i]);
+    }
+    printf("\n");
+    fwrite(output, 1, answer[PLPGSQL_CALL_LENGTH], stdout);
     printf("\n");
 }
 
 static void print_body(const char *text) {
-    uint32_t answer[4];
+    uint32_t answer[PLPGSQL_ANSWER_SIZE];
     plpgsql_transform_body((const uint8_t *)text, strlen(text), output, sizeof output, work, sizeof work, spare,
                            sizeof spare, answer);
     print_answer(answer);
@@ -50,20 +53,21 @@ static void print_part(const char *title, uint32_t start, uint32_t length) {
 
 /* Follows the chain from the head, so the declarations come in the order of their names. */
 static void print_declarations(void) {
-    for (uint32_t next = records[0]; next != 0; next = records[next * PLPGSQL_RECORD_SIZE]) {
-        const uint32_t *record = records + next * PLPGSQL_RECORD_SIZE;
+    const uint32_t *record = records;
+    for (uint32_t next = record[PLPGSQL_RECORD_NEXT]; next != 0; next = record[PLPGSQL_RECORD_NEXT]) {
+        record = records + next * PLPGSQL_RECORD_SIZE;
         printf("record %u:", (unsigned)next);
-        print_part("name", record[1], record[2]);
-        print_part("type", record[3], record[4]);
-        if (record[5] == 1) {
-            print_part("default", record[6], record[7]);
+        print_part("name", record[PLPGSQL_RECORD_NAME_START], record[PLPGSQL_RECORD_NAME_LENGTH]);
+        print_part("type", record[PLPGSQL_RECORD_TYPE_START], record[PLPGSQL_RECORD_TYPE_LENGTH]);
+        if (record[PLPGSQL_RECORD_HAS_DEFAULT] == 1) {
+            print_part("default", record[PLPGSQL_RECORD_DEFAULT_START], record[PLPGSQL_RECORD_DEFAULT_LENGTH]);
         }
         printf("\n");
     }
 }
 
 static void print_function(const char *text) {
-    uint32_t answer[4];
+    uint32_t answer[PLPGSQL_ANSWER_SIZE];
     plpgsql_preprocess((const uint8_t *)text, strlen(text), output, sizeof output, work, sizeof work, spare,
                        sizeof spare, declared, sizeof declared, records, PLPGSQL_RECORD_NUMBERS, answer);
     print_answer(answer);

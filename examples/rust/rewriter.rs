@@ -6,6 +6,13 @@ const BUFFER_SIZE: usize = 65_536;
 const RECORD_NUMBERS: usize = 4_104;
 const RECORD_SIZE: usize = 8;
 
+// The places in a record, as the header names them; behind each start stands the length.
+const NEXT: usize = 0;
+const NAME_START: usize = 1;
+const TYPE_START: usize = 3;
+const HAS_DEFAULT: usize = 5;
+const DEFAULT_START: usize = 6;
+
 extern "C" {
     fn plpgsql_transform_body(
         text: *const c_uchar,
@@ -126,13 +133,13 @@ impl Rewriter {
     /// Follows the chain from the head up to the zero that ends it.
     fn declarations(&self) -> Vec<Declaration<'_>> {
         let mut list = Vec::new();
-        let mut next = self.records[0] as usize;
+        let mut next = self.records[NEXT] as usize;
         while next != 0 {
             let record = &self.records[next * RECORD_SIZE..][..RECORD_SIZE];
             let part = |at: usize| text_of(&self.declared, record[at], record[at + 1]);
-            let default = (record[5] == 1).then(|| part(6));
-            list.push(Declaration { name: part(1), data_type: part(3), default });
-            next = record[0] as usize;
+            let default = (record[HAS_DEFAULT] == 1).then(|| part(DEFAULT_START));
+            list.push(Declaration { name: part(NAME_START), data_type: part(TYPE_START), default });
+            next = record[NEXT] as usize;
         }
         list
     }
