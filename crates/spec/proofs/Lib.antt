@@ -25,3 +25,4 @@ pub mod CopyLaws
 pub mod BytesLaws
 pub mod PartLaws
 pub mod EndLaws
+pub mod LiteralLaws
