@@ -26,3 +26,6 @@ pub mod BytesLaws
 pub mod PartLaws
 pub mod EndLaws
 pub mod LiteralLaws
+pub mod TrimLaws
+pub mod MessagePlaces
+pub mod UsingPlaces

@@ -1,0 +1,324 @@
+-- The clause of an abort in document 01's words, by offsets of its content: what is refused and what is rewritten is exactly
+-- that. Assumes nothing.
+use mathlib.Core.Path.{_≡_, refl, sym, ap, _∙_, subst}
+use mathlib.Core.Bool.{Bool, true, false, cond, _&&_, false≢true}
+use mathlib.Core.Logic.{_↔_}
+use mathlib.Core.List.{List, []}
+use Prim.Native.Nat.{ℕ, _+_, _-_, _≤_, _<_}
+use native.Mathlib.Omega.{arith}
+use borrow.Author.Tests.{eqb-true, eq-eqb, leb-true, lt-leb}
+use lib.Dec.{eqb, leb}
+use lib.ListN.{length, take, drop, getD, length-drop}
+use lib.Seq.{drop-drop, getD-drop, length-take-le}
+use Rattle.spec.proofs.Apart.{apart}
+use Rattle.spec.proofs.BytesLaws.{bytes-drop, front-bytes, while-length-bytes}
+use Rattle.spec.proofs.Choice.{by, and-left, and-right, and-both}
+use Rattle.spec.proofs.ListLaws.{empty-length, while-sum}
+use Rattle.spec.proofs.MessagePlaces.{IsMessage, message-some, message-part, message-within, message-quote}
+use Rattle.spec.proofs.RefusalBounds.{bytes-length}
+use Rattle.spec.proofs.SearchLaws.{Same, prefix-at, at-prefix}
+use Rattle.spec.proofs.SpanLaws.{seen}
+use Rattle.spec.proofs.TrimLaws.{while-exactly, AllW}
+use Rattle.spec.proofs.WalkLaws.{prefixBy, prefix-by-len, starts-case, while-drop, while-passes-at, while-least-at}
+use Rattle.spec.specs.Bytes.{ascii, upper, isW, isLower, within}
+use Rattle.spec.specs.Lists.{isEmpty, takeWhile, dropWhile}
+use Rattle.spec.specs.Map.{Marked, bytes, frontByte, ofByte}
+use Rattle.spec.specs.Search.{startsIgnoringCase}
+use Rattle.spec.specs.Raise.{message, Fate, rewritten, dropped, passed, refused, usingFate, abortFate}
+
+-- w stands at j of xs, ignoring ASCII case
+abbrev pub Stands : List ℕ → List ℕ → ℕ → Type 0
+Stands w xs j = Same upper w xs j
+
+-- the content xs is USING, MESSAGE at a, `=` at b and a text starting with `'` at c, with W or nothing between, and behind
+-- that text's message of d bytes there is only W
+pub record IsMessageClause (xs : List ℕ) (a b c d : ℕ) : Type 0 where
+  pub at-using : Stands (ascii "USING") xs 0
+  pub from-using : 5 ≤ a
+  pub behind-using : AllW xs 5 a
+  pub at-message : Stands (ascii "MESSAGE") xs a
+  pub from-message : a + 7 ≤ b
+  pub behind-message : AllW xs (a + 7) b
+  pub at-equals : getD xs b 0 ≡ 61
+  pub from-equals : b + 1 ≤ c
+  pub behind-equals : AllW xs (b + 1) c
+  pub at-quote : getD xs c 0 ≡ 39
+  pub is-message : IsMessage (drop c xs) 0 d
+  pub only-space : AllW xs (c + d) (length xs)
+
+-- refusal 5: any other content that starts with USING
+pub record IsRefusedContent (xs : List ℕ) : Type 0 where
+  pub at-using : Stands (ascii "USING") xs 0
+  pub no-clause : (a b c d : ℕ) → IsMessageClause xs a b c d → ⊥
+
+-- ---- words and runs of W, at an offset
+
+module _ (t : List Marked) (w : List ℕ) (j : ℕ) where
+  pub starts-stands : startsIgnoringCase w (drop j t) ≡ true → 0 < length w → Stands w (bytes t) j
+  starts-stands h some =
+      let p : prefixBy upper w (drop j (bytes t)) ≡ true =
+      ap (prefixBy upper w) (sym (bytes-drop j t)) ∙ (sym (starts-case w (drop j t)) ∙ h) in
+      prefix-at upper w (bytes t) j (omega (arith, prefix-by-len upper w (drop j (bytes t)) p, length-drop j (bytes t))) p
+
+  pub stands-starts : Stands w (bytes t) j → startsIgnoringCase w (drop j t) ≡ true
+  stands-starts s = starts-case w (drop j t) ∙ (ap (prefixBy upper w) (bytes-drop j t) ∙ at-prefix upper w (bytes t) j s)
+
+-- the byte at i
+front-at : (t : List Marked) (i : ℕ) → frontByte (drop i t) ≡ getD (bytes t) i 0
+front-at t i =
+    let z : i + 0 ≡ i = omega arith in
+    front-bytes (drop i t)
+    ∙ (ap (λ (l : List ℕ). getD l 0 0) (bytes-drop i t) ∙ (getD-drop i (bytes t) 0 0 ∙ ap (λ (n : ℕ). getD (bytes t) n 0) z))
+
+-- where the W from i on end
+abbrev runEnd : List ℕ → ℕ → ℕ
+runEnd xs i = i + length (takeWhile isW (drop i xs))
+
+run-long : (t : List Marked) (i : ℕ) → length (takeWhile (ofByte isW) (drop i t)) ≡ length (takeWhile isW (drop i (bytes t)))
+run-long t i = while-length-bytes isW (drop i t) ∙ ap (λ (l : List ℕ). length (takeWhile isW l)) (bytes-drop i t)
+
+skip-to : (t : List Marked) (i : ℕ) → dropWhile (ofByte isW) (drop i t) ≡ drop (runEnd (bytes t) i) t
+skip-to t i =
+    while-drop (ofByte isW) (drop i t)
+    ∙ (ap (λ (n : ℕ). drop n (drop i t)) (run-long t i) ∙ drop-drop (length (takeWhile isW (drop i (bytes t)))) i t)
+
+-- a byte that is a letter of a word, or another that is no W, ends them
+run-at : (xs : List ℕ) (i j : ℕ) → i ≤ j → AllW xs i j → j < length xs → isW (getD xs j 0) ≡ false → runEnd xs i ≡ j
+run-at xs i j h w b e = while-least-at isW xs 0 i j h b w e
+
+w-low : (c : ℕ) → isW c ≡ true → c ≤ 32
+unfolding isW within
+w-low c h = go (within 9 13 c) refl
+  where
+    go : (b : Bool) → within 9 13 c ≡ b → c ≤ 32
+    go true e = omega (arith, leb-true c 13 (and-right (leb 9 c) (leb c 13) e))
+    go false e = let f : eqb c 32 ≡ true = rw e at h in omega (arith, eqb-true c 32 f)
+
+letter-no-w : (c l : ℕ) → upper c ≡ l → 65 ≤ l → isW c ≡ false
+unfolding upper isLower within
+letter-no-w c l p h =
+    by (isW c)
+    (λ e.
+    let low = w-low c e in
+    let same : c ≡ l = rw (lt-leb 97 c (omega arith)) at p in
+    absurd (omega arith))
+    (λ e. e)
+
+-- all of the rest is W exactly if nothing is left of it
+module _ (t : List Marked) (i : ℕ) where
+  rest-w : isEmpty (dropWhile (ofByte isW) (drop i t)) ≡ true → AllW (bytes t) i (length (bytes t))
+  rest-w h k a b =
+      let left = dropWhile (ofByte isW) (drop i t) in
+      let none : length left ≡ 0 = eqb-true (length left) 0 (sym (empty-length left) ∙ h) in
+      let n = while-sum (ofByte isW) (drop i t) in
+      while-passes-at isW (bytes t) 0 i k a (omega (arith, run-long t i, length-drop i t, bytes-length t))
+
+  w-rest : AllW (bytes t) i (length (bytes t)) → isEmpty (dropWhile (ofByte isW) (drop i t)) ≡ true
+  w-rest h =
+      let u = drop i (bytes t) in
+      let left = dropWhile (ofByte isW) (drop i t) in
+      let l : length u ≡ length (bytes t) - i = length-drop i (bytes t) in
+      let all = while-exactly isW u 0 (length u) (omega arith)
+      (λ k b. ap isW (getD-drop i (bytes t) k 0) ∙ h (i + k) (omega arith) (omega arith))
+      (λ b. absurd (omega arith)) in
+      let n = while-sum (ofByte isW) (drop i t) in
+      empty-length left ∙ eq-eqb (length left) 0 (omega (arith, run-long t i, length-drop i t, bytes-length t))
+
+-- ---- the clause
+
+-- the offsets are where the runs of W end
+module _ (xs : List ℕ) (a b c d : ℕ) (w : IsMessageClause xs a b c d) where
+  place-message : runEnd xs 5 ≡ a
+  unfolding upper isLower within
+  place-message =
+      let fits = w .at-message .fits in
+      let m : upper (getD xs (a + 0) 0) ≡ 77 = w .at-message .same 0 (omega arith) in
+      let z : a + 0 ≡ a = omega arith in
+      run-at xs 5 a (w .from-using) (w .behind-using) (omega arith)
+      (ap (λ (n : ℕ). isW (getD xs n 0)) (sym z) ∙ letter-no-w (getD xs (a + 0) 0) 77 m (omega arith))
+
+  place-equals : runEnd xs (a + 7) ≡ b
+  unfolding isW within
+  place-equals =
+      run-at xs (a + 7) b (w .from-message) (w .behind-message) (seen xs b 60 (w .at-equals)) (rw (w .at-equals))
+
+  place-quote : runEnd xs (b + 1) ≡ c
+  unfolding isW within
+  place-quote =
+      run-at xs (b + 1) c (w .from-equals) (w .behind-equals) (seen xs c 38 (w .at-quote)) (rw (w .at-quote))
+
+-- the message of the text from c on
+module _ (t : List Marked) (c : ℕ) where
+  message-from : (d : ℕ) → IsMessage (drop c (bytes t)) 0 d → (message (drop c t) ≡ take d (drop c t)) × (length (message (drop c t)) ≡ d)
+  message-from d w =
+      let same : bytes (drop c t) ≡ drop c (bytes t) = bytes-drop c t in
+      let v : IsMessage (bytes (drop c t)) 0 d = rw same w in
+      let z : d - 0 ≡ d = omega arith in
+      let m : message (drop c t) ≡ take d (drop c t) = rw z at (message-part (drop c t) 0 d v) in
+      let b = message-within (bytes (drop c t)) 0 d v in
+      (m, ap length m ∙ length-take-le d (drop c t) (omega (arith, bytes-length (drop c t))))
+
+  quoted-message : getD (bytes t) c 0 ≡ 39 → IsMessage (drop c (bytes t)) 0 (length (message (drop c t)))
+  quoted-message q =
+      let w = message-some (drop c t) in
+      let same : bytes (drop c t) ≡ drop c (bytes t) = bytes-drop c t in
+      let v : IsMessage (drop c (bytes t)) (w .0) (w .1) = rw same at (w .2) in
+      let z : c + 0 ≡ c = omega arith in
+      let front : getD (drop c (bytes t)) 0 0 ≡ 39 = getD-drop c (bytes t) 0 0 ∙ (ap (λ (n : ℕ). getD (bytes t) n 0) z ∙ q) in
+      let first = message-quote (drop c (bytes t)) (w .0) (w .1) v front in
+      let u : IsMessage (drop c (bytes t)) 0 (w .1) = rw first at v in
+      rw (message-from (w .1) u .1) u
+
+module _ (t : List Marked) (a b c : ℕ)
+    (pa : runEnd (bytes t) 5 ≡ a) (pb : runEnd (bytes t) (a + 7) ≡ b) (pc : runEnd (bytes t) (b + 1) ≡ c) where
+  abbrev fits : Bool
+  fits =
+      startsIgnoringCase (ascii "MESSAGE") (drop a t)
+      && (eqb (getD (bytes t) b 0) 61
+      && (eqb (getD (bytes t) c 0) 39 && isEmpty (dropWhile (ofByte isW) (drop (c + length (message (drop c t))) t))))
+
+  using-is : usingFate t (drop 5 t) ≡ cond fits (rewritten (message (drop c t))) (refused (bytes t))
+  unfolding usingFate
+  using-is =
+      rw (
+        skip-to t 5,
+        pa,
+        drop-drop 7 a t,
+        skip-to t (a + 7),
+        pb,
+        drop-drop 1 b t,
+        skip-to t (b + 1),
+        pc,
+        front-at t b,
+        front-at t c,
+        drop-drop (length (message (drop c t))) c t,
+      )
+
+  fits-clause : Stands (ascii "USING") (bytes t) 0 → fits ≡ true → IsMessageClause (bytes t) a b c (length (message (drop c t)))
+  fits-clause u h =
+      let p = startsIgnoringCase (ascii "MESSAGE") (drop a t) in
+      let q = eqb (getD (bytes t) b 0) 61 in
+      let r = eqb (getD (bytes t) c 0) 39 in
+      let s = isEmpty (dropWhile (ofByte isW) (drop (c + length (message (drop c t))) t)) in
+      let two = and-right p (q && (r && s)) h in
+      let three = and-right q (r && s) two in
+      let quote = eqb-true (getD (bytes t) c 0) 39 (and-left r s three) in
+      record {
+        at-using = u;
+        from-using = omega arith;
+        behind-using = λ k x y. while-passes-at isW (bytes t) 0 5 k x (omega arith);
+        at-message = starts-stands t (ascii "MESSAGE") a (and-left p (q && (r && s)) h) (omega arith);
+        from-message = omega arith;
+        behind-message = λ k x y. while-passes-at isW (bytes t) 0 (a + 7) k x (omega arith);
+        at-equals = eqb-true (getD (bytes t) b 0) 61 (and-left q (r && s) two);
+        from-equals = omega arith;
+        behind-equals = λ k x y. while-passes-at isW (bytes t) 0 (b + 1) k x (omega arith);
+        at-quote = quote;
+        is-message = quoted-message t c quote;
+        only-space = rest-w t (c + length (message (drop c t))) (and-right r s three);
+      }
+
+  clause-fits : (d : ℕ) → IsMessageClause (bytes t) a b c d → fits ≡ true
+  clause-fits d w =
+      let p = startsIgnoringCase (ascii "MESSAGE") (drop a t) in
+      let q = eqb (getD (bytes t) b 0) 61 in
+      let r = eqb (getD (bytes t) c 0) 39 in
+      let s = isEmpty (dropWhile (ofByte isW) (drop (c + length (message (drop c t))) t)) in
+      let n = message-from t c d (w .is-message) .1 in
+      let rest : s ≡ true = rw n (w-rest t (c + d) (w .only-space)) in
+      and-both p (q && (r && s)) (stands-starts t (ascii "MESSAGE") a (w .at-message))
+      (and-both q (r && s) (eq-eqb (getD (bytes t) b 0) 61 (w .at-equals))
+      (and-both r s (eq-eqb (getD (bytes t) c 0) 39 (w .at-quote)) rest))
+
+-- ---- what becomes of the content
+
+-- m is put in: the message of the clause, or of a content that does not start with USING
+pub data Rewrites (t m : List Marked) : Type 0 where
+  of-clause : {a b c d : ℕ} → IsMessageClause (bytes t) a b c d → m ≡ take d (drop c t) → Rewrites t m
+  of-content : {i j : ℕ} → (Stands (ascii "USING") (bytes t) 0 → ⊥) → IsMessage (bytes t) i j → m ≡ take (j - i) (drop i t)
+      → Rewrites t m
+
+-- the condition of each fate
+abbrev pub AbortCondition : List Marked → Fate → Type 0
+AbortCondition t (rewritten m) = Rewrites t m
+AbortCondition t dropped = ⊥
+AbortCondition t (passed u) = ⊥
+AbortCondition t (refused c) = IsRefusedContent (bytes t) × (c ≡ bytes t)
+
+module _ (t : List Marked) where
+  abort-using : Stands (ascii "USING") (bytes t) 0 → abortFate t ≡ usingFate t (drop 5 t)
+  unfolding abortFate
+  abort-using u = rw (stands-starts t (ascii "USING") 0 u)
+
+  abort-content : (Stands (ascii "USING") (bytes t) 0 → ⊥) → abortFate t ≡ rewritten (message t)
+  unfolding abortFate
+  abort-content n =
+      by (startsIgnoringCase (ascii "USING") t)
+      (λ e. absurd (n (starts-stands t (ascii "USING") 0 e (omega arith))))
+      (λ e. rw e)
+
+  -- where the runs of W end
+  abbrev aEnd : ℕ
+  aEnd = runEnd (bytes t) 5
+
+  abbrev bEnd : ℕ
+  bEnd = runEnd (bytes t) (aEnd + 7)
+
+  abbrev cEnd : ℕ
+  cEnd = runEnd (bytes t) (bEnd + 1)
+
+  abort-gives : (f : Fate) → AbortCondition t f → abortFate t ≡ f
+  abort-gives (rewritten m) (of-clause {a} {b} {c} {d} w e) =
+      let pa = place-message (bytes t) a b c d w in
+      let pb = place-equals (bytes t) a b c d w in
+      let pc = place-quote (bytes t) a b c d w in
+      abort-using (w .at-using)
+      ∙ (using-is t a b c pa pb pc
+      ∙ rw (clause-fits t a b c pa pb pc d w) (ap rewritten (message-from t c d (w .is-message) .0 ∙ sym e)))
+  abort-gives (rewritten m) (of-content {i} {j} n w e) = abort-content n ∙ ap rewritten (message-part t i j w ∙ sym e)
+  abort-gives (refused c) w =
+      abort-using (w .0 .at-using)
+      ∙ (using-is t aEnd bEnd cEnd refl refl refl
+      ∙ by (fits t aEnd bEnd cEnd refl refl refl)
+      (λ e. absurd (w .0 .no-clause aEnd bEnd cEnd _ (fits-clause t aEnd bEnd cEnd refl refl refl (w .0 .at-using) e)))
+      (λ e. rw e (ap refused (sym (w .1)))))
+
+  abort-decided : (f : Fate) × AbortCondition t f
+  abort-decided =
+      by (startsIgnoringCase (ascii "USING") t)
+      (λ h.
+      let u = starts-stands t (ascii "USING") 0 h (omega arith) in
+      by (fits t aEnd bEnd cEnd refl refl refl)
+      (λ e.
+      let w = fits-clause t aEnd bEnd cEnd refl refl refl u e in
+      (rewritten (take (length (message (drop cEnd t))) (drop cEnd t)), of-clause w refl))
+      (λ e. (
+        refused (bytes t),
+        (
+          record {
+            at-using = u;
+            no-clause = λ a b c d w.
+                let one = abort-gives (rewritten (take d (drop c t))) (of-clause w refl) in
+                let two : abortFate t ≡ refused (bytes t) = abort-using u ∙ (using-is t aEnd bEnd cEnd refl refl refl ∙ rw e) in
+                absurd (apart (cc));
+          },
+          refl,
+        ),
+      )))
+      (λ h.
+      let w = message-some t in (
+        rewritten (take (w .1 - w .0) (drop (w .0) t)),
+        of-content (λ u. false≢true (sym h ∙ stands-starts t (ascii "USING") 0 u)) (w .2) refl,
+      ))
+
+  -- each fate is given exactly on its condition
+  pub abort-exactly : (f : Fate) → (abortFate t ≡ f) ↔ AbortCondition t f
+  abort-exactly f =
+      ((λ h. subst (AbortCondition t) (sym (abort-gives (abort-decided .0) (abort-decided .1)) ∙ h) (abort-decided .1)), abort-gives f)
+
+-- refusal 5 is given exactly for a refused content, with all of it
+pub abort-refused-exactly : (t : List Marked) (c : List ℕ) → (abortFate t ≡ refused c) ↔ (IsRefusedContent (bytes t) × (c ≡ bytes t))
+abort-refused-exactly t c = abort-exactly t (refused c)
+
+pub abort-rewritten-exactly : (t m : List Marked) → (abortFate t ≡ rewritten m) ↔ Rewrites t m
+abort-rewritten-exactly t m = abort-exactly t (rewritten m)
