@@ -29,3 +29,5 @@ pub mod LiteralLaws
 pub mod TrimLaws
 pub mod MessagePlaces
 pub mod UsingPlaces
+pub mod RaisePlaces
+pub mod RaiseWalk
