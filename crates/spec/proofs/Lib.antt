@@ -31,3 +31,4 @@ pub mod MessagePlaces
 pub mod UsingPlaces
 pub mod RaisePlaces
 pub mod RaiseWalk
+pub mod UsingExactly
