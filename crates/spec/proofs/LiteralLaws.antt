@@ -173,7 +173,8 @@ module _ (t : List Marked) where
             size = omega (arith, w .size);
           }
 
-      from : (t : List Marked) → IsLiteral (bytes t) n → (frontByte t ≡ 39) × (0 < closeLen (drop 1 t)) × (n ≡ 1 + closeLen (drop 1 t))
+      from : (t : List Marked) → IsLiteral (bytes t) n
+          → (frontByte t ≡ 39) × (0 < closeLen (drop 1 t)) × (n ≡ 1 + closeLen (drop 1 t))
       from [] l = let e = l .split in absurd (apart (cc))
       from (x ∷ u) l =
           let e = l .split in

@@ -57,14 +57,15 @@ pub data EndsAt (ys : List ℕ) : ℕ → Type 0 where
   semicolon : {e : ℕ} → LeastOf (IsByteAt ys 59) 0 e → EndsAt ys e
   at-end : NoneOf (IsByteAt ys 59) 0 → EndsAt ys (length ys)
 
--- the search that found a RAISE at k goes on: where no level stands behind the separator, there; else behind the
--- statement's `;`
+-- where the search that found a RAISE at k goes on: behind the separator at k + 5 if no level stands there, as none does
+-- where the text ends; else behind the statement's `;`. Past the end it finds none.
 pub data GoesOn (xs : List ℕ) (k : ℕ) : ℕ → Type 0 where
   no-level : (Stands (ascii "EXCEPTION") xs (k + 6) → ⊥) → (IsOtherLevel xs (k + 6) → ⊥) → GoesOn xs k (k + 6)
   behind-exception : {e : ℕ} → Stands (ascii "EXCEPTION") xs (k + 6) → EndsAt (drop (k + 15) xs) e → GoesOn xs k (k + 15 + e + 1)
   behind-other : {l e : ℕ} → IsOtherLevel xs (k + 6) → IsLevelEnd xs (k + 6) l → EndsAt (drop l xs) e → GoesOn xs k (l + e + 1)
 
--- the RAISE at k is refused with the clause c: its level is EXCEPTION, and the statement behind that is c when trimmed
+-- the RAISE at k is refused with the clause c: its level is EXCEPTION, and what stands behind that, up to the statement's
+-- end and trimmed, is c, a refused content
 pub record IsRefusedRaise (xs : List ℕ) (k : ℕ) (c : List ℕ) : Type 0 where
   pub level : Stands (ascii "EXCEPTION") xs (k + 6)
   pub end : ℕ
@@ -82,7 +83,8 @@ module _ (ys : List ℕ) where
   abbrev goes : Marked → Bool
   goes x = not (isLiveByte 59 x)
 
-  semicolon-at : (k : ℕ) → k < length ys → isLiveByte 59 (getD (markedText ys) k (live 0)) ≡ passesAt (byteHere 59) (markedText ys) k
+  semicolon-at : (k : ℕ) → k < length ys
+      → isLiveByte 59 (getD (markedText ys) k (live 0)) ≡ passesAt (byteHere 59) (markedText ys) k
   unfolding byteHere
   semicolon-at k h = rw (drop-step (markedText ys) k (live 0) (omega (arith, text-length ys)))
 
@@ -273,11 +275,12 @@ level-long xs p l w =
 
 level-some : (xs : List ℕ) (p : ℕ) → p ≤ length xs → IsLevelEnd xs p (p + length (takeWhile staysLevel (drop p xs)))
 level-some xs p h =
+    let n = length (takeWhile staysLevel (drop p xs)) in
     record {
       from = omega arith;
       inside = omega (arith, while-length staysLevel (drop p xs), length-drop p xs);
       before = λ k a b. not-true (endsLevel (getD xs k 0)) (while-passes-at staysLevel xs 0 p k a b);
-      stops = λ b. not-false (endsLevel (getD xs (p + length (takeWhile staysLevel (drop p xs))) 0)) (while-fails-at staysLevel xs 0 p b);
+      stops = λ b. not-false (endsLevel (getD xs (p + n) 0)) (while-fails-at staysLevel xs 0 p b);
     }
 
 -- ---- a RAISE, by what is read behind its separator
@@ -350,7 +353,8 @@ module _ (t : List Marked) (k : ℕ) where
 
       from : Reads t (k + 6) → IsRefusedRaise (bytes t) k c → raiseOf (drop k t) .fate ≡ refused c
       from (reads-exception e s) w =
-          let same : c ≡ bytes (trim (contentOf behind)) = w .clause ∙ sym (clause-at (w .end) (w .i) (w .j) (w .ends) (w .trimmed)) in
+          let same : c ≡ bytes (trim (contentOf behind)) =
+          w .clause ∙ sym (clause-at (w .end) (w .i) (w .j) (w .ends) (w .trimmed)) in
           let r : IsRefusedContent (bytes (trim (contentOf behind))) = rw same at (w .refuses) in
           ap (λ (r : Raised). r .fate) (exception-at e) ∙ abort-refused-exactly (trim (contentOf behind)) c .1 (r, same)
       from (reads-other l e a b n o) w = absurd (n (w .level))
@@ -379,7 +383,8 @@ module _ (t : List Marked) (k : ℕ) where
       let at : drop (6 + n) u ≡ drop l t = drop-drop (6 + n) k t ∙ ap (λ (i : ℕ). drop i t) z in
       let same : bytes (drop l t) ≡ drop l (bytes t) = bytes-drop l t in
       let v : EndsAt (bytes (drop l t)) e = rw same w in
-      let c : length (contentOf (drop (6 + n) u)) ≡ e = ap (λ (i : List Marked). length (contentOf i)) at ∙ content-long (drop l t) e v in
+      let c : length (contentOf (drop (6 + n) u)) ≡ e =
+      ap (λ (i : List Marked). length (contentOf i)) at ∙ content-long (drop l t) e v in
       omega (arith, ap (λ (r : Raised). r .length) (other-is u o (level-at (some o) h) a b))
 
   pub goes-exactly : (n : ℕ) → GoesOn (bytes t) k n ↔ (n ≡ k + raiseOf (drop k t) .length)
@@ -406,7 +411,8 @@ module _ (t : List Marked) (k : ℕ) where
           let n = ends-some (drop (k + 6 + length (takeWhile staysLevel (drop (k + 6) (bytes t)))) (bytes t)) in
           subst (GoesOn (bytes t) k) (other-goes l _ (n .0) e a b m (n .1)) (behind-other o m (n .1))
       some-on (reads-none e i o) =
-          subst (GoesOn (bytes t) k) (ap (λ (r : Raised). k + r .length) (sym (none-is (drop k t) (level-at none e)))) (no-level i o)
+          let n = ap (λ (r : Raised). k + r .length) (none-is (drop k t) (level-at none e)) in
+          subst (GoesOn (bytes t) k) (sym n) (no-level i o)
 
 -- that is behind the RAISE
 pub goes-further : (xs : List ℕ) (k n : ℕ) → GoesOn xs k n → k < n

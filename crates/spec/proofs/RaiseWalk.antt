@@ -90,10 +90,12 @@ module _ (t : List Marked) where
   unfolding keywordHere
   raise-goes i h e =
       let r = raiseOf (drop i t) in
-      let z : i + 1 + (r .length - 1) ≡ i + r .length = omega (arith, raised-pos (levelIn levelWords (drop 6 (drop i t))) (drop i t)) in
+      let z : i + 1 + (r .length - 1) ≡ i + r .length =
+      omega (arith, raised-pos (levelIn levelWords (drop 6 (drop i t))) (drop i t)) in
       front-goes (frontByte (reverse (take i t))) (drop i t) (drop (i + 1) t) (getD t i (live 0)) (drop-step t i (live 0) h) e
       ∙ ap (λ (ps : List Part). raised r ∷ ps)
-      (ap (λ (p : ℕ). raisesFrom (r .length - 1) p (drop (i + 1) t)) (before-next i h) ∙ (raises-past (r .length - 1) (i + 1) ∙ ap (raisesAt t) z))
+      (ap (λ (p : ℕ). raisesFrom (r .length - 1) p (drop (i + 1) t)) (before-next i h)
+      ∙ (raises-past (r .length - 1) (i + 1) ∙ ap (raisesAt t) z))
 
   -- ---- the first clause
 
@@ -121,4 +123,5 @@ module _ (t : List Marked) where
   -- where no RAISE is found there is none
   pub clause-last : (i : ℕ) → first raiseHere i t ≡ Nothing → clauseAt i ≡ none
   clause-last =
-      copied-all (λ (l : List Marked) (o : Option (List ℕ)). o) (λ o. refl) (λ x l o. refl) raiseHere t clauseAt clause-kept none clause-end
+      copied-all (λ (l : List Marked) (o : Option (List ℕ)). o) (λ o. refl) (λ x l o. refl) raiseHere t clauseAt clause-kept none
+      clause-end

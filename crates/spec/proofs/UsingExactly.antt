@@ -16,14 +16,14 @@ use Rattle.spec.proofs.FirstLaws.{LeastOf, found-least, least-found}
 use Rattle.spec.proofs.MapLaws.{text-bytes}
 use Rattle.spec.proofs.RaisePlaces.{GoesOn, IsRefusedRaise, raiseOf, raise-refused-exactly, goes-exactly, goes-further}
 use Rattle.spec.proofs.RaiseWalk.{raiseHere, clauseAt, clause-end, clause-step, clause-last}
-use Rattle.spec.proofs.RefusalLaws.{after4, clauseIn, Through4, using-exactly}
+use Rattle.spec.proofs.RefusalLaws.{after4, clauseIn, Through4, accepted-exactly, using-exactly}
 use Rattle.spec.proofs.RefusalOutcomes.{fateClause}
 use Rattle.spec.proofs.SearchLaws.{IsKeywordAt, keyword-says}
 use Rattle.spec.specs.Bytes.{ascii}
 use Rattle.spec.specs.Map.{bytes, markedText, frontByte}
 use Rattle.spec.specs.Search.{first}
 use Rattle.spec.specs.Raise.{Fate, rewritten, dropped, passed, refused}
-use Rattle.spec.specs.Body.{usingClause, rewriting}
+use Rattle.spec.specs.Body.{accepted, usingClause, rewriting}
 use Rattle.spec.specs.declared.Found.{Found}
 use Rattle.spec.specs.declared.Found.the-variants.{At, Nothing}
 
@@ -78,7 +78,8 @@ module _ (xs : List ℕ) where
 
   some-refused : (k : ℕ) (c : List ℕ) → clauseOf k ≡ some c → IsRefusedRaise xs k c
   some-refused k c e =
-      rw (text-bytes xs) at (raise-refused-exactly (markedText xs) k c .0 (fate-refused (raiseOf (drop k (markedText xs)) .fate) c e))
+      let f = fate-refused (raiseOf (drop k (markedText xs)) .fate) c e in
+      rw (text-bytes xs) at (raise-refused-exactly (markedText xs) k c .0 f)
 
   goes-next : (k : ℕ) → GoesOn xs k (nextOf k)
   goes-next k = rw (text-bytes xs) at (goes-exactly (markedText xs) k (nextOf k) .1 refl)
@@ -120,7 +121,8 @@ module _ (xs : List ℕ) where
   none-refused : from 0 ≡ none → NoneRefused xs
   none-refused e k d r w =
       let s = r .from in
-      let n = either-none (clauseOf k) (from (nextOf k)) (sym (from-step s k (nextOf k) (r .found) (goes-next k)) ∙ none-from e s (r .begins)) in
+      let step = from-step s k (nextOf k) (r .found) (goes-next k) in
+      let n = either-none (clauseOf k) (from (nextOf k)) (sym step ∙ none-from e s (r .begins)) in
       let f = refused-some k d w in
       let z = n .0 in
       apart (cc)
@@ -211,7 +213,8 @@ module _ (xs : List ℕ) where
             none-before = none-yet i k (nextOf k) p a g;
           }
 
-  first-from : (c : List ℕ) (f i : ℕ) → length (markedText xs) ≤ i + f → Begins xs i → Passed i → from i ≡ some c → FirstRefused xs c
+  first-from : (c : List ℕ) (f i : ℕ) → length (markedText xs) ≤ i + f → Begins xs i → Passed i → from i ≡ some c
+      → FirstRefused xs c
   first-from c zero i h b p e = let n = clause-end (markedText xs) i (omega arith) in absurd (apart (cc))
   first-from c (suc f) i h b p e = go (λ n l. first-from c f n l) (first raiseHere i (markedText xs)) refl
     where
@@ -262,7 +265,7 @@ module _ (xs : List ℕ) where
   pub no-clause-exactly : (clauseIn xs ≡ none) ↔ NoneRefused xs
   no-clause-exactly = ((λ h. none-refused (sym clause-from ∙ h)), (λ h. clause-from ∙ refused-none h (from 0) refl))
 
--- ---- the answer
+-- ---- the answers
 
 -- 5: passes 1 to 4 accept, and in the text after pass 4 the first RAISE that is read and refused has the clause c
 pub refusal-5-exactly : (xs c : List ℕ) → (rewriting xs ≡ usingClause c) ↔ (Through4 xs × FirstRefused (after4 xs) c)
@@ -270,3 +273,7 @@ refusal-5-exactly xs c = (
   (λ h. let u = using-exactly xs c .0 h in (u .before, clause-exactly (after4 xs) c .0 (u .first))),
   (λ w. using-exactly xs c .1 (record { before = w .0; first = clause-exactly (after4 xs) c .1 (w .1) })),
 )
+
+-- where a text is accepted, no RAISE that is read in the text after pass 4 is refused
+pub accepted-none-refused : (xs zs : List ℕ) → rewriting xs ≡ accepted zs → NoneRefused (after4 xs)
+accepted-none-refused xs zs h = no-clause-exactly (after4 xs) .0 (accepted-exactly xs zs .0 h .noClause)

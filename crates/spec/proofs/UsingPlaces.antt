@@ -149,7 +149,8 @@ module _ (xs : List ℕ) (a b c d : ℕ) (w : IsMessageClause xs a b c d) where
 
 -- the message of the text from c on
 module _ (t : List Marked) (c : ℕ) where
-  message-from : (d : ℕ) → IsMessage (drop c (bytes t)) 0 d → (message (drop c t) ≡ take d (drop c t)) × (length (message (drop c t)) ≡ d)
+  message-from : (d : ℕ) → IsMessage (drop c (bytes t)) 0 d
+      → (message (drop c t) ≡ take d (drop c t)) × (length (message (drop c t)) ≡ d)
   message-from d w =
       let same : bytes (drop c t) ≡ drop c (bytes t) = bytes-drop c t in
       let v : IsMessage (bytes (drop c t)) 0 d = rw same w in
@@ -314,10 +315,12 @@ module _ (t : List Marked) where
   -- each fate is given exactly on its condition
   pub abort-exactly : (f : Fate) → (abortFate t ≡ f) ↔ AbortCondition t f
   abort-exactly f =
-      ((λ h. subst (AbortCondition t) (sym (abort-gives (abort-decided .0) (abort-decided .1)) ∙ h) (abort-decided .1)), abort-gives f)
+      let d = abort-decided in
+      ((λ h. subst (AbortCondition t) (sym (abort-gives (d .0) (d .1)) ∙ h) (d .1)), abort-gives f)
 
 -- refusal 5 is given exactly for a refused content, with all of it
-pub abort-refused-exactly : (t : List Marked) (c : List ℕ) → (abortFate t ≡ refused c) ↔ (IsRefusedContent (bytes t) × (c ≡ bytes t))
+pub abort-refused-exactly : (t : List Marked) (c : List ℕ)
+    → (abortFate t ≡ refused c) ↔ (IsRefusedContent (bytes t) × (c ≡ bytes t))
 abort-refused-exactly t c = abort-exactly t (refused c)
 
 pub abort-rewritten-exactly : (t m : List Marked) → (abortFate t ≡ rewritten m) ↔ Rewrites t m
