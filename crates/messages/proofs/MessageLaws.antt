@@ -6,7 +6,7 @@ use Prim.Native.Nat.{ℕ, zero, suc, _+_, _-_, _≤_, _<_, zero-le, suc-le-suc}
 use native.Mathlib.Omega.{arith}
 use borrow.Author.Tests.{eq-eqb, ne-eqb, eqb-true, eqb-false}
 use lib.Dec.{eqb}
-use lib.ListN.{length, take, drop, getD, length-drop, drop-of-length-le}
+use lib.ListN.{length, take, drop, getD, length-take, length-drop, drop-of-length-le}
 use lib.Seq.{take-take, length-take-le}
 use Rattle.spec.proofs.EndLaws.{drop-end-take}
 use Rattle.spec.proofs.BytesLaws.{bytes-lives, front-bytes, bytes-while, bytes-skip, bytes-end, bytes-take, bytes-drop}
@@ -140,90 +140,36 @@ pub bytes-trim : (t : List Marked) → bytes (trim t) ≡ trimmed (bytes t)
 unfolding trim trimEnd trimmed
 bytes-trim t = bytes-end isW (dropWhile (ofByte isW) t) ∙ ap (dropEnd isW) (bytes-skip isW t)
 
--- the message by the length of the literal in front
-message-is : (t : List Marked)
-    → bytes (message t)
-    ≡ cond (eqb (literalLen (bytes t)) 0) (trimmed (takeWhile noComma (bytes t))) (take (literalLen (bytes t)) (bytes t))
+-- the message by the bytes: a closed literal in front, else the trimmed text up to the first comma
+abbrev pub messageIn : List ℕ → List ℕ
+messageIn xs = cond (eqb (literalLen xs) 0) (trimmed (takeWhile noComma xs)) (take (literalLen xs) xs)
+
+pub message-is : (t : List Marked) (xs : List ℕ) → bytes t ≡ xs → bytes (message t) ≡ messageIn xs
 unfolding message literalLen
-message-is t =
-    let m = closeLen (lives (drop 1 (bytes t))) in
-    let same : closeLen (drop 1 t) ≡ m = close-bytes (drop 1 t) ∙ ap (λ (l : List ℕ). closeLen (lives l)) (bytes-drop 1 t) in
-    rw (same, front-bytes t)
-    (by (eqb (getD (bytes t) 0 0) 39 && not (eqb m 0))
-    (λ e. rw (e, ne-eqb (1 + m) 0 (λ q. omega arith)) (bytes-take (1 + m) t))
-    (λ e. rw e (bytes-trim (takeWhile (ofByte noComma) t) ∙ ap trimmed (bytes-while noComma t))))
+message-is t xs e =
+    let m = closeLen (lives (drop 1 xs)) in
+    let same : closeLen (drop 1 t) ≡ m = close-bytes (drop 1 t) ∙ ap (λ (l : List ℕ). closeLen (lives l)) (bytes-drop 1 t ∙ ap (drop 1) e) in
+    rw (same, front-bytes t, e)
+    (by (eqb (getD xs 0 0) 39 && not (eqb m 0))
+    (λ q. rw (q, ne-eqb (1 + m) 0 (λ z. omega arith)) (bytes-take (1 + m) t ∙ ap (take (1 + m)) e))
+    (λ q. rw q (bytes-trim (takeWhile (ofByte noComma) t) ∙ ap trimmed (bytes-while noComma t ∙ ap (takeWhile noComma) e))))
 
 module _ (t : List Marked) (xs : List ℕ) (e : bytes t ≡ xs) where
   -- a closed literal in front is the message
   pub message-literal : (literalLen xs ≡ 0 → ⊥) → bytes (message t) ≡ take (literalLen xs) xs
-  message-literal h = message-is t ∙ rw (e, ne-eqb (literalLen xs) 0 h)
+  message-literal h = message-is t xs e ∙ rw (ne-eqb (literalLen xs) 0 h)
 
   -- else it is the trimmed text up to the first comma
   pub message-words : literalLen xs ≡ 0 → bytes (message t) ≡ trimmed (takeWhile noComma xs)
-  message-words h = message-is t ∙ rw (e, eq-eqb (literalLen xs) 0 h)
+  message-words h = message-is t xs e ∙ rw (eq-eqb (literalLen xs) 0 h)
 
--- ---- a message that starts where its text does
-
--- ys stands at the front of xs
-abbrev Front : List ℕ → List ℕ → Type 0
-Front ys xs = ys ≡ take (length ys) xs
-
-front-take : (k : ℕ) (xs : List ℕ) → Front (take k xs) xs
-front-take zero xs = refl
-front-take (suc k) [] = refl
-front-take (suc k) (x ∷ xs) = ap (λ (l : List ℕ). x ∷ l) (front-take k xs)
-
-front-both : (ys zs xs : List ℕ) → length ys ≤ length zs → Front ys zs → Front zs xs → Front ys xs
-front-both ys zs xs h p q =
-    p ∙ (ap (λ (l : List ℕ). take (length ys) l) q ∙ take-take (length ys) (length zs) xs h)
-
--- no W in front, nothing goes there
-no-skip : (xs : List ℕ) → isW (getD xs 0 0) ≡ false → dropWhile isW xs ≡ xs
-unfolding dropWhile
-no-skip [] e = refl
-no-skip (x ∷ xs) e = rw e
-
-cut-front : (k : ℕ) (xs : List ℕ) → isW (getD xs 0 0) ≡ false → isW (getD (take k xs) 0 0) ≡ false
-unfolding isW within
-cut-front zero xs e = refl
-cut-front (suc k) [] e = refl
-cut-front (suc k) (x ∷ xs) e = e
-
-front-trimmed : (xs : List ℕ) → isW (getD xs 0 0) ≡ false → Front (trimmed xs) xs
-unfolding trimmed
-front-trimmed xs e = rw (no-skip xs e) (drop-end-take isW xs)
-
-trimmed-le : (xs : List ℕ) → length (trimmed xs) ≤ length xs
+pub trimmed-le : (xs : List ℕ) → length (trimmed xs) ≤ length xs
 unfolding trimmed
 trimmed-le xs = omega (arith, drop-end-le isW (dropWhile isW xs), drop-while-le isW xs)
 
-pub message-front : (t : List Marked) (xs : List ℕ) → bytes t ≡ xs → isW (getD xs 0 0) ≡ false → Front (bytes (message t)) xs
-message-front t xs e h =
-    by (eqb (literalLen xs) 0)
-    (λ q.
-    let ys = takeWhile noComma xs in
-    let part : Front ys xs = while-take noComma xs in
-    let plain : isW (getD ys 0 0) ≡ false = ap (λ (l : List ℕ). isW (getD l 0 0)) part ∙ cut-front (length ys) xs h in
-    rw (message-words t xs e (eqb-true _ _ q)) (front-both (trimmed ys) ys xs (trimmed-le ys) (front-trimmed ys plain) part))
-    (λ q. rw (message-literal t xs e (eqb-false _ _ q)) (front-take (literalLen xs) xs))
-
-pub message-le : (t : List Marked) (xs : List ℕ) → bytes t ≡ xs → length (bytes (message t)) ≤ length xs
-message-le t xs e =
-    by (eqb (literalLen xs) 0)
-    (λ q.
-    rw (message-words t xs e (eqb-true _ _ q))
-    (omega (arith, trimmed-le (takeWhile noComma xs), while-length noComma xs)))
-    (λ q.
-    rw (message-literal t xs e (eqb-false _ _ q)) (omega (arith, literal-le xs, length-take-le (literalLen xs) xs (literal-le xs))))
-
--- what is trimmed has no W in front
-skip-front : (xs : List ℕ) → isW (getD (dropWhile isW xs) 0 0) ≡ false
-unfolding dropWhile isW within
-skip-front [] = refl
-skip-front (x ∷ xs) = by (isW x) (λ e. rw e (skip-front xs)) (λ e. rw e e)
-
-pub trimmed-front : (xs : List ℕ) → isW (getD (trimmed xs) 0 0) ≡ false
-unfolding trimmed
-trimmed-front xs =
-    ap (λ (l : List ℕ). isW (getD l 0 0)) (drop-end-take isW (dropWhile isW xs))
-    ∙ cut-front (length (dropEnd isW (dropWhile isW xs))) (dropWhile isW xs) (skip-front xs)
+-- it is no longer than the text
+pub message-le : (xs : List ℕ) → length (messageIn xs) ≤ length xs
+message-le xs =
+    cond-case (λ (l : List ℕ). length l ≤ length xs) (eqb (literalLen xs) 0) (trimmed (takeWhile noComma xs)) (take (literalLen xs) xs)
+    (λ _. omega (arith, trimmed-le (takeWhile noComma xs), while-length noComma xs))
+    (λ _. omega (arith, length-take (literalLen xs) xs))

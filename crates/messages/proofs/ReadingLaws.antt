@@ -9,26 +9,25 @@ use borrow.Author.Tests.{leb-true, leb-false}
 use lib.Dec.{leb}
 use lib.ListN.{length, take, drop, getD, length-take, length-drop, drop-of-length-le}
 use lib.Seq.{drop-drop, take-all, take-length, length-take-le}
-use Rattle.spec.proofs.BytesLaws.{bytes-while, bytes-take, bytes-drop}
+use Rattle.spec.proofs.BytesLaws.{bytes-lives, bytes-while, bytes-take, bytes-drop}
 use Rattle.spec.proofs.RefusalBounds.{bytes-length}
 use Rattle.spec.proofs.Choice.{by}
 use Rattle.spec.proofs.ListLaws.{drop-end-le}
 use Rattle.spec.proofs.WalkLaws.{prefixBy, starts-case}
 use Rattle.spec.specs.Bytes.{ascii, upper, isW}
 use Rattle.spec.specs.Lists.{takeWhile, dropEnd}
-use Rattle.spec.specs.Map.{Marked, bytes, ofByte}
+use Rattle.spec.specs.Map.{Marked, bytes, lives, ofByte}
 use Rattle.spec.specs.Search.{startsIgnoringCase}
 use Rattle.spec.specs.Assignments.{trim}
 use Rattle.spec.specs.Body.{accepted, usingClause, forget}
 use Rattle.spec.specs.Raise.{Level, exception, notice, warning, debug, log, info, levelWords, levelIn, endsLevel, isException, levelLen, drops, actionOf, contentOf, abortFate, actionFate, fateText, raisedAt}
-use Rattle.messages.specs.declared.Abort.{Abort}
-use Rattle.messages.specs.declared.Abort.the-variants as answer
 use Rattle.messages.specs.declared.RaiseLevel.the-variants as level
-use Rattle.messages.specs.declared.RaiseFate.the-variants.{Dropped, Passed, Refused}
-use Rattle.messages.specs.Readings.{levelFound, trimmed, contentIn, aborting, abortIn, AbortWithin, fateAt, fateIn, FateWithin, Reads}
-use Rattle.messages.proofs.TextLaws.{runEnd, run-within, trim-both, part-of-front}
+use Rattle.messages.specs.declared.RaiseFate.the-variants.{Aborts, Dropped, Passed}
+use Rattle.messages.specs.Readings.{levelFound, trimmed, contentIn, abortOf, Reads}
+use Rattle.messages.proofs.TextLaws.{runEnd}
 use Rattle.messages.proofs.ContentLaws.{content-bytes}
-use Rattle.messages.proofs.MessageLaws.{bytes-trim, trimmed-front}
+use Rattle.messages.proofs.MessageLaws.{bytes-trim}
+use Rattle.messages.proofs.UsingLaws.{abort-marks}
 
 -- ---- the level
 
@@ -131,58 +130,18 @@ module _ (t : List Marked) (xs : List ℕ) (e : bytes t ≡ xs) where
       drop-action log q = refl
       drop-action info q = refl
 
--- EXCEPTION: the content of k bytes has W up to a, and n bytes from there on without the W at its end
-module _ (xs : List ℕ) (k a n : ℕ) (pk : k ≡ length (contentIn (drop 15 xs))) (pa : a ≡ runEnd isW (take k (drop 15 xs)) 0)
-    (pn : n ≡ length (dropEnd isW (drop a (take k (drop 15 xs))))) where
-  pub exception-content : bytes (trim (contentIn (drop 15 xs))) ≡ take n (drop a (take k (drop 15 xs)))
-  exception-content =
-      bytes-trim (contentIn (drop 15 xs))
-      ∙ (ap trimmed (content-bytes (drop 15 xs) ∙ ap (λ (m : ℕ). take m (drop 15 xs)) (sym pk))
-      ∙ trim-both (take k (drop 15 xs)) a n pa pn)
-
-  -- its front is no W
-  pub exception-front : isW (getD (take n (drop a (take k (drop 15 xs)))) 0 0) ≡ false
-  exception-front = ap (λ (ys : List ℕ). isW (getD ys 0 0)) (sym (trim-both (take k (drop 15 xs)) a n pa pn)) ∙ trimmed-front (take k (drop 15 xs))
-
-  -- and it lies within the content
-  pub exception-within : k ≤ length (drop 15 xs) → a + n ≤ k
-  exception-within h =
-      let ys = take k (drop 15 xs) in
-      let long = length-take-le k (drop 15 xs) h in
-      omega (arith, run-within isW ys 0 a pa (omega arith), drop-end-le isW (drop a ys), length-drop a ys)
-
-  pub exception-long : a + n ≤ k → k ≤ length (drop 15 xs) → length (take n (drop a (take k (drop 15 xs)))) ≡ n
-  exception-long b h =
-      length-take-le n (drop a (take k (drop 15 xs)))
-      (omega (arith, length-drop a (take k (drop 15 xs)), length-take-le k (drop 15 xs) h))
-
-  part-at : (s l : ℕ) → s + l ≤ n → a + n ≤ k → take l (drop s (take n (drop a (take k (drop 15 xs))))) ≡ take l (drop (15 + a + s) xs)
-  part-at s l h b =
-      let z : 15 + (a + s) ≡ 15 + a + s = omega arith in
-      part-of-front l s n (drop a (take k (drop 15 xs))) h
-      ∙ (ap (take l) (drop-drop s a (take k (drop 15 xs)))
-      ∙ (part-of-front l (a + s) k (drop 15 xs) (omega arith)
-      ∙ ap (take l) (drop-drop (a + s) 15 xs ∙ ap (λ (m : ℕ). drop m xs) z)))
-
-  moved : (r : Abort) (m : ℕ) → AbortWithin r n → a + n ≤ k → abortIn r (take n (drop a (take k (drop 15 xs)))) ≡ fateIn (fateAt r (15 + a) n) m xs
-  moved (answer.Message s l) m h b = ap (λ (ys : List ℕ). accepted (aborting ys)) (part-at s l h b)
-  moved answer.Refused m h b =
-      let z : 15 + a + 0 ≡ 15 + a = omega arith in
-      ap usingClause
-      (sym (take-all n (take n (drop a (take k (drop 15 xs)))) (omega (arith, length-take n (drop a (take k (drop 15 xs))))))
-      ∙ (part-at 0 n (omega arith) b ∙ ap (λ (i : ℕ). take n (drop i xs)) z))
-
-  pub reads-exception : (t : List Marked) → bytes t ≡ xs → (r : Abort) (m : ℕ) → AbortWithin r n → a + n ≤ k
-      → forget (fateText (abortFate (trim (contentIn (drop 15 xs))))) ≡ abortIn r (take n (drop a (take k (drop 15 xs))))
-      → m ≡ min (15 + k + 1) (length xs)
-      → Reads t (some exception) xs (record { end = m; fate = fateAt r (15 + a) n })
-  unfolding raisedAt levelLen actionOf actionFate
-  reads-exception t e r m h b f p =
+  -- EXCEPTION: the content is taken
+  pub reads-exception : (k n : ℕ)
+      → k ≡ length (contentIn (drop 15 xs))
+      → n ≡ min (15 + k + 1) (length xs)
+      → Reads t (some exception) xs (record { end = n; fate = Aborts 15 (15 + k) })
+  unfolding raisedAt levelLen actionOf actionFate abortOf
+  reads-exception k n p h =
+      let u = contentIn (drop 15 xs) in
+      let ys = take (15 + k - 15) (drop 15 xs) in
+      let z : length u ≡ 15 + k - 15 = omega arith in
+      let same : bytes u ≡ bytes (lives ys) = content-bytes (drop 15 xs) ∙ (ap (λ (m : ℕ). take m (drop 15 xs)) z ∙ sym (bytes-lives ys)) in
       record {
-        text = rw (content-at t xs e 15) (f ∙ moved r m h b);
-        ends = rw (content-at t xs e 15, ← pk) p;
+        text = rw (content-at 15) (abort-marks (trim u) (trim (lives ys)) (bytes-trim u ∙ (ap trimmed same ∙ sym (bytes-trim (lives ys)))));
+        ends = rw (content-at 15, ← p) h;
       }
-
-  pub within-exception : (r : Abort) (m : ℕ) → AbortWithin r n → a + n ≤ k → 15 + k ≤ m → FateWithin (fateAt r (15 + a) n) 15 m
-  within-exception (answer.Message s l) m h b p = (omega arith, omega arith)
-  within-exception answer.Refused m h b p = (omega arith, omega arith)

@@ -1,6 +1,6 @@
 -- A RAISE that aborts, by the bytes of its content: the clause behind USING, or the message. Assumes nothing.
 use mathlib.Core.Path.{_≡_, refl, sym, ap, _∙_}
-use mathlib.Core.Bool.{true, false, cond, not, _&&_}
+use mathlib.Core.Bool.{Bool, true, false, cond, not, _&&_}
 use mathlib.Core.List.{List, _++_}
 use Prim.Native.Nat.{ℕ, _+_, _-_, _≤_, _<_}
 use native.Mathlib.Omega.{arith}
@@ -9,6 +9,7 @@ use lib.Dec.{eqb, leb}
 use lib.ListN.{length, take, drop, getD}
 use lib.Seq.{drop-drop, getD-drop}
 use Rattle.spec.proofs.BytesLaws.{bytes-lives, bytes-append, front-bytes, bytes-drop}
+use Rattle.spec.proofs.Choice.{by}
 use Rattle.spec.proofs.RefusalBounds.{bytes-length}
 use Rattle.spec.proofs.WalkLaws.{prefixBy, starts-case}
 use Rattle.spec.specs.Bytes.{ascii, upper, isW, within}
@@ -19,7 +20,7 @@ use Rattle.spec.specs.Body.{Rewriting, accepted, usingClause, forget}
 use Rattle.spec.specs.Raise.{message, Fate, rewritten, refused, usingFate, abortFate, fateText}
 use Rattle.messages.specs.Readings.{aborting}
 use Rattle.messages.proofs.TextLaws.{runEnd, skip-to, empty-drop}
-use Rattle.messages.proofs.MessageLaws.{message-front}
+use Rattle.messages.proofs.MessageLaws.{messageIn, message-is}
 
 -- the text of a message
 pub rewritten-text : (m : List Marked) → forget (fateText (rewritten m)) ≡ accepted (aborting (bytes m))
@@ -35,6 +36,12 @@ rewritten-text m =
 abbrev becomes : List Marked → Rewriting
 becomes t = forget (fateText (usingFate t (drop 5 t)))
 
+-- a choice of a message or a refused clause, as text
+chosen : (b : Bool) (m : List Marked) (c : List ℕ) → forget (fateText (cond b (rewritten m) (refused c))) ≡ cond b (accepted (aborting (bytes m))) (usingClause c)
+unfolding forget fateText
+chosen true m c = rewritten-text m
+chosen false m c = refl
+
 module _ (t : List Marked) (xs : List ℕ) (e : bytes t ≡ xs) where
   -- the tests at an offset are of the bytes
   starts-at : (w : List ℕ) (i : ℕ) → startsIgnoringCase w (drop i t) ≡ prefixBy upper w (drop i xs)
@@ -47,6 +54,9 @@ module _ (t : List Marked) (xs : List ℕ) (e : bytes t ≡ xs) where
       ∙ (ap (λ (l : List ℕ). getD l 0 0) (bytes-drop i t ∙ ap (drop i) e)
       ∙ (getD-drop i xs 0 0 ∙ ap (λ (n : ℕ). getD xs n 0) z))
 
+  message-at : (i : ℕ) → bytes (message (drop i t)) ≡ messageIn (drop i xs)
+  message-at i = message-is (drop i t) (drop i xs) (bytes-drop i t ∙ ap (drop i) e)
+
   skip-at : (i k : ℕ) → dropWhile (ofByte isW) (drop k (drop i t)) ≡ drop (runEnd isW xs (i + k)) t
   skip-at i k =
       ap (dropWhile (ofByte isW)) (drop-drop k i t)
@@ -58,8 +68,8 @@ module _ (t : List Marked) (xs : List ℕ) (e : bytes t ≡ xs) where
       ∙ (empty-drop t (runEnd isW xs (i + k))
       ∙ ap (λ (n : ℕ). leb n (runEnd isW xs (i + k))) (sym (bytes-length t) ∙ ap length e))
 
-  -- behind USING the W end at a, behind MESSAGE at b, behind `=` at c
-  module _ (a b c : ℕ) (pa : a ≡ runEnd isW xs 5) (pb : b ≡ runEnd isW xs (a + 7)) (pc : c ≡ runEnd isW xs (b + 1)) where
+  -- behind USING the W end at a, behind MESSAGE at b, behind `=` at c, where the message m starts
+  module _ (a b c : ℕ) (m : List ℕ) (pa : a ≡ runEnd isW xs 5) (pb : b ≡ runEnd isW xs (a + 7)) (pc : c ≡ runEnd isW xs (b + 1)) (pm : m ≡ messageIn (drop c xs)) where
     at-a : dropWhile (ofByte isW) (drop 5 t) ≡ drop a t
     at-a = skip-at 0 5 ∙ ap (λ (n : ℕ). drop n t) (sym pa)
 
@@ -69,51 +79,49 @@ module _ (t : List Marked) (xs : List ℕ) (e : bytes t ≡ xs) where
     at-c : dropWhile (ofByte isW) (drop 1 (drop b t)) ≡ drop c t
     at-c = skip-at b 1 ∙ ap (λ (n : ℕ). drop n t) (sym pc)
 
-    using-is : usingFate t (drop 5 t)
-        ≡ cond (prefixBy upper (ascii "MESSAGE") (drop a xs) && (eqb (getD xs b 0) 61 && (eqb (getD xs c 0) 39 && leb (length xs) (runEnd isW xs (c + length (message (drop c t)))))))
-        (rewritten (message (drop c t))) (refused xs)
-    unfolding usingFate
-    using-is = rw (at-a, at-b, at-c, starts-at (ascii "MESSAGE") a, front-at b, front-at c, rest-empty c (length (message (drop c t))), e)
+    found : bytes (message (drop c t)) ≡ m
+    found = message-at c ∙ sym pm
 
-    refuses : usingFate t (drop 5 t) ≡ refused xs → becomes t ≡ usingClause xs
-    unfolding forget fateText
-    refuses q = rw q
+    long : length (message (drop c t)) ≡ length m
+    long = sym (bytes-length (message (drop c t))) ∙ ap length found
+
+    pub using-is : becomes t
+        ≡ cond (prefixBy upper (ascii "MESSAGE") (drop a xs) && (eqb (getD xs b 0) 61 && (eqb (getD xs c 0) 39 && leb (length xs) (runEnd isW xs (c + length m)))))
+        (accepted (aborting m)) (usingClause xs)
+    unfolding usingFate
+    using-is =
+        rw (at-a, at-b, at-c, starts-at (ascii "MESSAGE") a, front-at b, front-at c, rest-empty c (length (message (drop c t))), long, e)
+        (chosen (prefixBy upper (ascii "MESSAGE") (drop a xs) && (eqb (getD xs b 0) 61 && (eqb (getD xs c 0) 39 && leb (length xs) (runEnd isW xs (c + length m))))) (message (drop c t)) xs
+        ∙ rw found refl)
 
     pub no-message : prefixBy upper (ascii "MESSAGE") (drop a xs) ≡ false → becomes t ≡ usingClause xs
-    no-message p = refuses (using-is ∙ simp p)
+    no-message p = using-is ∙ simp p
 
     module _ (p : prefixBy upper (ascii "MESSAGE") (drop a xs) ≡ true) where
       pub no-equals : eqb (getD xs b 0) 61 ≡ false → becomes t ≡ usingClause xs
-      no-equals q = refuses (using-is ∙ simp (p, q))
+      no-equals q = using-is ∙ simp (p, q)
 
       module _ (q : eqb (getD xs b 0) 61 ≡ true) where
         pub no-quote : eqb (getD xs c 0) 39 ≡ false → becomes t ≡ usingClause xs
-        no-quote r = refuses (using-is ∙ simp (p, q, r))
+        no-quote r = using-is ∙ simp (p, q, r)
 
         module _ (r : eqb (getD xs c 0) 39 ≡ true) where
-          pub more-behind : runEnd isW xs (c + length (message (drop c t))) < length xs → becomes t ≡ usingClause xs
-          more-behind s = refuses (using-is ∙ simp (p, q, r, lt-leb (length xs) (runEnd isW xs (c + length (message (drop c t)))) s))
+          pub more-behind : runEnd isW xs (c + length m) < length xs → becomes t ≡ usingClause xs
+          more-behind s = using-is ∙ simp (p, q, r, lt-leb (length xs) (runEnd isW xs (c + length m)) s)
 
-          pub only-message : length xs ≤ runEnd isW xs (c + length (message (drop c t))) → becomes t ≡ accepted (aborting (bytes (message (drop c t))))
-          only-message s =
-              ap (λ (f : Fate). forget (fateText f)) (using-is ∙ simp (p, q, r, le-leb (length xs) (runEnd isW xs (c + length (message (drop c t)))) s))
-              ∙ rewritten-text (message (drop c t))
+          pub only-message : length xs ≤ runEnd isW xs (c + length m) → becomes t ≡ accepted (aborting m)
+          only-message s = using-is ∙ simp (p, q, r, le-leb (length xs) (runEnd isW xs (c + length m)) s)
 
--- a message in a text with a `'` in front
-pub quote-front : (t : List Marked) (xs : List ℕ) → bytes t ≡ xs → (c : ℕ) → getD xs c 0 ≡ 39 → bytes (message (drop c t)) ≡ take (length (bytes (message (drop c t)))) (drop c xs)
-unfolding isW within
-quote-front t xs e c q =
-    let z : c + 0 ≡ c = omega arith in
-    message-front (drop c t) (drop c xs) (bytes-drop c t ∙ ap (drop c) e)
-    (rw (getD-drop c xs 0 0, z, q) refl)
-
--- a content that starts with USING, and one that does not
-module _ (t : List Marked) (xs : List ℕ) (e : bytes t ≡ xs) where
-  pub at-using : prefixBy upper (ascii "USING") xs ≡ true → abortFate t ≡ usingFate t (drop 5 t)
+  -- a content that starts with USING, and one that does not
+  pub abort-is : forget (fateText (abortFate t)) ≡ cond (prefixBy upper (ascii "USING") xs) (becomes t) (accepted (aborting (messageIn xs)))
   unfolding abortFate
-  at-using p = rw (starts-at t xs e (ascii "USING") 0, p)
+  abort-is =
+      rw (starts-at (ascii "USING") 0)
+      (by (prefixBy upper (ascii "USING") xs) (λ p. rw p refl) (λ p. rw p (rewritten-text (message t) ∙ rw (message-at 0) refl)))
 
-  pub at-plain : prefixBy upper (ascii "USING") xs ≡ false → isW (getD xs 0 0) ≡ false → forget (fateText (abortFate t)) ≡ accepted (aborting (take (length (bytes (message t))) xs))
-  unfolding abortFate
-  at-plain p w =
-      rw (starts-at t xs e (ascii "USING") 0, p) (rewritten-text (message t) ∙ ap (λ (l : List ℕ). accepted (aborting l)) (message-front t xs e w))
+-- the marks do not matter
+pub abort-marks : (t u : List Marked) → bytes t ≡ bytes u → forget (fateText (abortFate t)) ≡ forget (fateText (abortFate u))
+abort-marks t u e =
+    abort-is t (bytes u) e
+    ∙ (rw (using-is t (bytes u) e _ _ _ _ refl refl refl refl ∙ sym (using-is u (bytes u) refl _ _ _ _ refl refl refl refl)) refl
+    ∙ sym (abort-is u (bytes u) refl))

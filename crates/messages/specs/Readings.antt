@@ -4,23 +4,21 @@ use mathlib.Core.Path.{_≡_}
 use mathlib.Core.Bool.{Bool, false, cond, not, _&&_}
 use mathlib.Core.List.{List, [], _++_}
 use mathlib.Core.Option.{Option, none, some}
-use Prim.Native.Nat.{ℕ, _+_, _≤_, min}
+use Prim.Native.Nat.{ℕ, _+_, _-_, _≤_, min}
 use lib.Dec.{eqb}
 use lib.ListN.{length, take, drop, getD}
 use Rattle.spec.specs.Bytes.{ascii, isW}
 use Rattle.spec.specs.Lists.{takeWhile, dropWhile, dropEnd}
 use Rattle.spec.specs.Map.{Marked, lives, markedText, isLiveByte}
 use Rattle.spec.specs.Body.{Rewriting, accepted, usingClause, forget}
-use Rattle.spec.specs.Raise.{closeLen, Level, exception, notice, warning, debug, log, info, fateText, raisedAt}
+use Rattle.spec.specs.Raise.{closeLen, Level, exception, notice, warning, debug, log, info, abort, actionFate, fateText, raisedAt}
 use Rattle.spec.specs.declared.Span.{Span}
 use Rattle.spec.specs.declared.Span.the-variants.{Verbatim, Dollar, Code}
 use Rattle.messages.specs.declared.RaiseLevel.{RaiseLevel}
 use Rattle.messages.specs.declared.RaiseLevel.the-variants as level
 use Rattle.messages.specs.declared.RaiseFate.{RaiseFate}
-use Rattle.messages.specs.declared.RaiseFate.the-variants.{Rewritten, Dropped, Passed, Refused}
+use Rattle.messages.specs.declared.RaiseFate.the-variants.{Aborts, Dropped, Passed}
 use Rattle.messages.specs.declared.RaiseRead.{RaiseRead}
-use Rattle.messages.specs.declared.Abort.{Abort}
-use Rattle.messages.specs.declared.Abort.the-variants as abort
 
 -- the level as the reader tells it
 abbrev pub levelFound : Option Level → RaiseLevel
@@ -62,34 +60,25 @@ literalLen xs =
 unfoldable pub aborting : List ℕ → List ℕ
 aborting m = ascii "SELECT RAISE(ABORT, " ++ (m ++ ascii ");")
 
--- what becomes of a RAISE that aborts with the content xs
-abbrev pub abortIn : Abort → List ℕ → Rewriting
-abortIn (abort.Message s l) xs = accepted (aborting (take l (drop s xs)))
-abortIn abort.Refused xs = usingClause xs
+-- what becomes of a RAISE EXCEPTION with the content xs
+unfoldable pub abortOf : List ℕ → Rewriting
+abortOf xs = forget (fateText (actionFate abort (lives xs)))
 
--- the message lies within n bytes
-abbrev pub AbortWithin : Abort → ℕ → Type 0
-AbortWithin (abort.Message s l) n = s + l ≤ n
-AbortWithin abort.Refused n = Unit
-
--- the same in a text where the n bytes of content stand at `from`
-abbrev pub fateAt : Abort → ℕ → ℕ → RaiseFate
-fateAt (abort.Message s l) from n = Rewritten (from + s) l
-fateAt abort.Refused from n = Refused from n
+-- the same by a part of the content: the clause that is refused, or the message
+abbrev pub abortIn : Bool → List ℕ → Rewriting
+abortIn refused part = cond refused (usingClause part) (accepted (aborting part))
 
 -- what a fate makes of xs, of which the statement takes the first n bytes
 abbrev pub fateIn : RaiseFate → ℕ → List ℕ → Rewriting
-fateIn (Rewritten s l) n xs = accepted (aborting (take l (drop s xs)))
+fateIn (Aborts s e) n xs = abortOf (take (e - s) (drop s xs))
 fateIn Dropped n xs = accepted []
 fateIn Passed n xs = accepted (take n xs)
-fateIn (Refused s l) n xs = usingClause (take l (drop s xs))
 
 -- the offsets of a fate lie from lo up to hi
 abbrev pub FateWithin : RaiseFate → ℕ → ℕ → Type 0
-FateWithin (Rewritten s l) lo hi = (lo ≤ s) × (s + l ≤ hi)
+FateWithin (Aborts s e) lo hi = (lo ≤ s) × (s ≤ e) × (e ≤ hi)
 FateWithin Dropped lo hi = Unit
 FateWithin Passed lo hi = Unit
-FateWithin (Refused s l) lo hi = (lo ≤ s) × (s + l ≤ hi)
 
 -- the reading r of xs agrees with the definition on t, which has the level l: the same text or refusal, and the same end, as
 -- far as xs goes

@@ -18,7 +18,7 @@ ghost use Rattle.spec.specs.Map.{Marked, bytes, lives};
 ghost use Rattle.spec.specs.Body.{forget};
 ghost use Rattle.spec.specs.Raise.{closeLen, message, usingFate, abortFate, Level, exception, levelWords, levelIn, endsLevel, isException, fateText};
 ghost use Rattle.messages.specs.declared.RaiseLevel.the-variants as level;
-ghost use Rattle.messages.specs.Readings.{levelFound, levelReach, trimmed, endsStatement, contentIn, literalLen, abortIn, AbortWithin, fateAt, FateWithin, Reads};
+ghost use Rattle.messages.specs.Readings.{levelFound, levelReach, trimmed, endsStatement, contentIn, literalLen, abortOf, abortIn, FateWithin, Reads};
 
 // The level behind a RAISE and its separator.
 enum RaiseLevel {
@@ -30,27 +30,17 @@ enum RaiseLevel {
 
 // What becomes of a RAISE, by offsets in the text from the RAISE on.
 pub enum RaiseFate {
-    // `SELECT RAISE(ABORT, m);` with this m.
-    Rewritten { start: usize, len: usize },
+    // RAISE EXCEPTION, with this content.
+    Aborts { start: usize, stop: usize },
     Dropped,
     // It passes, with its separator.
     Passed,
-    // Refusal 5, with the clause from USING.
-    Refused { start: usize, len: usize },
 }
 
 // A RAISE as it is read: where the search for the next one goes on, and its fate.
 pub struct RaiseRead {
     pub end: usize,
     pub fate: RaiseFate,
-}
-
-// What becomes of a RAISE that aborts, by offsets in its trimmed content.
-enum Abort {
-    // Its message.
-    Message { start: usize, len: usize },
-    // Refusal 5.
-    Refused,
 }
 
 // Whether a level that vanishes stands in front.
@@ -239,67 +229,47 @@ pub fn extract_first_string_literal<'a>(content: &'a [u8]) -> &'a [u8]
     }
 }
 
-// What becomes of a content that starts with USING: MESSAGE, `=`, and a message that starts with `'` and has only W behind it.
-fn read_using(content: &[u8]) -> Abort
+// The message of a content that starts with USING: behind MESSAGE and `=`, if it starts with `'` and has only W behind it. Else
+// the content is refused.
+fn using_message<'a>(content: &'a [u8], refused: &mut bool) -> &'a [u8]
     requires { ⌜ 5 ≤ length (now content) ⌝ }
     requires { ⌜ length (now content) ≤ 65536 ⌝ }
-    ensures { λ r. ⌜ ((t : List Marked) → bytes t ≡ now (content .entry) → forget (fateText (usingFate t (drop 5 t))) ≡ abortIn r (now (content .entry))) ⌝ }
-    ensures { λ r. ⌜ AbortWithin r (length (now (content .entry))) ⌝ }
+    ensures { λ r. ⌜ ((t : List Marked) → bytes t ≡ now (content .entry) → forget (fateText (usingFate t (drop 5 t))) ≡ abortIn (now (refused .exit)) (now r)) ⌝ }
+    ensures { λ r. ⌜ length (now r) ≤ length (now (content .entry)) ⌝ }
 {
+    *refused = true;
     let a = skip_w(content, 5);
-    if starts_ignoring_case(&content[a..], b"MESSAGE") {
-        let b = skip_w(content, a + 7);
-        if byte_at(content, b) == b'=' {
-            let from = skip_w(content, b + 1);
-            if byte_at(content, from) == b'\'' {
-                let len = extract_first_string_literal(&content[from..]).len();
-                if skip_w(content, from + len) < content.len() {
-                    Abort::Refused
-                } else {
-                    Abort::Message { start: from, len }
-                }
-            } else {
-                Abort::Refused
-            }
-        } else {
-            Abort::Refused
-        }
-    } else {
-        Abort::Refused
+    if !starts_ignoring_case(&content[a..], b"MESSAGE") {
+        return content;
     }
+    let b = skip_w(content, a + 7);
+    if byte_at(content, b) != b'=' {
+        return content;
+    }
+    let from = skip_w(content, b + 1);
+    if byte_at(content, from) != b'\'' {
+        return content;
+    }
+    let message = extract_first_string_literal(&content[from..]);
+    if skip_w(content, from + message.len()) < content.len() {
+        return content;
+    }
+    *refused = false;
+    message
 }
 
-// What becomes of a RAISE that aborts, its content trimmed.
-fn read_abort(content: &[u8]) -> Abort
+// The message of a RAISE EXCEPTION, or the clause that is refused: a part of the statement's content.
+pub fn abort_message<'a>(content: &'a [u8], refused: &mut bool) -> &'a [u8]
     requires { ⌜ length (now content) ≤ 65536 ⌝ }
-    requires { ⌜ isW (getD (now content) 0 0) ≡ false ⌝ }
-    ensures { λ r. ⌜ ((t : List Marked) → bytes t ≡ now (content .entry) → forget (fateText (abortFate t)) ≡ abortIn r (now (content .entry))) ⌝ }
-    ensures { λ r. ⌜ AbortWithin r (length (now (content .entry))) ⌝ }
+    ensures { λ r. ⌜ abortOf (now (content .entry)) ≡ abortIn (now (refused .exit)) (now r) ⌝ }
+    ensures { λ r. ⌜ length (now r) ≤ length (now (content .entry)) ⌝ }
 {
-    if starts_ignoring_case(content, b"USING") {
-        read_using(content)
+    let text = trim(content);
+    if starts_ignoring_case(text, b"USING") {
+        using_message(text, refused)
     } else {
-        let len = extract_first_string_literal(content).len();
-        Abort::Message { start: 0, len }
-    }
-}
-
-// The fate of a RAISE whose content of n bytes stands at `from`.
-fn fate_at(a: Abort, from: usize, n: usize) -> RaiseFate
-    requires { ⌜ from ≤ 65536 ⌝ }
-    requires { ⌜ n ≤ 65536 ⌝ }
-    requires { ⌜ AbortWithin a n ⌝ }
-    ensures { λ r. ⌜ r ≡ fateAt a from n ⌝ }
-{
-    match a {
-        Abort::Message { start, len } => RaiseFate::Rewritten {
-            start: from + start,
-            len,
-        },
-        Abort::Refused => RaiseFate::Refused {
-            start: from,
-            len: n,
-        },
+        *refused = false;
+        extract_first_string_literal(text)
     }
 }
 
@@ -318,13 +288,9 @@ fn read_exception(rest: &[u8]) -> RaiseRead
     ensures { λ r. ⌜ FateWithin (r .fate) 15 (r .end) ⌝ }
 {
     let stop = 15 + content_len(&rest[15..]);
-    let content = &rest[15..stop];
-    let a = skip_w(content, 0);
-    let n = trimmed_len(&content[a..]);
-    let answer = read_abort(&content[a..a + n]);
     RaiseRead {
         end: behind(stop, rest.len()),
-        fate: fate_at(answer, 15 + a, n),
+        fate: RaiseFate::Aborts { start: 15, stop },
     }
 }
 

@@ -1,5 +1,6 @@
 -- A turn of pass 5: the bytes up to a RAISE and what becomes of it are written, or its clause is refused. Assumes nothing.
-use mathlib.Core.Path.{_≡_, ap, _∙_}
+use mathlib.Core.Path.{_≡_, refl, ap, _∙_}
+use mathlib.Core.Bool.{true, false}
 use mathlib.Core.List.{List, []}
 use Prim.Native.Nat.{ℕ, _+_, _-_, _≤_, _<_}
 use native.Mathlib.Omega.{arith}
@@ -11,13 +12,16 @@ use Rattle.spec.proofs.PartLaws.{bytes-part}
 use Rattle.spec.proofs.WalkLaws.{bytes-drop}
 use Rattle.spec.specs.Map.{Marked, marked, bytes}
 use Rattle.spec.specs.Search.{first}
-use Rattle.spec.specs.Assignments.{done, clause}
-use Rattle.spec.specs.Body.{accepted, usingClause}
+use Rattle.spec.specs.Assignments.{Outcome, done}
 use Rattle.spec.specs.Raise.{levelWords, levelIn, fateText}
 use Rattle.spec.specs.declared.Found.the-variants.{At, Nothing}
 use Rattle.messages.specs.Readings.{fateIn, Reads}
 use Rattle.messages.specs.declared.RaiseRead.{RaiseRead}
-use Rattle.raise.proofs.OutcomeLaws.{Turn, turn-both, turn-front, turn-text, clause-first}
+use Rattle.output.proofs.StoreLaws.{front-stored}
+use Rattle.output.specs.Passes.{passAnswer, Leaves}
+use Rattle.output.specs.declared.Pass.the-variants.{Clause}
+use Rattle.raise.specs.Texts.{Put}
+use Rattle.raise.proofs.OutcomeLaws.{Turn, turn-both, turn-front, turn-text, turn-clause, clause-first}
 use Rattle.raise.proofs.RaiseLaws.{raised-pos, raiseHere, raiseOf, leftAt, raise-step, raise-last, left-min}
 
 module _ (xs ms : List ℕ) (from : ℕ) where
@@ -61,17 +65,24 @@ module _ (xs ms : List ℕ) (from : ℕ) where
           left-min (marked xs ms) at (r .end) (raiseOf (drop at (marked xs ms)) .length)
           (omega (arith, here .ends, length-drop at xs)) (omega (arith, raise-within))
 
-      -- the bytes before it are written, and then the text ys that it becomes
-      pub raise-turn : (d d₁ d₂ ys : List ℕ) (n n₁ n₂ : ℕ) → fateIn (r .fate) (r .end) (drop at xs) ≡ accepted ys
+      -- the bytes before it are written, and then the text that it becomes
+      pub raise-turn : (d d₁ d₂ : List ℕ) (n n₁ n₂ : ℕ)
           → d₁ ≡ sets d n (take (at - from) (drop from xs)) → n₁ ≡ n + length (take (at - from) (drop from xs))
-          → d₂ ≡ sets d₁ n₁ ys → n₂ ≡ n₁ + length ys
+          → Put (fateIn (r .fate) (r .end) (drop at xs)) d₁ n₁ false d₂ n₂
           → Turn d n (leftAt (marked xs ms) from) d₂ n₂ (leftAt (marked xs ms) (at + r .end))
-      raise-turn d d₁ d₂ ys n n₁ n₂ f p q s k =
+      raise-turn d d₁ d₂ n n₁ n₂ p q s =
           rw (raise-step (marked xs ms) from at e, ends-here)
           (turn-both
           (turn-front (take (at - from) (drop from (marked xs ms))) (take (at - from) (drop from xs)) d d₁ n n₁ _ front-bytes p q)
-          (turn-text (fateText (raiseOf (drop at (marked xs ms)) .fate)) ys d₁ d₂ n₁ n₂ _ (here .text ∙ f) s k))
+          (turn-text (fateText (raiseOf (drop at (marked xs ms)) .fate)) (s .text) d₁ d₂ n₁ n₂ _ (here .text ∙ s .becomes) (s .stored) (s .counted)))
 
-      -- its clause is refused
-      pub raise-clause : (c : List ℕ) → fateIn (r .fate) (r .end) (drop at xs) ≡ usingClause c → leftAt (marked xs ms) from ≡ clause c
-      raise-clause c f = raise-step (marked xs ms) from at e ∙ clause-first (take (at - from) (drop from (marked xs ms))) _ _ c (here .text ∙ f)
+      -- it is refused: its clause stands in front
+      pub raise-clause : (d₀ d d₁ d₂ : List ℕ) (n n₁ n₂ : ℕ) (o : Outcome) → Turn d₀ 0 o d n (leftAt (marked xs ms) from)
+          → Put (fateIn (r .fate) (r .end) (drop at xs)) d₁ n₁ true d₂ n₂ → n₂ ≤ length d₁
+          → (Clause n₂ ≡ passAnswer o) × Leaves o d₀ d₂
+      raise-clause d₀ d d₁ d₂ n n₁ n₂ o t s h =
+          let c = s .text in
+          let k : n₂ ≡ length c = omega (arith, s .counted) in
+          let left = raise-step (marked xs ms) from at e ∙ clause-first (take (at - from) (drop from (marked xs ms))) _ _ c (here .text ∙ s .becomes) in
+          let w = turn-clause d₀ d d₂ n o _ c t left (front-stored d₁ d₂ c (length c) refl (omega arith) (s .stored)) in
+          (ap Clause k ∙ w .0, w .1)

@@ -1,14 +1,16 @@
--- The text that a RAISE becomes. Assumes nothing.
-use mathlib.Core.List.{List, []}
-use Prim.Native.Nat.{ℕ}
-use lib.ListN.{take, drop}
-use Rattle.messages.specs.Readings.{aborting}
-use Rattle.messages.specs.declared.RaiseFate.{RaiseFate}
-use Rattle.messages.specs.declared.RaiseFate.the-variants.{Rewritten, Dropped, Passed, Refused}
+-- How a RAISE is put into the output. Assumes nothing.
+use mathlib.Core.Path.{_≡_}
+use mathlib.Core.Bool.{Bool, cond}
+use mathlib.Core.List.{List}
+use Prim.Native.Nat.{ℕ, _+_}
+use lib.ListN.{length}
+use lib.Seq.{sets}
+use Rattle.spec.specs.Body.{Rewriting, accepted, usingClause}
 
--- what is written for a RAISE that takes the first n bytes of xs; nothing where it is refused
-abbrev pub written : RaiseFate → ℕ → List ℕ → List ℕ
-written (Rewritten s l) n xs = aborting (take l (drop s xs))
-written Dropped n xs = []
-written Passed n xs = take n xs
-written (Refused s l) n xs = []
+-- a RAISE that becomes w is put into d, of which n bytes are written, and makes it e with r bytes: its text from n on, or where
+-- it is refused its clause from the front on
+pub record Put (w : Rewriting) (d : List ℕ) (n : ℕ) (refused : Bool) (e : List ℕ) (r : ℕ) : Type 0 where
+  pub text : List ℕ
+  pub becomes : w ≡ cond refused (usingClause text) (accepted text)
+  pub stored : e ≡ sets d (cond refused 0 n) text
+  pub counted : r ≡ cond refused 0 n + length text

@@ -1,61 +1,70 @@
 // Pass 5: RAISE.
 use messages::RaiseFate;
+use messages::abort_message;
 use messages::read_raise;
 use output::Pass;
 use output::put_all;
 use scanner::find_keyword_in;
 use spec::Found;
 ghost use mathlib.Core.Path.{_≡_};
+ghost use mathlib.Core.Bool.{cond};
 ghost use Prim.Native.Nat.{_+_, _^_, _≤_, _<_};
-ghost use lib.ListN.{length, take, drop};
+ghost use lib.ListN.{length};
 ghost use lib.Seq.{sets};
 ghost use Rattle.spec.specs.Map.{marked};
 ghost use Rattle.spec.specs.Raise.{raise};
 ghost use Rattle.output.specs.Passes.{passAnswer, Leaves};
-ghost use Rattle.output.specs.declared.Pass.the-variants.{Clause};
-ghost use Rattle.messages.specs.Readings.{aborting, FateWithin};
-ghost use Rattle.raise.specs.Texts.{written};
+ghost use Rattle.messages.specs.Readings.{aborting, abortOf, fateIn, FateWithin};
+ghost use Rattle.raise.specs.Texts.{Put};
 
-// `SELECT RAISE(ABORT, m);` where m is the `len` bytes of `rest` from `start` on.
-fn put_abort(out: &mut [u8], n: usize, rest: &[u8], start: usize, len: usize) -> usize
-    requires { ⌜ n + length (now rest) + 22 < 2 ^ 63 ⌝ }
-    requires { ⌜ start + len ≤ length (now rest) ⌝ }
-    ensures { λ r. ⌜ r ≡ n + length (aborting (take len (drop start (now (rest .entry))))) ⌝ }
-    ensures { λ _. ⌜ now (out .exit) ≡ sets (now (out .entry)) n (aborting (take len (drop start (now (rest .entry))))) ⌝ }
+// `SELECT RAISE(ABORT, m);` with the message m.
+fn put_abort(out: &mut [u8], n: usize, message: &[u8]) -> usize
+    requires { ⌜ n + length (now message) + 22 < 2 ^ 63 ⌝ }
+    ensures { λ r. ⌜ r ≡ n + length (aborting (now (message .entry))) ⌝ }
+    ensures { λ _. ⌜ now (out .exit) ≡ sets (now (out .entry)) n (aborting (now (message .entry))) ⌝ }
 {
     let p = put_all(out, n, b"SELECT RAISE(ABORT, ");
-    let end = start + len;
-    let q = put_all(out, p, &rest[start..end]);
+    let q = put_all(out, p, message);
     put_all(out, q, b");")
 }
 
-// What becomes of a RAISE that takes the first `end` bytes of `rest`.
-fn put_fate(out: &mut [u8], n: usize, rest: &[u8], end: usize, fate: RaiseFate) -> usize
-    requires { ⌜ n + length (now rest) + 22 < 2 ^ 63 ⌝ }
-    requires { ⌜ end ≤ length (now rest) ⌝ }
-    requires { ⌜ FateWithin fate 15 end ⌝ }
-    ensures { λ r. ⌜ r ≡ n + length (written fate end (now (rest .entry))) ⌝ }
-    ensures { λ _. ⌜ now (out .exit) ≡ sets (now (out .entry)) n (written fate end (now (rest .entry))) ⌝ }
+// A RAISE EXCEPTION with this content. Where it is refused, its clause goes to the front of the output: refusal 5.
+fn put_exception(out: &mut [u8], n: usize, content: &[u8], refused: &mut bool) -> usize
+    requires { ⌜ length (now content) ≤ 65536 ⌝ }
+    requires { ⌜ n + length (now content) + 22 < 2 ^ 63 ⌝ }
+    ensures { λ r. ⌜ Put (abortOf (now (content .entry))) (now (out .entry)) n (now (refused .exit)) (now (out .exit)) r ⌝ }
+    ensures { λ r. ⌜ r ≤ cond (now (refused .exit)) 0 (n + 22) + length (now (content .entry)) ⌝ }
 {
-    match fate {
-        RaiseFate::Rewritten { start, len } => put_abort(out, n, rest, start, len),
-        RaiseFate::Dropped => n,
-        RaiseFate::Passed => put_all(out, n, &rest[..end]),
-        // The caller stops at a refused one.
-        RaiseFate::Refused { start: _, len: _ } => n,
+    let part = abort_message(content, refused);
+    if *refused {
+        put_all(out, 0, part)
+    } else {
+        put_abort(out, n, part)
     }
 }
 
-// Refusal 5: the clause at the front of the output.
-fn refuse(out: &mut [u8], rest: &[u8], start: usize, len: usize) -> Pass
+// What becomes of a RAISE that takes the first `end` bytes of `rest`.
+fn put_raise(
+    out: &mut [u8],
+    n: usize,
+    rest: &[u8],
+    end: usize,
+    fate: RaiseFate,
+    refused: &mut bool,
+) -> usize
     requires { ⌜ length (now rest) ≤ 65536 ⌝ }
-    requires { ⌜ length (now rest) ≤ length (now out) ⌝ }
-    requires { ⌜ start + len ≤ length (now rest) ⌝ }
-    ensures { λ r. ⌜ r ≡ Clause len ⌝ }
-    ensures { λ _. ⌜ take len (now (out .exit)) ≡ take len (drop start (now (rest .entry))) ⌝ }
+    requires { ⌜ n + length (now rest) + 22 < 2 ^ 63 ⌝ }
+    requires { ⌜ end ≤ length (now rest) ⌝ }
+    requires { ⌜ FateWithin fate 15 end ⌝ }
+    ensures { λ r. ⌜ Put (fateIn fate end (now (rest .entry))) (now (out .entry)) n (now (refused .exit)) (now (out .exit)) r ⌝ }
+    ensures { λ r. ⌜ r ≤ cond (now (refused .exit)) 0 (n + end) + end ⌝ }
 {
-    let end = start + len;
-    Pass::Clause(put_all(out, 0, &rest[start..end]))
+    *refused = false;
+    match fate {
+        RaiseFate::Aborts { start, stop } => put_exception(out, n, &rest[start..stop], refused),
+        RaiseFate::Dropped => n,
+        RaiseFate::Passed => put_all(out, n, &rest[..end]),
+    }
 }
 
 // The text with each RAISE rewritten, dropped or passed, as far as `out` reaches; the first refused clause stops it.
@@ -73,14 +82,16 @@ pub fn transform_raise_statements(text: &[u8], map: &[u8], out: &mut [u8]) -> Pa
         let Found::At(at) = found else {
             return Pass::Done(put_all(out, n, &text[from..]));
         };
-        let read = read_raise(&text[at..]);
+        let rest = &text[at..];
+        let read = read_raise(rest);
         let fate = read.fate;
         let end = read.end;
-        if let RaiseFate::Refused { start, len } = fate {
-            return refuse(out, &text[at..], start, len);
-        }
+        let mut refused = false;
         n = put_all(out, n, &text[from..at]);
-        n = put_fate(out, n, &text[at..], end, fate);
+        n = put_raise(out, n, rest, end, fate, &mut refused);
+        if refused {
+            return Pass::Clause(n);
+        }
         from = at + end;
     }
 }

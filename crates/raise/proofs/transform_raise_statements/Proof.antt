@@ -1,12 +1,9 @@
 use Rattle.output.specs.declared.Pass.the-variants.{Clause}
-use types.Run.{OneOf}
-use denote.Enum.Declared
-use Rattle.messages.proofs.RaiseFate as fates
 use borrow.Author.Needs.{needs}
 use native.Mathlib.Omega.{arith}
 use mathlib.Core.Path.{_≡_, refl, sym, ap, _∙_}
-use mathlib.Core.List.{List, [], _∷_}
-use mathlib.Core.Logic.{⊎-elim}
+use mathlib.Core.Bool.{cond}
+use mathlib.Core.List.{List}
 use Prim.Native.Nat.{ℕ, _+_, _-_, _*_, _≤_, _<_}
 use lib.ListN.{length, take, drop, length-drop, length-take}
 use lib.Seq.{sets, length-take-le}
@@ -18,13 +15,10 @@ use Rattle.spec.specs.Raise.{levelWords, levelIn, raise}
 use Rattle.spec.specs.declared.Found.the-variants.{At}
 use Rattle.spec.proofs.AheadLaws.{rest-of}
 use Rattle.spec.proofs.FirstLaws.{nonempty-word}
-use Rattle.messages.specs.declared.RaiseFate.{RaiseFate}
-use Rattle.messages.specs.declared.RaiseFate.the-variants.{Rewritten, Dropped, Passed, Refused}
-use Rattle.messages.specs.Readings.{fateIn, FateWithin, Reads}
-use Rattle.raise.specs.Texts.{written}
+use Rattle.messages.specs.Readings.{fateIn, Reads}
+use Rattle.raise.specs.Texts.{Put}
 use Rattle.raise.proofs.OutcomeLaws.{Turn, turn-none, turn-both, turn-done, turn-clause}
 use Rattle.raise.proofs.RaiseLaws.{raiseHere, leftAt, raise-start}
-use Rattle.raise.proofs.WrittenLaws.{written-le}
 use Rattle.raise.proofs.PassLaws.{last-turn, raise-within, end-within, end-pos, raise-turn, raise-clause}
 use Rattle.raise.proofs.transform_raise_statements.Statement.{statement}
 use Rattle.raise.proofs.transform_raise_statements.Tie as tie
@@ -68,19 +62,35 @@ end-more c = end-pos (c .before .before .before .before .before .before .before 
 rest-long : (xs : List ℕ) (i : ℕ) → length (take (length xs - i) (drop i xs)) ≡ length xs - i
 rest-long xs i = ap length (rest-of xs i) ∙ length-drop i xs
 
--- a fate that is none of refusal has a text
-not-refused : (f : RaiseFate) (n : ℕ) (xs : List ℕ) → OneOf (0 ∷ 1 ∷ 2 ∷ []) (Declared.tagOf fates.the-type f) → fateIn f n xs ≡ accepted (written f n xs)
-not-refused (Rewritten s l) n xs h = refl
-not-refused Dropped n xs h = refl
-not-refused Passed n xs h = refl
-not-refused (Refused s l) n xs h = absurd (⊎-elim (λ e. omega arith) (λ g. ⊎-elim (λ e. omega arith) (λ e. omega arith) g) h)
+-- what is put
+put-at : (c : tie.After-put-raise Inv-loop μ-loop) → Put (fateIn (c .before .before .before .before .before .before .before .before .read-raise .result .fate) (c .before .before .before .before .before .before .before .before .read-raise .result .end) (drop (c .before .before .before .before .before .before .before .before .before .before .before .found .given .0 .0) (c .before .before .before .before .before .before .before .before .before .before .before .before .before .before .before .before .before .before .before .args .text .now))) (c .before .before .before .before .before .put-all2 .last .0) (c .before .before .before .before .before .put-all2 .result) (c .put-raise .last .1 .1 .1 .1 .1 .0) (c .put-raise .last .0) (c .put-raise .result)
+put-at c =
+    let stored = c .before .before .before .before .before in
+    let read = stored .before .before .before in
+    let told = read .before .before in
+    let at = told .before .found .given .0 .0 in
+    let turn = told .before .before .before .before .before in
+    let xs = turn .before .before .before .before .args .text .now in
+    let r = read .read-raise .result in
+    let p : Put (fateIn (r .fate) (r .end) (take (length xs - at) (drop at xs))) (stored .put-all2 .last .0) (stored .put-all2 .result) (c .put-raise .last .1 .1 .1 .1 .1 .0) (c .put-raise .last .0) (c .put-raise .result) = c .put-raise .ensures .0 in
+    rw rest-of at p
 
--- how far the offsets of a refused clause go
-clause-in : (c : tie.After-fate Inv-loop μ-loop) → c .fate .given .0 .0 + c .fate .given .0 .1 .0 ≤ length (c .before .before .before .before .before .before .before .before .before .before .before .before .before .args .text .now) - c .before .before .before .before .before .found .given .0 .0
-clause-in c =
-    let w : FateWithin (c .before .before .read-raise .result .fate) 15 (c .before .before .read-raise .result .end) = c .before .before .read-raise .ensures .1 in
-    let k = rw (c .fate .given .1) at w in
-    omega (arith, k .1, end-in (c .before .before))
+-- into an output as long as before
+as-long : (c : tie.After-put-raise Inv-loop μ-loop) → length (c .put-raise .last .0) ≡ length (c .before .before .before .before .before .before .before .before .before .before .before .before .before .before .before .before .before .before .before .args .out .now)
+as-long c =
+    let stored = c .before .before .before .before .before in
+    let told = stored .before .before .before .before .before in
+    let turn = told .before .before .before .before .before in
+    c .put-raise .kept .0 ∙ (stored .put-all2 .kept .0 ∙ turn .loop .inv .2)
+
+-- the search goes on behind the place found, within the text
+goes-on : (c : tie.Else1 Inv-loop μ-loop) → (c .before .before .before .before .before .before .before .before .before .before .before .before .before .before .before .before .before .before .loop .from ≤ c .before .before .before .before .before .before .before .before .before .before .before .before .before .before .found .given .0 .0) × (0 < c .before .before .before .before .before .before .before .before .before .before .before .read-raise .result .end) × (c .before .before .before .before .before .before .before .before .before .before .before .before .before .before .found .given .0 .0 + c .before .before .before .before .before .before .before .before .before .before .before .read-raise .result .end ≤ length (c .before .before .before .before .before .before .before .before .before .before .before .before .before .before .before .before .before .before .before .before .before .before .args .text .now))
+goes-on c =
+    let put = c .before .before .before in
+    let stored = put .before .before .before .before .before in
+    let read = stored .before .before .before in
+    let w = found-within (read .before .before) in
+    (w .0, end-more read, omega (arith, w .1, end-in read))
 
 loop-holds : tie.Need-loop-holds Inv-loop μ-loop
 loop-holds c =
@@ -125,123 +135,102 @@ returns c =
     (turn-both (l .inv .3)
     (last-turn xs ms (l .from) _ _ _ _ (sym (sought (c .before .before .before .before .before .before .before)) ∙ c .before .before .before .before .before .enum-told .given .1) (rw rest-of at g) (rw rest-of at h)))
 
-sub-read-raise : tie.Need-sub-read-raise Inv-loop μ-loop
-sub-read-raise c = omega (arith, found-within c)
+sub-rest : tie.Need-sub-rest Inv-loop μ-loop
+sub-rest c = omega (arith, found-within c)
 
-part-read-raise-start : tie.Need-part-read-raise-start Inv-loop μ-loop
-part-read-raise-start c = omega (arith, found-within c)
+part-rest-start : tie.Need-part-rest-start Inv-loop μ-loop
+part-rest-start c = omega (arith, found-within c)
 
-part-read-raise-end : tie.Need-part-read-raise-end Inv-loop μ-loop
-part-read-raise-end c = search needs
+part-rest-end : tie.Need-part-rest-end Inv-loop μ-loop
+part-rest-end c = search needs
 
 read-raise-requires : tie.Need-read-raise-requires Inv-loop μ-loop
 read-raise-requires c κs =
-    let xs = c .before .before .before .before .before .before .before .before .before .before .args .text .now in
-    let at = c .before .before .found .given .0 .0 in
+    let told = c .before in
+    let xs = told .before .before .before .before .before .before .before .before .before .args .text .now in
+    let at = told .before .found .given .0 .0 in
     let h : length (take (length xs - at) (drop at xs)) ≤ 65536 = omega (arith, rest-long xs at) in
     h
 
-enum-known-fate : tie.Need-enum-known-fate Inv-loop μ-loop
-enum-known-fate c = search needs
-
-sub-refuse : tie.Need-sub-refuse Inv-loop μ-loop
-sub-refuse c = omega (arith, found-within (c .before .before .before .before .before .before))
-
-part-refuse-start : tie.Need-part-refuse-start Inv-loop μ-loop
-part-refuse-start c = omega (arith, found-within (c .before .before .before .before .before .before))
-
-part-refuse-end : tie.Need-part-refuse-end Inv-loop μ-loop
-part-refuse-end c = search needs
-
-refuse-requires : tie.Need-refuse-requires Inv-loop μ-loop
-refuse-requires c κs =
-    let xs = c .before .before .before .before .before .before .before .before .before .before .before .before .before .before .before .before .args .text .now in
-    let at = c .before .before .before .before .before .before .before .before .found .given .0 .0 in
-    let short : length (take (length xs - at) (drop at xs)) ≤ 65536 = omega (arith, rest-long xs at) in
-    let fits : length (take (length xs - at) (drop at xs)) ≤ length (c .before .before .before .before .before .before .before .before .before .before .before .before .loop .out) = omega (arith, rest-long xs at, c .before .before .before .before .before .before .before .before .before .before .before .before .loop .inv .2) in
-    let inside : c .before .before .before .fate .given .0 .0 + c .before .before .before .fate .given .0 .1 .0 ≤ length (take (length xs - at) (drop at xs)) = omega (arith, rest-long xs at, clause-in (c .before .before .before)) in
-    (short, (fits, inside))
-
-same-length-2 : tie.Need-same-length-2 Inv-loop μ-loop
-same-length-2 c = c .before .before .refuse .kept .0 ∙ c .before .before .before .before .before .before .before .before .before .before .before .before .before .before .before .loop .inv .2
-
-returns-2 : tie.Need-returns-2 Inv-loop μ-loop
-returns-2 c =
-    let xs = c .before .before .before .before .before .before .before .before .before .before .before .before .before .before .before .before .before .before .before .args .text .now in
-    let ms = c .before .before .before .before .before .before .before .before .before .before .before .before .before .before .before .before .before .before .before .args .map .now in
-    let at = c .before .before .before .before .before .before .before .before .before .before .before .found .given .0 .0 in
-    let s = c .before .before .before .before .before .before .fate .given .0 .0 in
-    let l = c .before .before .before .before .before .before .fate .given .0 .1 .0 in
-    let r = c .before .before .before .before .before .before .before .before .read-raise .result in
-    let text = take l (drop s (drop at xs)) in
-    let long : length text ≡ l = length-take-le l (drop s (drop at xs)) (omega (arith, clause-in (c .before .before .before .before .before .before), length-drop s (drop at xs), length-drop at xs)) in
-    let left : take l (c .before .before .refuse .last .0) ≡ take l (drop s (take (length xs - at) (drop at xs))) = c .before .before .refuse .ensures .1 in
-    let stands : take l (c .before .before .refuse .last .0) ≡ text = rw rest-of at left in
-    let told : fateIn (r .fate) (r .end) (drop at xs) ≡ usingClause text = ap (λ f. fateIn f (r .end) (drop at xs)) (c .before .before .before .before .before .before .fate .given .1) in
-    let w = turn-clause _ _ (c .before .before .refuse .last .0) _ _ _ text (c .before .before .before .before .before .before .before .before .before .before .before .before .before .before .before .loop .inv .3) (raise-clause xs ms (c .before .before .before .before .before .before .before .before .before .before .before .before .before .before .before .loop .from) at (found-at (c .before .before .before .before .before .before .before .before .before .before)) r (reads-at (c .before .before .before .before .before .before .before .before)) text told) (rw long stands) in
-    (c .before .before .refuse .ensures .0 ∙ (ap Clause (sym long) ∙ w .0), w .1)
-
 sub-put-all-2 : tie.Need-sub-put-all-2 Inv-loop μ-loop
-sub-put-all-2 c = omega (arith, found-within (c .before .before .before .before))
+sub-put-all-2 c = omega (arith, found-within (c .before .before .before))
 
 part-put-all-start-2 : tie.Need-part-put-all-start-2 Inv-loop μ-loop
-part-put-all-start-2 c = omega (arith, found-within (c .before .before .before .before))
+part-put-all-start-2 c = omega (arith, found-within (c .before .before .before))
 
 part-put-all-end-2 : tie.Need-part-put-all-end-2 Inv-loop μ-loop
-part-put-all-end-2 c = omega (arith, found-within (c .before .before .before .before))
+part-put-all-end-2 c = omega (arith, found-within (c .before .before .before))
 
 put-all-requires-2 : tie.Need-put-all-requires-2 Inv-loop μ-loop
 put-all-requires-2 c κs =
-    let xs = c .before .before .before .before .before .before .before .before .before .before .before .before .before .before .args .text .now in
-    let at = c .before .before .before .before .before .before .found .given .0 .0 in
-    let l = c .before .before .before .before .before .before .before .before .before .before .loop in
-    let h : l .n + length (take (at - l .from) (drop (l .from) xs)) < 9223372036854775808 = omega (arith, length-take (at - l .from) (drop (l .from) xs), found-within (c .before .before .before .before .before)) in
+    let told = c .before .before .before .before in
+    let at = told .before .found .given .0 .0 in
+    let turn = told .before .before .before .before .before in
+    let xs = turn .before .before .before .before .args .text .now in
+    let l = turn .loop in
+    let h : l .n + length (take (at - l .from) (drop (l .from) xs)) < 9223372036854775808 = omega (arith, length-take (at - l .from) (drop (l .from) xs), found-within told) in
     h
 
-sub-put-fate : tie.Need-sub-put-fate Inv-loop μ-loop
-sub-put-fate c = omega (arith, found-within (c .before .before .before .before .before .before .before .before .before))
+put-raise-requires : tie.Need-put-raise-requires Inv-loop μ-loop
+put-raise-requires c κs =
+    let stored = c .before .before .before .before in
+    let read = stored .before .before .before in
+    let told = read .before .before in
+    let at = told .before .found .given .0 .0 in
+    let turn = told .before .before .before .before .before in
+    let xs = turn .before .before .before .before .args .text .now in
+    let l = turn .loop in
+    let rest = take (length xs - at) (drop at xs) in
+    let n : stored .put-all2 .result ≡ l .n + length (take (at - l .from) (drop (l .from) xs)) = stored .put-all2 .ensures .0 in
+    let short : length rest ≤ 65536 = omega (arith, rest-long xs at) in
+    let count : stored .put-all2 .result + length rest + 22 < 9223372036854775808 =
+    omega (arith, n, length-take (at - l .from) (drop (l .from) xs), rest-long xs at, found-within told) in
+    let end : read .read-raise .result .end ≤ length rest = omega (arith, rest-long xs at, end-in read) in
+    (short, (count, (end, read .read-raise .ensures .1)))
 
-part-put-fate-start : tie.Need-part-put-fate-start Inv-loop μ-loop
-part-put-fate-start c = omega (arith, found-within (c .before .before .before .before .before .before .before .before .before))
+same-length-2 : tie.Need-same-length-2 Inv-loop μ-loop
+same-length-2 c = as-long (c .before .before .before)
 
-part-put-fate-end : tie.Need-part-put-fate-end Inv-loop μ-loop
-part-put-fate-end c = search needs
-
-put-fate-requires : tie.Need-put-fate-requires Inv-loop μ-loop
-put-fate-requires c κs =
-    let xs = c .before .before .before .before .before .before .before .before .before .before .before .before .before .before .before .before .before .before .before .args .text .now in
-    let at = c .before .before .before .before .before .before .before .before .before .before .before .found .given .0 .0 in
-    let l = c .before .before .before .before .before .before .before .before .before .before .before .before .before .before .before .loop in
-    let n : c .before .before .before .before .put-all2 .result ≡ l .n + length (take (at - l .from) (drop (l .from) xs)) = c .before .before .before .before .put-all2 .ensures .0 in
-    let count : c .before .before .before .before .put-all2 .result + length (take (length xs - at) (drop at xs)) + 22 < 9223372036854775808 =
-    omega (arith, n, length-take (at - l .from) (drop (l .from) xs), rest-long xs at, found-within (c .before .before .before .before .before .before .before .before .before .before)) in
-    let end : c .before .before .before .before .before .before .before .before .read-raise .result .end ≤ length (take (length xs - at) (drop at xs)) = omega (arith, rest-long xs at, end-in (c .before .before .before .before .before .before .before .before)) in
-    (count, (end, c .before .before .before .before .before .before .before .before .read-raise .ensures .1))
+returns-2 : tie.Need-returns-2 Inv-loop μ-loop
+returns-2 c =
+    let put = c .before .before .before in
+    let stored = put .before .before .before .before .before in
+    let read = stored .before .before .before in
+    let told = read .before .before in
+    let at = told .before .found .given .0 .0 in
+    let turn = told .before .before .before .before .before in
+    let start = turn .before .before .before .before in
+    let xs = start .args .text .now in
+    let r = read .read-raise .result in
+    let most : put .put-raise .result ≤ cond (put .put-raise .last .1 .1 .1 .1 .1 .0) 0 (stored .put-all2 .result + r .end) + r .end = put .put-raise .ensures .1 in
+    raise-clause xs (start .args .map .now) (turn .loop .from) at (found-at told) r (reads-at read) _ _ _ _ _ _ _ _ (turn .loop .inv .3) (rw (c .if1 .taken) at (put-at put))
+    (omega (arith, rw (c .if1 .taken) at most, end-in read, stored .put-all2 .kept .0, turn .loop .inv .2))
 
 add-from : tie.Need-add-from Inv-loop μ-loop
-add-from c = omega (arith, end-in (c .before .before .before .before .before .before .before .before .before .before .before), found-within (c .before .before .before .before .before .before .before .before .before .before .before .before .before))
+add-from c = omega (arith, goes-on c)
 
 loop-less : tie.Need-loop-less Inv-loop μ-loop
-loop-less c = omega (arith, end-in (c .before .before .before .before .before .before .before .before .before .before .before), end-more (c .before .before .before .before .before .before .before .before .before .before .before), found-within (c .before .before .before .before .before .before .before .before .before .before .before .before .before))
+loop-less c = omega (arith, goes-on c)
 
 loop-again : tie.Need-loop-again Inv-loop μ-loop
 loop-again c =
-    let xs = c .before .before .before .before .before .before .before .before .before .before .before .before .before .before .before .before .before .before .before .before .before .before .args .text .now in
-    let ms = c .before .before .before .before .before .before .before .before .before .before .before .before .before .before .before .before .before .before .before .before .before .before .args .map .now in
-    let at = c .before .before .before .before .before .before .before .before .before .before .before .before .before .before .found .given .0 .0 in
-    let r = c .before .before .before .before .before .before .before .before .before .before .before .read-raise .result in
-    let l = c .before .before .before .before .before .before .before .before .before .before .before .before .before .before .before .before .before .before .loop in
-    let ys = written (r .fate) (r .end) (drop at xs) in
-    let n₁ : c .before .before .before .before .before .before .before .put-all2 .result ≡ l .n + length (take (at - l .from) (drop (l .from) xs)) = c .before .before .before .before .before .before .before .put-all2 .ensures .0 in
-    let d₁ : c .before .before .before .before .before .before .before .put-all2 .last .0 ≡ sets (l .out) (l .n) (take (at - l .from) (drop (l .from) xs)) = c .before .before .before .before .before .before .before .put-all2 .ensures .1 in
-    let n₂ : c .before .before .put-fate .result ≡ c .before .before .before .before .before .before .before .put-all2 .result + length (written (r .fate) (r .end) (take (length xs - at) (drop at xs))) = c .before .before .put-fate .ensures .0 in
-    let d₂ : c .before .before .put-fate .last .0 ≡ sets (c .before .before .before .before .before .before .before .put-all2 .last .0) (c .before .before .before .before .before .before .before .put-all2 .result) (written (r .fate) (r .end) (take (length xs - at) (drop at xs))) = c .before .before .put-fate .ensures .1 in
-    let k : c .before .before .put-fate .result ≡ c .before .before .before .before .before .before .before .put-all2 .result + length ys = rw rest-of at n₂ in (
-      omega (arith, end-in (c .before .before .before .before .before .before .before .before .before .before .before), found-within (c .before .before .before .before .before .before .before .before .before .before .before .before .before)),
-      omega (arith, n₁, k, written-le (r .fate) (r .end) (drop at xs) (c .before .before .before .before .before .before .before .before .before .before .before .read-raise .ensures .1), length-take (at - l .from) (drop (l .from) xs), found-within (c .before .before .before .before .before .before .before .before .before .before .before .before .before)),
-      c .before .before .put-fate .kept .0 ∙ (c .before .before .before .before .before .before .before .put-all2 .kept .0 ∙ l .inv .2),
-      turn-both (l .inv .3)
-          (raise-turn xs ms (l .from) at (found-at (c .before .before .before .before .before .before .before .before .before .before .before .before .before)) r (reads-at (c .before .before .before .before .before .before .before .before .before .before .before)) _ _ _ ys _ _ _ (not-refused (r .fate) (r .end) (drop at xs) (c .before .before .before .before .before .before .before .before .before .before .match2 .keys2)) d₁ n₁ (rw rest-of at d₂) k),
+    let put = c .before .before .before in
+    let stored = put .before .before .before .before .before in
+    let read = stored .before .before .before in
+    let told = read .before .before in
+    let at = told .before .found .given .0 .0 in
+    let turn = told .before .before .before .before .before in
+    let start = turn .before .before .before .before in
+    let xs = start .args .text .now in
+    let l = turn .loop in
+    let r = read .read-raise .result in
+    let n₁ : stored .put-all2 .result ≡ l .n + length (take (at - l .from) (drop (l .from) xs)) = stored .put-all2 .ensures .0 in
+    let d₁ : stored .put-all2 .last .0 ≡ sets (l .out) (l .n) (take (at - l .from) (drop (l .from) xs)) = stored .put-all2 .ensures .1 in
+    let most : put .put-raise .result ≤ cond (put .put-raise .last .1 .1 .1 .1 .1 .0) 0 (stored .put-all2 .result + r .end) + r .end = put .put-raise .ensures .1 in (
+      omega (arith, goes-on c),
+      omega (arith, n₁, rw (c .if1 .left) at most, length-take (at - l .from) (drop (l .from) xs), goes-on c),
+      as-long put,
+      turn-both (l .inv .3) (raise-turn xs (start .args .map .now) (l .from) at (found-at told) r (reads-at read) _ _ _ _ _ _ d₁ n₁ (rw (c .if1 .left) at (put-at put))),
     )
 
 pub transform-raise-statements-spec : {M : Type 1} → statement M
@@ -261,25 +250,17 @@ transform-raise-statements-spec =
     put-all-requires
     same-length
     returns
-    sub-read-raise
-    part-read-raise-start
-    part-read-raise-end
+    sub-rest
+    part-rest-start
+    part-rest-end
     read-raise-requires
-    enum-known-fate
-    sub-refuse
-    part-refuse-start
-    part-refuse-end
-    refuse-requires
-    same-length-2
-    returns-2
     sub-put-all-2
     part-put-all-start-2
     part-put-all-end-2
     put-all-requires-2
-    sub-put-fate
-    part-put-fate-start
-    part-put-fate-end
-    put-fate-requires
+    put-raise-requires
+    same-length-2
+    returns-2
     add-from
     loop-less
     loop-again)

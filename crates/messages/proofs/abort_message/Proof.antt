@@ -1,0 +1,85 @@
+use native.Mathlib.Omega.{arith}
+use mathlib.Core.Path.{_≡_, sym, ap, _∙_}
+use mathlib.Core.List.{List}
+use Prim.Native.Nat.{ℕ, _≤_}
+use lib.ListN.{length}
+use Rattle.spec.proofs.BytesLaws.{bytes-lives}
+use Rattle.spec.proofs.WalkLaws.{prefix-by-len}
+use Rattle.spec.specs.Bytes.{ascii, upper}
+use Rattle.spec.specs.Map.{bytes, lives}
+use Rattle.spec.specs.Assignments.{trim}
+use Rattle.spec.specs.Body.{accepted}
+use Rattle.spec.specs.Raise.{actionFate, message}
+use Rattle.messages.specs.Readings.{trimmed, aborting, abortOf}
+use Rattle.messages.proofs.MessageLaws.{bytes-trim, trimmed-le, message-is, message-le}
+use Rattle.messages.proofs.UsingLaws.{abort-is}
+use borrow.Author.Needs.{needs}
+use Rattle.messages.proofs.abort_message.Statement.{statement}
+use Rattle.messages.proofs.abort_message.Tie as tie
+
+-- the trimmed content as the definition has it
+content : (c : tie.After-trim) → bytes (trim (lives (c .before .before .args .content .now))) ≡ c .trim .result .now
+content c =
+    let xs = c .before .before .args .content .now in
+    bytes-trim (lives xs) ∙ (ap trimmed (bytes-lives xs) ∙ sym (c .trim .ensures))
+
+-- it is no longer than the content
+shorter : (c : tie.After-trim) → length (c .trim .result .now) ≤ length (c .before .before .args .content .now)
+shorter c = omega (arith, ap length (c .trim .ensures), trimmed-le (c .before .before .args .content .now))
+
+trim-requires : tie.Need-trim-requires
+trim-requires c κs = search needs
+
+slice-aggregate-starts-ignoring-case : tie.Need-slice-aggregate-starts-ignoring-case
+slice-aggregate-starts-ignoring-case c = search needs
+
+starts-ignoring-case-requires : tie.Need-starts-ignoring-case-requires
+starts-ignoring-case-requires c κs = search needs
+
+using-message-requires : tie.Need-using-message-requires
+using-message-requires c κs =
+    let cut = c .before .before .before .before in (
+      prefix-by-len upper (ascii "USING") (cut .trim .result .now) (sym (c .before .before .starts-ignoring-case .ensures) ∙ c .before .if1 .taken),
+      omega (arith, shorter cut),
+    )
+
+extract-first-string-literal-requires : tie.Need-extract-first-string-literal-requires
+extract-first-string-literal-requires c κs = omega (arith, shorter (c .before .before .before))
+
+returns : tie.Need-returns
+unfolding abortOf actionFate
+returns c =
+    let test = c .before .before in
+    let cut = test .before .before .before in
+    let xs = cut .before .before .args .content .now in
+    let clause = sym (test .before .starts-ignoring-case .ensures) ∙ test .if1 .taken in (
+      abort-is (trim (lives xs)) (cut .trim .result .now) (content cut)
+          ∙ rw clause (c .using-message .ensures .0 (trim (lives xs)) (content cut)),
+      omega (arith, c .using-message .ensures .1, shorter cut),
+    )
+
+returns-2 : tie.Need-returns-2
+unfolding abortOf actionFate
+returns-2 c =
+    let test = c .before in
+    let cut = test .before .before .before in
+    let xs = cut .before .before .args .content .now in
+    let ys : List ℕ = cut .trim .result .now in
+    let m : List ℕ = c .extract-first-string-literal .result .now in
+    let plain = sym (test .before .starts-ignoring-case .ensures) ∙ test .if1 .left in
+    let found = c .extract-first-string-literal .ensures (lives ys) (bytes-lives ys) ∙ message-is (lives ys) ys (bytes-lives ys) in (
+      abort-is (trim (lives xs)) ys (content cut) ∙ rw plain (ap (λ (l : List ℕ). accepted (aborting l)) (sym found)),
+      omega (arith, ap length found, message-le ys, shorter cut),
+    )
+
+pub abort-message-spec : {M : Type 1} → statement M
+abort-message-spec =
+    tie.close
+    (tie.spec
+    trim-requires
+    slice-aggregate-starts-ignoring-case
+    starts-ignoring-case-requires
+    using-message-requires
+    extract-first-string-literal-requires
+    returns
+    returns-2)

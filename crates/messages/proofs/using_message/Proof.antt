@@ -1,0 +1,200 @@
+use native.Mathlib.Omega.{arith}
+use mathlib.Core.Path.{_≡_, refl, sym, ap, _∙_}
+use mathlib.Core.Bool.{true}
+use Prim.Native.Nat.{ℕ, _≤_, _<_, _+_, _-_}
+use lib.ListN.{length, take, drop, getD, length-drop}
+use borrow.Author.Tests.{eq-eqb, ne-eqb, not-true, not-false}
+use Rattle.spec.proofs.AheadLaws.{rest-of}
+use Rattle.spec.proofs.BytesLaws.{bytes-lives}
+use Rattle.spec.proofs.SpanLaws.{seen}
+use Rattle.spec.proofs.WalkLaws.{prefixBy}
+use Rattle.spec.specs.Bytes.{ascii, upper, isW}
+use Rattle.spec.specs.Map.{bytes, lives}
+use Rattle.messages.proofs.TextLaws.{run-within, run-le}
+use Rattle.messages.proofs.MessageLaws.{messageIn, message-is, message-le}
+use Rattle.messages.proofs.UsingLaws.{no-message, no-equals, no-quote, more-behind, only-message}
+use borrow.Author.Needs.{needs}
+use Rattle.messages.proofs.using_message.Statement.{statement}
+use Rattle.messages.proofs.using_message.Tie as tie
+
+-- whether MESSAGE stands behind the W
+named : (c : tie.After-starts-ignoring-case) → c .starts-ignoring-case .result ≡ prefixBy upper (ascii "MESSAGE") (drop (c .before .before .before .skip-w .result) (c .before .before .before .before .before .args .content .now))
+named c =
+    let skipped = c .before .before .before in
+    let xs = skipped .before .before .args .content .now in
+    let a = skipped .skip-w .result in
+    let h : c .starts-ignoring-case .result ≡ prefixBy upper (ascii "MESSAGE") (take (length xs - a) (drop a xs)) = c .starts-ignoring-case .ensures in
+    rw rest-of at h
+
+-- it does
+message-named : (c : tie.Else1) → prefixBy upper (ascii "MESSAGE") (drop (c .before .before .before .before .skip-w .result) (c .before .before .before .before .before .before .args .content .now)) ≡ true
+message-named c = sym (named (c .before)) ∙ not-false _ (c .if1 .left)
+
+skip-w-requires : tie.Need-skip-w-requires
+skip-w-requires c κs = search needs
+
+sub-starts-ignoring-case : tie.Need-sub-starts-ignoring-case
+sub-starts-ignoring-case c = run-within isW (c .before .before .args .content .now) 5 _ (c .skip-w .ensures) (omega arith)
+
+part-starts-ignoring-case-start : tie.Need-part-starts-ignoring-case-start
+part-starts-ignoring-case-start c = run-within isW (c .before .before .args .content .now) 5 _ (c .skip-w .ensures) (omega arith)
+
+part-starts-ignoring-case-end : tie.Need-part-starts-ignoring-case-end
+part-starts-ignoring-case-end c = search needs
+
+slice-aggregate-starts-ignoring-case : tie.Need-slice-aggregate-starts-ignoring-case
+slice-aggregate-starts-ignoring-case c = search needs
+
+starts-ignoring-case-requires : tie.Need-starts-ignoring-case-requires
+starts-ignoring-case-requires c κs = search needs
+
+returns : tie.Need-returns
+returns c =
+    let first = c .before .before .before .before in
+    let xs = first .before .before .args .content .now in
+    ((λ t e. no-message t xs e _ _ _ _ (first .skip-w .ensures) refl refl refl (sym (named (c .before)) ∙ not-true _ (c .if1 .taken))), omega arith)
+
+add-skip-w : tie.Need-add-skip-w
+add-skip-w c =
+    let first = c .before .before .before .before in
+    omega (arith, first .skip-w .ensures, run-le isW (first .before .before .args .content .now) 5)
+
+skip-w-requires-2 : tie.Need-skip-w-requires-2
+skip-w-requires-2 c κs = search needs
+
+byte-at-requires : tie.Need-byte-at-requires
+byte-at-requires c κs = search needs
+
+returns-2 : tie.Need-returns-2
+returns-2 c =
+    let test = c .before .before .before in
+    let first = test .before .before .before .before in
+    let xs = first .before .before .args .content .now in (
+      (λ t e. no-equals t xs e _ _ _ _ (first .skip-w .ensures) (c .before .before .skip-w2 .ensures) refl refl (message-named test) (ne-eqb _ _ (λ q. c .if2 .taken (c .before .byte-at .ensures ∙ q)))),
+      omega arith,
+    )
+
+add-skip-w-2 : tie.Need-add-skip-w-2
+add-skip-w-2 c =
+    let second = c .before .before in
+    let first = second .before .before .before .before .before in
+    let xs = first .before .before .args .content .now in
+    omega (arith, second .skip-w2 .ensures, first .skip-w .ensures, run-le isW xs 5, run-le isW xs (first .skip-w .result + 7))
+
+skip-w-requires-3 : tie.Need-skip-w-requires-3
+skip-w-requires-3 c κs = search needs
+
+byte-at-requires-2 : tie.Need-byte-at-requires-2
+byte-at-requires-2 c κs = search needs
+
+returns-3 : tie.Need-returns-3
+returns-3 c =
+    let equals = c .before .before .before in
+    let test = equals .before .before .before in
+    let first = test .before .before .before .before in
+    let xs = first .before .before .args .content .now in (
+      (λ t e. no-quote t xs e _ _ _ _ (first .skip-w .ensures) (equals .before .before .skip-w2 .ensures) (c .before .before .skip-w3 .ensures) refl (message-named test) (eq-eqb _ _ (sym (equals .before .byte-at .ensures) ∙ equals .if2 .left)) (ne-eqb _ _ (λ q. c .if3 .taken (c .before .byte-at2 .ensures ∙ q)))),
+      omega arith,
+    )
+
+-- where the message is read
+module _ (c : tie.Else3) where
+  quoted-in : c .before .before .skip-w3 .result < length (c .before .before .before .before .before .before .before .before .before .before .before .before .args .content .now)
+  quoted-in =
+      let named-at = c .before .before .before .before .before .before in
+      let xs = named-at .before .before .before .before .before .before .args .content .now in
+      seen xs (c .before .before .skip-w3 .result) 38 (sym (c .before .byte-at2 .ensures) ∙ c .if3 .left)
+
+-- the message that was found
+found : (c : tie.After-extract-first-string-literal) → c .extract-first-string-literal .result .now ≡ messageIn (drop (c .before .before .before .before .skip-w3 .result) (c .before .before .before .before .before .before .before .before .before .before .before .before .before .before .args .content .now))
+found c =
+    let third = c .before .before .before .before in
+    let first = third .before .before .before .before .before .before .before .before in
+    let xs = first .before .before .args .content .now in
+    let ys = drop (third .skip-w3 .result) xs in
+    c .extract-first-string-literal .ensures (lives ys) (bytes-lives ys ∙ sym (rest-of xs (third .skip-w3 .result))) ∙ message-is (lives ys) ys (bytes-lives ys)
+
+-- it ends within the content
+found-in : (c : tie.After-extract-first-string-literal) → c .before .before .before .before .skip-w3 .result + length (c .extract-first-string-literal .result .now) ≤ length (c .before .before .before .before .before .before .before .before .before .before .before .before .before .before .args .content .now)
+found-in c =
+    let third = c .before .before .before .before in
+    let first = third .before .before .before .before .before .before .before .before in
+    let xs = first .before .before .args .content .now in
+    let from = third .skip-w3 .result in
+    omega (arith, ap length (found c), message-le (drop from xs), length-drop from xs, quoted-in (c .before .before))
+
+sub-extract-first-string-literal : tie.Need-sub-extract-first-string-literal
+sub-extract-first-string-literal c = omega (arith, quoted-in c)
+
+part-extract-first-string-literal-start : tie.Need-part-extract-first-string-literal-start
+part-extract-first-string-literal-start c = omega (arith, quoted-in c)
+
+part-extract-first-string-literal-end : tie.Need-part-extract-first-string-literal-end
+part-extract-first-string-literal-end c = search needs
+
+extract-first-string-literal-requires : tie.Need-extract-first-string-literal-requires
+extract-first-string-literal-requires c κs = search needs
+
+add-skip-w-3 : tie.Need-add-skip-w-3
+add-skip-w-3 c = omega (arith, found-in c)
+
+skip-w-requires-4 : tie.Need-skip-w-requires-4
+skip-w-requires-4 c κs = search needs
+
+returns-4 : tie.Need-returns-4
+returns-4 c =
+    let read = c .before .before in
+    let quote = read .before .before in
+    let equals = quote .before .before .before in
+    let test = equals .before .before .before in
+    let first = test .before .before .before .before in
+    let xs = first .before .before .args .content .now in (
+      (λ t e.
+          more-behind t xs e _ _ _ _ (first .skip-w .ensures) (equals .before .before .skip-w2 .ensures) (quote .before .before .skip-w3 .ensures) (found read)
+          (message-named test) (eq-eqb _ _ (sym (equals .before .byte-at .ensures) ∙ equals .if2 .left)) (eq-eqb _ _ (sym (quote .before .byte-at2 .ensures) ∙ quote .if3 .left))
+          (rw (← c .before .skip-w4 .ensures) (c .if4 .taken))),
+      omega arith,
+    )
+
+returns-5 : tie.Need-returns-5
+returns-5 c =
+    let read = c .before .before in
+    let quote = read .before .before in
+    let equals = quote .before .before .before in
+    let test = equals .before .before .before in
+    let first = test .before .before .before .before in
+    let xs = first .before .before .args .content .now in (
+      (λ t e.
+          only-message t xs e _ _ _ _ (first .skip-w .ensures) (equals .before .before .skip-w2 .ensures) (quote .before .before .skip-w3 .ensures) (found read)
+          (message-named test) (eq-eqb _ _ (sym (equals .before .byte-at .ensures) ∙ equals .if2 .left)) (eq-eqb _ _ (sym (quote .before .byte-at2 .ensures) ∙ quote .if3 .left))
+          (rw (← c .before .skip-w4 .ensures) (c .if4 .left))),
+      omega (arith, found-in read),
+    )
+
+pub using-message-spec : {M : Type 1} → statement M
+using-message-spec =
+    tie.close
+    (tie.spec
+    skip-w-requires
+    sub-starts-ignoring-case
+    part-starts-ignoring-case-start
+    part-starts-ignoring-case-end
+    slice-aggregate-starts-ignoring-case
+    starts-ignoring-case-requires
+    returns
+    add-skip-w
+    skip-w-requires-2
+    byte-at-requires
+    returns-2
+    add-skip-w-2
+    skip-w-requires-3
+    byte-at-requires-2
+    returns-3
+    sub-extract-first-string-literal
+    part-extract-first-string-literal-start
+    part-extract-first-string-literal-end
+    extract-first-string-literal-requires
+    add-skip-w-3
+    skip-w-requires-4
+    returns-4
+    returns-5)
