@@ -15,7 +15,7 @@ use Rattle.spec.proofs.SpanLaws.{by-kind, span-le}
 use Rattle.spec.proofs.MapLaws.{map-step, marked-length, text-bytes, text-length}
 use Rattle.spec.proofs.WalkLaws.{while-take, while-length}
 use Rattle.spec.specs.Lists.{takeWhile, all}
-use Rattle.spec.specs.Map.{Marked, live, quoted, byte, isLiveByte, mark, marked, markedText, bytes, mapOf}
+use Rattle.spec.specs.Map.{Marked, isLiveByte, mark, marked, markedText, bytes, mapOf}
 use Rattle.spec.specs.Spans.{Kind, spanOf, spanAt, spanLen}
 use Rattle.spec.specs.declared.Span.{Span}
 use Rattle.spec.specs.declared.Span.the-variants.{Verbatim, Dollar, Code}

@@ -2,21 +2,19 @@
 use mathlib.Core.Path.{_≡_, refl, ap, _∙_}
 use mathlib.Core.Bool.{Bool, false, cond, not, _&&_}
 use mathlib.Core.List.{List, [], _∷_}
-use Prim.Native.Nat.{ℕ, zero, suc, _+_, _-_, _≤_, _<_, zero-le, suc-le-suc}
+use Prim.Native.Nat.{ℕ, suc, _+_, _-_, _≤_, _<_, zero-le, suc-le-suc}
 use native.Mathlib.Omega.{arith}
 use borrow.Author.Tests.{eq-eqb, ne-eqb, eqb-true, eqb-false}
 use lib.Dec.{eqb}
 use lib.ListN.{length, take, drop, getD, length-take, length-drop, drop-of-length-le}
-use lib.Seq.{take-take, length-take-le}
-use Rattle.spec.proofs.EndLaws.{drop-end-take}
 use Rattle.spec.proofs.BytesLaws.{bytes-lives, front-bytes, bytes-while, bytes-skip, bytes-end, bytes-take, bytes-drop}
 use Rattle.spec.proofs.RefusalBounds.{bytes-length}
 use Rattle.spec.proofs.AheadLaws.{drop-one, drop-two, tail-one}
 use Rattle.spec.proofs.Choice.{by, cond-case, cond-le, and-left}
 use Rattle.spec.proofs.ListLaws.{drop-end-le, drop-while-le}
 use Rattle.spec.proofs.SpanLaws.{seen}
-use Rattle.spec.proofs.WalkLaws.{while-take, while-length}
-use Rattle.spec.specs.Bytes.{isW, within}
+use Rattle.spec.proofs.WalkLaws.{while-length}
+use Rattle.spec.specs.Bytes.{isW}
 use Rattle.spec.specs.Lists.{takeWhile, dropWhile, dropEnd}
 use Rattle.spec.specs.Map.{Marked, byte, bytes, lives, ofByte}
 use Rattle.spec.specs.Assignments.{trim, trimEnd}

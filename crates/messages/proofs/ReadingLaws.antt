@@ -7,20 +7,19 @@ use Prim.Native.Nat.{ℕ, _+_, _-_, _≤_, min}
 use native.Mathlib.Omega.{arith}
 use borrow.Author.Tests.{leb-true, leb-false}
 use lib.Dec.{leb}
-use lib.ListN.{length, take, drop, getD, length-take, length-drop, drop-of-length-le}
-use lib.Seq.{drop-drop, take-all, take-length, length-take-le}
+use lib.ListN.{length, take, drop, drop-of-length-le}
+use lib.Seq.{take-all, take-length}
 use Rattle.spec.proofs.BytesLaws.{bytes-lives, bytes-while, bytes-take, bytes-drop}
 use Rattle.spec.proofs.RefusalBounds.{bytes-length}
 use Rattle.spec.proofs.Choice.{by}
-use Rattle.spec.proofs.ListLaws.{drop-end-le}
 use Rattle.spec.proofs.WalkLaws.{prefixBy, starts-case}
-use Rattle.spec.specs.Bytes.{ascii, upper, isW}
-use Rattle.spec.specs.Lists.{takeWhile, dropEnd}
+use Rattle.spec.specs.Bytes.{ascii, upper}
+use Rattle.spec.specs.Lists.{takeWhile}
 use Rattle.spec.specs.Map.{Marked, bytes, lives, ofByte}
 use Rattle.spec.specs.Search.{startsIgnoringCase}
 use Rattle.spec.specs.Assignments.{trim}
-use Rattle.spec.specs.Body.{accepted, usingClause, forget}
-use Rattle.spec.specs.Raise.{Level, exception, notice, warning, debug, log, info, levelWords, levelIn, endsLevel, isException, levelLen, drops, actionOf, contentOf, abortFate, actionFate, fateText, raisedAt}
+use Rattle.spec.specs.Body.{accepted, forget}
+use Rattle.spec.specs.Raise.{Level, exception, notice, warning, debug, log, info, levelWords, levelIn, endsLevel, isException, levelLen, drops, actionOf, contentOf, actionFate, fateText, raisedAt}
 use Rattle.messages.specs.declared.RaiseLevel.the-variants as level
 use Rattle.messages.specs.declared.RaiseFate.the-variants.{Aborts, Dropped, Passed}
 use Rattle.messages.specs.Readings.{levelFound, trimmed, contentIn, abortOf, Reads}

@@ -1,18 +1,18 @@
 -- Runs of bytes and trimming, by offsets, and on a marked text as on its bytes. Assumes nothing.
-use mathlib.Core.Path.{_≡_, refl, sym, ap, _∙_}
-use mathlib.Core.Bool.{Bool, true, false, _&&_, false≢true}
-use mathlib.Core.List.{List, [], _∷_, _++_}
-use Prim.Native.Nat.{ℕ, zero, suc, _+_, _-_, _≤_, _<_, zero-le, suc-le-suc}
+use mathlib.Core.Path.{_≡_, sym, ap, _∙_}
+use mathlib.Core.Bool.{Bool, true, false}
+use mathlib.Core.List.{List, [], _∷_}
+use Prim.Native.Nat.{ℕ, zero, suc, _+_, _-_, _≤_, _<_, suc-le-suc}
 use native.Mathlib.Omega.{arith}
 use borrow.Author.Tests.{lt-leb, le-leb, leb-true, leb-false}
-use lib.Dec.{eqb, leb}
+use lib.Dec.{leb}
 use lib.ListN.{length, take, drop, getD, length-drop}
-use lib.Seq.{take-take, drop-drop}
+use lib.Seq.{drop-drop}
 use Rattle.spec.proofs.EndLaws.{drop-end-take}
 use Rattle.spec.proofs.BytesLaws.{bytes-drop, bytes-while}
 use Rattle.spec.proofs.RefusalBounds.{bytes-length}
-use Rattle.spec.proofs.Choice.{by, and-right}
-use Rattle.spec.proofs.WalkLaws.{prefixBy, while-drop, while-length, while-length-end, while-length-hit, while-length-miss}
+use Rattle.spec.proofs.Choice.{by}
+use Rattle.spec.proofs.WalkLaws.{while-drop, while-length, while-length-end, while-length-hit, while-length-miss}
 use Rattle.spec.specs.Bytes.{isW}
 use Rattle.spec.specs.Lists.{isEmpty, takeWhile, dropWhile, dropEnd}
 use Rattle.spec.specs.Map.{Marked, bytes, ofByte}
@@ -51,15 +51,7 @@ trim-both xs a k e q =
     ap (dropEnd isW) (while-drop isW xs ∙ ap (λ (n : ℕ). drop n xs) (sym z))
     ∙ (drop-end-take isW (drop a xs) ∙ ap (λ (n : ℕ). take n (drop a xs)) (sym q))
 
--- ---- parts of lists
-
--- a part of a front is a part of the list
-pub part-of-front : {A : Type 0} (l s k : ℕ) (xs : List A) → s + l ≤ k → take l (drop s (take k xs)) ≡ take l (drop s xs)
-part-of-front l zero k xs h = take-take l k xs (omega arith)
-part-of-front zero (suc s) k xs h = refl
-part-of-front (suc l) (suc s) zero xs h = absurd (omega arith)
-part-of-front (suc l) (suc s) (suc k) [] h = refl
-part-of-front (suc l) (suc s) (suc k) (x ∷ xs) h = part-of-front (suc l) s k xs (omega arith)
+-- ---- the end of a text
 
 -- nothing is left from i on exactly if the list ends there
 pub empty-drop : {A : Type 0} (t : List A) (i : ℕ) → isEmpty (drop i t) ≡ leb (length t) i

@@ -2,22 +2,21 @@
 use mathlib.Core.Path.{_≡_, refl, sym, ap, _∙_}
 use mathlib.Core.Bool.{Bool, true, false, cond, not, _&&_}
 use mathlib.Core.List.{List, _++_}
-use Prim.Native.Nat.{ℕ, _+_, _-_, _≤_, _<_}
+use Prim.Native.Nat.{ℕ, _+_, _-_}
 use native.Mathlib.Omega.{arith}
-use borrow.Author.Tests.{le-leb, lt-leb}
 use lib.Dec.{eqb, leb}
-use lib.ListN.{length, take, drop, getD}
+use lib.ListN.{length, drop, getD}
 use lib.Seq.{drop-drop, getD-drop}
 use Rattle.spec.proofs.BytesLaws.{bytes-lives, bytes-append, front-bytes, bytes-drop}
 use Rattle.spec.proofs.Choice.{by}
 use Rattle.spec.proofs.RefusalBounds.{bytes-length}
 use Rattle.spec.proofs.WalkLaws.{prefixBy, starts-case}
-use Rattle.spec.specs.Bytes.{ascii, upper, isW, within}
+use Rattle.spec.specs.Bytes.{ascii, upper, isW}
 use Rattle.spec.specs.Lists.{isEmpty, dropWhile}
 use Rattle.spec.specs.Map.{Marked, bytes, lives, frontByte, ofByte}
 use Rattle.spec.specs.Search.{startsIgnoringCase}
 use Rattle.spec.specs.Body.{Rewriting, accepted, usingClause, forget}
-use Rattle.spec.specs.Raise.{message, Fate, rewritten, refused, usingFate, abortFate, fateText}
+use Rattle.spec.specs.Raise.{message, rewritten, refused, usingFate, abortFate, fateText}
 use Rattle.messages.specs.Readings.{aborting}
 use Rattle.messages.proofs.TextLaws.{runEnd, skip-to, empty-drop}
 use Rattle.messages.proofs.MessageLaws.{messageIn, message-is}
@@ -105,12 +104,8 @@ module _ (t : List Marked) (xs : List ℕ) (e : bytes t ≡ xs) where
         pub no-quote : eqb (getD xs c 0) 39 ≡ false → becomes t ≡ usingClause xs
         no-quote r = using-is ∙ simp (p, q, r)
 
-        module _ (r : eqb (getD xs c 0) 39 ≡ true) where
-          pub more-behind : runEnd isW xs (c + length m) < length xs → becomes t ≡ usingClause xs
-          more-behind s = using-is ∙ simp (p, q, r, lt-leb (length xs) (runEnd isW xs (c + length m)) s)
-
-          pub only-message : length xs ≤ runEnd isW xs (c + length m) → becomes t ≡ accepted (aborting m)
-          only-message s = using-is ∙ simp (p, q, r, le-leb (length xs) (runEnd isW xs (c + length m)) s)
+        pub at-quote : eqb (getD xs c 0) 39 ≡ true → becomes t ≡ cond (leb (length xs) (runEnd isW xs (c + length m))) (accepted (aborting m)) (usingClause xs)
+        at-quote r = using-is ∙ simp (p, q, r)
 
   -- a content that starts with USING, and one that does not
   pub abort-is : forget (fateText (abortFate t)) ≡ cond (prefixBy upper (ascii "USING") xs) (becomes t) (accepted (aborting (messageIn xs)))

@@ -11,12 +11,12 @@ ghost use mathlib.Core.List.{List};
 ghost use mathlib.Core.Option.{some};
 ghost use Prim.Native.Nat.{_+_, _≤_, _<_, min};
 ghost use lib.Dec.{eqb};
-ghost use lib.ListN.{length, drop, getD};
+ghost use lib.ListN.{length, drop};
 ghost use Rattle.spec.specs.Bytes.{isW};
 ghost use Rattle.spec.specs.Lists.{takeWhile, dropEnd};
 ghost use Rattle.spec.specs.Map.{Marked, bytes, lives};
 ghost use Rattle.spec.specs.Body.{forget};
-ghost use Rattle.spec.specs.Raise.{closeLen, message, usingFate, abortFate, Level, exception, levelWords, levelIn, endsLevel, isException, fateText};
+ghost use Rattle.spec.specs.Raise.{closeLen, message, usingFate, Level, exception, levelWords, levelIn, endsLevel, isException, fateText};
 ghost use Rattle.messages.specs.declared.RaiseLevel.the-variants as level;
 ghost use Rattle.messages.specs.Readings.{levelFound, levelReach, trimmed, endsStatement, contentIn, literalLen, abortOf, abortIn, FateWithin, Reads};
 

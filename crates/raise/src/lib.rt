@@ -1,5 +1,6 @@
 // Pass 5: RAISE.
 use messages::RaiseFate;
+use messages::RaiseRead;
 use messages::abort_message;
 use messages::read_raise;
 use output::Pass;
@@ -43,23 +44,18 @@ fn put_exception(out: &mut [u8], n: usize, content: &[u8], refused: &mut bool) -
     }
 }
 
-// What becomes of a RAISE that takes the first `end` bytes of `rest`.
-fn put_raise(
-    out: &mut [u8],
-    n: usize,
-    rest: &[u8],
-    end: usize,
-    fate: RaiseFate,
-    refused: &mut bool,
-) -> usize
+// What becomes of a RAISE at the front of `rest`.
+fn put_raise(out: &mut [u8], n: usize, rest: &[u8], read: RaiseRead, refused: &mut bool) -> usize
     requires { ⌜ length (now rest) ≤ 65536 ⌝ }
     requires { ⌜ n + length (now rest) + 22 < 2 ^ 63 ⌝ }
-    requires { ⌜ end ≤ length (now rest) ⌝ }
-    requires { ⌜ FateWithin fate 15 end ⌝ }
-    ensures { λ r. ⌜ Put (fateIn fate end (now (rest .entry))) (now (out .entry)) n (now (refused .exit)) (now (out .exit)) r ⌝ }
-    ensures { λ r. ⌜ r ≤ cond (now (refused .exit)) 0 (n + end) + end ⌝ }
+    requires { ⌜ read .end ≤ length (now rest) ⌝ }
+    requires { ⌜ FateWithin (read .fate) 15 (read .end) ⌝ }
+    ensures { λ r. ⌜ Put (fateIn (read .fate) (read .end) (now (rest .entry))) (now (out .entry)) n (now (refused .exit)) (now (out .exit)) r ⌝ }
+    ensures { λ r. ⌜ r ≤ cond (now (refused .exit)) 0 (n + read .end) + read .end ⌝ }
 {
     *refused = false;
+    let end = read.end;
+    let fate = read.fate;
     match fate {
         RaiseFate::Aborts { start, stop } => put_exception(out, n, &rest[start..stop], refused),
         RaiseFate::Dropped => n,
@@ -84,11 +80,10 @@ pub fn transform_raise_statements(text: &[u8], map: &[u8], out: &mut [u8]) -> Pa
         };
         let rest = &text[at..];
         let read = read_raise(rest);
-        let fate = read.fate;
         let end = read.end;
         let mut refused = false;
         n = put_all(out, n, &text[from..at]);
-        n = put_raise(out, n, rest, end, fate, &mut refused);
+        n = put_raise(out, n, rest, read, &mut refused);
         if refused {
             return Pass::Clause(n);
         }

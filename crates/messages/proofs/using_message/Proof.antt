@@ -1,18 +1,23 @@
 use native.Mathlib.Omega.{arith}
 use mathlib.Core.Path.{_≡_, refl, sym, ap, _∙_}
-use mathlib.Core.Bool.{true}
-use Prim.Native.Nat.{ℕ, _≤_, _<_, _+_, _-_}
-use lib.ListN.{length, take, drop, getD, length-drop}
-use borrow.Author.Tests.{eq-eqb, ne-eqb, not-true, not-false}
+use mathlib.Core.Bool.{true, cond}
+use mathlib.Core.List.{List}
+use Prim.Native.Nat.{_≤_, _<_, _+_, _-_}
+use lib.Dec.{leb}
+use lib.ListN.{length, take, drop, length-drop}
+use borrow.Author.Tests.{eq-eqb, ne-eqb, le-leb, lt-leb, not-true, not-false}
 use Rattle.spec.proofs.AheadLaws.{rest-of}
 use Rattle.spec.proofs.BytesLaws.{bytes-lives}
 use Rattle.spec.proofs.SpanLaws.{seen}
 use Rattle.spec.proofs.WalkLaws.{prefixBy}
 use Rattle.spec.specs.Bytes.{ascii, upper, isW}
-use Rattle.spec.specs.Map.{bytes, lives}
+use Rattle.spec.specs.Map.{Marked, bytes, lives}
+use Rattle.spec.specs.Body.{accepted, usingClause, forget}
+use Rattle.spec.specs.Raise.{usingFate, fateText}
+use Rattle.messages.specs.Readings.{aborting}
 use Rattle.messages.proofs.TextLaws.{run-within, run-le}
 use Rattle.messages.proofs.MessageLaws.{messageIn, message-is, message-le}
-use Rattle.messages.proofs.UsingLaws.{no-message, no-equals, no-quote, more-behind, only-message}
+use Rattle.messages.proofs.UsingLaws.{no-message, no-equals, no-quote, at-quote}
 use borrow.Author.Needs.{needs}
 use Rattle.messages.proofs.using_message.Statement.{statement}
 use Rattle.messages.proofs.using_message.Tie as tie
@@ -97,13 +102,12 @@ returns-3 c =
       omega arith,
     )
 
--- where the message is read
-module _ (c : tie.Else3) where
-  quoted-in : c .before .before .skip-w3 .result < length (c .before .before .before .before .before .before .before .before .before .before .before .before .args .content .now)
-  quoted-in =
-      let named-at = c .before .before .before .before .before .before in
-      let xs = named-at .before .before .before .before .before .before .args .content .now in
-      seen xs (c .before .before .skip-w3 .result) 38 (sym (c .before .byte-at2 .ensures) ∙ c .if3 .left)
+-- the quote stands within the content
+quoted-in : (c : tie.Else3) → c .before .before .skip-w3 .result < length (c .before .before .before .before .before .before .before .before .before .before .before .before .args .content .now)
+quoted-in c =
+    let test = c .before .before .before .before .before .before in
+    let xs = test .before .before .before .before .before .before .args .content .now in
+    seen xs (c .before .before .skip-w3 .result) 38 (sym (c .before .byte-at2 .ensures) ∙ c .if3 .left)
 
 -- the message that was found
 found : (c : tie.After-extract-first-string-literal) → c .extract-first-string-literal .result .now ≡ messageIn (drop (c .before .before .before .before .skip-w3 .result) (c .before .before .before .before .before .before .before .before .before .before .before .before .before .before .args .content .now))
@@ -141,35 +145,27 @@ add-skip-w-3 c = omega (arith, found-in c)
 skip-w-requires-4 : tie.Need-skip-w-requires-4
 skip-w-requires-4 c κs = search needs
 
-returns-4 : tie.Need-returns-4
-returns-4 c =
-    let read = c .before .before in
-    let quote = read .before .before in
+-- what it comes to
+judged : (c : tie.After-skip-w4) (t : List Marked) → bytes t ≡ c .before .before .before .before .before .before .before .before .before .before .before .before .before .before .before .args .content .now
+    → forget (fateText (usingFate t (drop 5 t)))
+    ≡ cond (leb (length (c .before .before .before .before .before .before .before .before .before .before .before .before .before .before .before .args .content .now)) (c .skip-w4 .result))
+    (accepted (aborting (c .before .extract-first-string-literal .result .now)))
+    (usingClause (c .before .before .before .before .before .before .before .before .before .before .before .before .before .before .before .args .content .now))
+judged c t e =
+    let quote = c .before .before .before in
     let equals = quote .before .before .before in
     let test = equals .before .before .before in
     let first = test .before .before .before .before in
-    let xs = first .before .before .args .content .now in (
-      (λ t e.
-          more-behind t xs e _ _ _ _ (first .skip-w .ensures) (equals .before .before .skip-w2 .ensures) (quote .before .before .skip-w3 .ensures) (found read)
-          (message-named test) (eq-eqb _ _ (sym (equals .before .byte-at .ensures) ∙ equals .if2 .left)) (eq-eqb _ _ (sym (quote .before .byte-at2 .ensures) ∙ quote .if3 .left))
-          (rw (← c .before .skip-w4 .ensures) (c .if4 .taken))),
-      omega arith,
-    )
+    rw (c .skip-w4 .ensures)
+    (at-quote t (first .before .before .args .content .now) e _ _ _ _
+    (first .skip-w .ensures) (equals .before .before .skip-w2 .ensures) (quote .before .before .skip-w3 .ensures) (found (c .before)) (message-named test)
+    (eq-eqb _ _ (sym (equals .before .byte-at .ensures) ∙ equals .if2 .left)) (eq-eqb _ _ (sym (quote .before .byte-at2 .ensures) ∙ quote .if3 .left)))
+
+returns-4 : tie.Need-returns-4
+returns-4 c = ((λ t e. judged (c .before) t e ∙ rw (lt-leb _ _ (c .if4 .taken)) refl), omega arith)
 
 returns-5 : tie.Need-returns-5
-returns-5 c =
-    let read = c .before .before in
-    let quote = read .before .before in
-    let equals = quote .before .before .before in
-    let test = equals .before .before .before in
-    let first = test .before .before .before .before in
-    let xs = first .before .before .args .content .now in (
-      (λ t e.
-          only-message t xs e _ _ _ _ (first .skip-w .ensures) (equals .before .before .skip-w2 .ensures) (quote .before .before .skip-w3 .ensures) (found read)
-          (message-named test) (eq-eqb _ _ (sym (equals .before .byte-at .ensures) ∙ equals .if2 .left)) (eq-eqb _ _ (sym (quote .before .byte-at2 .ensures) ∙ quote .if3 .left))
-          (rw (← c .before .skip-w4 .ensures) (c .if4 .left))),
-      omega (arith, found-in read),
-    )
+returns-5 c = ((λ t e. judged (c .before) t e ∙ rw (le-leb _ _ (c .if4 .left)) refl), omega (arith, found-in (c .before .before)))
 
 pub using-message-spec : {M : Type 1} → statement M
 using-message-spec =

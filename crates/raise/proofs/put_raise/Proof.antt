@@ -2,7 +2,7 @@ use native.Mathlib.Omega.{arith}
 use mathlib.Core.Path.{_≡_, refl, sym}
 use mathlib.Core.List.{[]}
 use Prim.Native.Nat.{ℕ, _+_, _-_}
-use lib.ListN.{length, take, drop, length-take, length-drop}
+use lib.ListN.{length, take, drop, length-take}
 use lib.Seq.{length-take-le}
 use Rattle.messages.specs.Readings.{FateWithin}
 use Rattle.messages.specs.declared.RaiseFate.the-variants.{Aborts}
@@ -12,10 +12,10 @@ use Rattle.raise.proofs.put_raise.Statement.{statement}
 use Rattle.raise.proofs.put_raise.Tie as tie
 
 -- where the content of a RAISE EXCEPTION stands
-within : (c : tie.After-known-told) → FateWithin (Aborts (c .before .fate .given .0 .0) (c .before .fate .given .0 .1 .0)) 15 (c .before .before .before .before .before .args .end)
+within : (c : tie.After-known-told) → FateWithin (Aborts (c .before .fate .given .0 .0) (c .before .fate .given .0 .1 .0)) 15 (c .before .before .before .before .before .args .read .end)
 within c =
     let start = c .before .before .before .before .before in
-    let h : FateWithin (start .args .fate) 15 (start .args .end) = start .pre .1 .1 .1 in
+    let h : FateWithin (start .args .read .fate) 15 (start .args .read .end) = start .pre .1 .1 .1 in
     rw (c .before .fate .given .1) at h
 
 enum-known-fate : tie.Need-enum-known-fate
@@ -47,12 +47,12 @@ enum-told-2 c = search needs
 slice-aggregate-put-all : tie.Need-slice-aggregate-put-all
 slice-aggregate-put-all c =
     let start = c .before .before .before .before .before .before in
-    sym (length-take-le (start .args .end) (start .args .rest .now) (omega arith))
+    sym (length-take-le (start .args .read .end) (start .args .rest .now) (omega arith))
 
 put-all-requires : tie.Need-put-all-requires
 put-all-requires c κs =
     let start = c .before .before .before .before .before .before in
-    omega (arith, length-take (start .args .end) (start .args .rest .now))
+    omega (arith, length-take (start .args .read .end) (start .args .rest .now))
 
 same-length : tie.Need-same-length
 same-length c = search needs
@@ -67,7 +67,7 @@ returns c =
     let content = take (e - s) (drop s (start .args .rest .now)) in
     let short = length-take (e - s) (drop s (start .args .rest .now)) in (
       rw (told .before .fate .given .1) (put .put-exception .ensures .0),
-      twice-most (put .put-exception .last .1 .1 .1 .0) (put .put-exception .result) (start .args .n) (length content) (start .args .end) (omega (arith, short, within told)) (put .put-exception .ensures .1),
+      twice-most (put .put-exception .last .1 .1 .1 .0) (put .put-exception .result) (start .args .n) (length content) (start .args .read .end) (omega (arith, short, within told)) (put .put-exception .ensures .1),
     )
 
 returns-2 : tie.Need-returns-2
@@ -85,8 +85,8 @@ returns-3 c =
     let told = put .before .before .before in
     let start = told .before .before .before .before in
     let xs = start .args .rest .now in (
-      rw (told .enum-told2 .given .1) (record { text = take (start .args .end) xs; becomes = refl; stored = put .put-all .ensures .1; counted = put .put-all .ensures .0 }),
-      omega (arith, put .put-all .ensures .0, length-take (start .args .end) xs),
+      rw (told .enum-told2 .given .1) (record { text = take (start .args .read .end) xs; becomes = refl; stored = put .put-all .ensures .1; counted = put .put-all .ensures .0 }),
+      omega (arith, put .put-all .ensures .0, length-take (start .args .read .end) xs),
     )
 
 pub put-raise-spec : {M : Type 1} → statement M

@@ -1,4 +1,3 @@
-use Rattle.output.specs.declared.Pass.the-variants.{Clause}
 use borrow.Author.Needs.{needs}
 use native.Mathlib.Omega.{arith}
 use mathlib.Core.Path.{_≡_, refl, sym, ap, _∙_}
@@ -6,18 +5,17 @@ use mathlib.Core.Bool.{cond}
 use mathlib.Core.List.{List}
 use Prim.Native.Nat.{ℕ, _+_, _-_, _*_, _≤_, _<_}
 use lib.ListN.{length, take, drop, length-drop, length-take}
-use lib.Seq.{sets, length-take-le}
+use lib.Seq.{sets}
 use Rattle.spec.specs.Bytes.{ascii}
 use Rattle.spec.specs.Map.{Marked, marked, bytes}
 use Rattle.spec.specs.Search.{first}
-use Rattle.spec.specs.Body.{accepted, usingClause}
 use Rattle.spec.specs.Raise.{levelWords, levelIn, raise}
 use Rattle.spec.specs.declared.Found.the-variants.{At}
 use Rattle.spec.proofs.AheadLaws.{rest-of}
 use Rattle.spec.proofs.FirstLaws.{nonempty-word}
 use Rattle.messages.specs.Readings.{fateIn, Reads}
 use Rattle.raise.specs.Texts.{Put}
-use Rattle.raise.proofs.OutcomeLaws.{Turn, turn-none, turn-both, turn-done, turn-clause}
+use Rattle.raise.proofs.OutcomeLaws.{Turn, turn-none, turn-both, turn-done}
 use Rattle.raise.proofs.RaiseLaws.{raiseHere, leftAt, raise-start}
 use Rattle.raise.proofs.PassLaws.{last-turn, raise-within, end-within, end-pos, raise-turn, raise-clause}
 use Rattle.raise.proofs.transform_raise_statements.Statement.{statement}
@@ -63,7 +61,7 @@ rest-long : (xs : List ℕ) (i : ℕ) → length (take (length xs - i) (drop i x
 rest-long xs i = ap length (rest-of xs i) ∙ length-drop i xs
 
 -- what is put
-put-at : (c : tie.After-put-raise Inv-loop μ-loop) → Put (fateIn (c .before .before .before .before .before .before .before .before .read-raise .result .fate) (c .before .before .before .before .before .before .before .before .read-raise .result .end) (drop (c .before .before .before .before .before .before .before .before .before .before .before .found .given .0 .0) (c .before .before .before .before .before .before .before .before .before .before .before .before .before .before .before .before .before .before .before .args .text .now))) (c .before .before .before .before .before .put-all2 .last .0) (c .before .before .before .before .before .put-all2 .result) (c .put-raise .last .1 .1 .1 .1 .1 .0) (c .put-raise .last .0) (c .put-raise .result)
+put-at : (c : tie.After-put-raise Inv-loop μ-loop) → Put (fateIn (c .before .before .before .before .before .before .before .before .read-raise .result .fate) (c .before .before .before .before .before .before .before .before .read-raise .result .end) (drop (c .before .before .before .before .before .before .before .before .before .before .before .found .given .0 .0) (c .before .before .before .before .before .before .before .before .before .before .before .before .before .before .before .before .before .before .before .args .text .now))) (c .before .before .before .before .before .put-all2 .last .0) (c .before .before .before .before .before .put-all2 .result) (c .put-raise .last .1 .1 .1 .1 .0) (c .put-raise .last .0) (c .put-raise .result)
 put-at c =
     let stored = c .before .before .before .before .before in
     let read = stored .before .before .before in
@@ -72,7 +70,7 @@ put-at c =
     let turn = told .before .before .before .before .before in
     let xs = turn .before .before .before .before .args .text .now in
     let r = read .read-raise .result in
-    let p : Put (fateIn (r .fate) (r .end) (take (length xs - at) (drop at xs))) (stored .put-all2 .last .0) (stored .put-all2 .result) (c .put-raise .last .1 .1 .1 .1 .1 .0) (c .put-raise .last .0) (c .put-raise .result) = c .put-raise .ensures .0 in
+    let p : Put (fateIn (r .fate) (r .end) (take (length xs - at) (drop at xs))) (stored .put-all2 .last .0) (stored .put-all2 .result) (c .put-raise .last .1 .1 .1 .1 .0) (c .put-raise .last .0) (c .put-raise .result) = c .put-raise .ensures .0 in
     rw rest-of at p
 
 -- into an output as long as before
@@ -202,7 +200,7 @@ returns-2 c =
     let start = turn .before .before .before .before in
     let xs = start .args .text .now in
     let r = read .read-raise .result in
-    let most : put .put-raise .result ≤ cond (put .put-raise .last .1 .1 .1 .1 .1 .0) 0 (stored .put-all2 .result + r .end) + r .end = put .put-raise .ensures .1 in
+    let most : put .put-raise .result ≤ cond (put .put-raise .last .1 .1 .1 .1 .0) 0 (stored .put-all2 .result + r .end) + r .end = put .put-raise .ensures .1 in
     raise-clause xs (start .args .map .now) (turn .loop .from) at (found-at told) r (reads-at read) _ _ _ _ _ _ _ _ (turn .loop .inv .3) (rw (c .if1 .taken) at (put-at put))
     (omega (arith, rw (c .if1 .taken) at most, end-in read, stored .put-all2 .kept .0, turn .loop .inv .2))
 
@@ -226,7 +224,7 @@ loop-again c =
     let r = read .read-raise .result in
     let n₁ : stored .put-all2 .result ≡ l .n + length (take (at - l .from) (drop (l .from) xs)) = stored .put-all2 .ensures .0 in
     let d₁ : stored .put-all2 .last .0 ≡ sets (l .out) (l .n) (take (at - l .from) (drop (l .from) xs)) = stored .put-all2 .ensures .1 in
-    let most : put .put-raise .result ≤ cond (put .put-raise .last .1 .1 .1 .1 .1 .0) 0 (stored .put-all2 .result + r .end) + r .end = put .put-raise .ensures .1 in (
+    let most : put .put-raise .result ≤ cond (put .put-raise .last .1 .1 .1 .1 .0) 0 (stored .put-all2 .result + r .end) + r .end = put .put-raise .ensures .1 in (
       omega (arith, goes-on c),
       omega (arith, n₁, rw (c .if1 .left) at most, length-take (at - l .from) (drop (l .from) xs), goes-on c),
       as-long put,
