@@ -22,7 +22,7 @@ use Rattle.messages.proofs.TextLaws.{runEnd, skip-to, empty-drop}
 use Rattle.messages.proofs.MessageLaws.{messageIn, message-is}
 
 -- the text of a message
-pub rewritten-text : (m : List Marked) → forget (fateText (rewritten m)) ≡ accepted (aborting (bytes m))
+rewritten-text : (m : List Marked) → forget (fateText (rewritten m)) ≡ accepted (aborting (bytes m))
 unfolding forget fateText aborting
 rewritten-text m =
     ap accepted
@@ -84,14 +84,15 @@ module _ (t : List Marked) (xs : List ℕ) (e : bytes t ≡ xs) where
     long : length (message (drop c t)) ≡ length m
     long = sym (bytes-length (message (drop c t))) ∙ ap length found
 
-    pub using-is : becomes t
-        ≡ cond (prefixBy upper (ascii "MESSAGE") (drop a xs) && (eqb (getD xs b 0) 61 && (eqb (getD xs c 0) 39 && leb (length xs) (runEnd isW xs (c + length m)))))
-        (accepted (aborting m)) (usingClause xs)
+    -- MESSAGE, `=` and a `'` stand there, and only W behind the message
+    abbrev fits : Bool
+    fits = prefixBy upper (ascii "MESSAGE") (drop a xs) && (eqb (getD xs b 0) 61 && (eqb (getD xs c 0) 39 && leb (length xs) (runEnd isW xs (c + length m))))
+
+    using-is : becomes t ≡ cond fits (accepted (aborting m)) (usingClause xs)
     unfolding usingFate
     using-is =
         rw (at-a, at-b, at-c, starts-at (ascii "MESSAGE") a, front-at b, front-at c, rest-empty c (length (message (drop c t))), long, e)
-        (chosen (prefixBy upper (ascii "MESSAGE") (drop a xs) && (eqb (getD xs b 0) 61 && (eqb (getD xs c 0) 39 && leb (length xs) (runEnd isW xs (c + length m))))) (message (drop c t)) xs
-        ∙ rw found refl)
+        (chosen fits (message (drop c t)) xs ∙ rw found refl)
 
     pub no-message : prefixBy upper (ascii "MESSAGE") (drop a xs) ≡ false → becomes t ≡ usingClause xs
     no-message p = using-is ∙ simp p
