@@ -22,7 +22,9 @@ use Rattle.output.specs.Passes.{passAnswer, Leaves}
 use Rattle.output.specs.declared.Pass.the-variants.{Clause}
 use Rattle.raise.specs.Texts.{Put}
 use Rattle.raise.proofs.OutcomeLaws.{Turn, turn-both, turn-front, turn-text, turn-clause, clause-first}
-use Rattle.raise.proofs.RaiseLaws.{raised-pos, raiseHere, raiseOf, leftAt, raise-step, raise-last, left-min}
+use Rattle.raise.proofs.RaiseLaws.{leftAt, raise-step, raise-last, left-min}
+use Rattle.spec.proofs.RaisePlaces.{raiseOf}
+use Rattle.spec.proofs.RaiseWalk.{raised-pos, raiseHere}
 
 module _ (xs ms : List ℕ) (from : ℕ) where
   -- no RAISE is left

@@ -16,7 +16,8 @@ use Rattle.spec.proofs.FirstLaws.{nonempty-word}
 use Rattle.messages.specs.Readings.{fateIn, Reads}
 use Rattle.raise.specs.Texts.{Put}
 use Rattle.raise.proofs.OutcomeLaws.{Turn, turn-none, turn-both, turn-done}
-use Rattle.raise.proofs.RaiseLaws.{raiseHere, leftAt, raise-start}
+use Rattle.raise.proofs.RaiseLaws.{leftAt, raise-start}
+use Rattle.spec.proofs.RaiseWalk.{raiseHere}
 use Rattle.raise.proofs.PassLaws.{last-turn, raise-within, end-within, end-pos, raise-turn, raise-clause}
 use Rattle.raise.proofs.transform_raise_statements.Statement.{statement}
 use Rattle.raise.proofs.transform_raise_statements.Tie as tie
