@@ -32,3 +32,14 @@ pub mod UsingPlaces
 pub mod RaisePlaces
 pub mod RaiseWalk
 pub mod UsingExactly
+pub mod TargetPlaces
+pub mod RunPlaces
+pub mod FirstTarget
+pub mod AssignTargets
+pub mod EqualsTargets
+pub mod MarkingWords
+pub mod MarkedTargets
+pub mod TargetLaws
+pub mod StatementTargets
+pub mod QualifiedExactly
+pub mod TargetRows

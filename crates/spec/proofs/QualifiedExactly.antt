@@ -1,0 +1,31 @@
+-- Refusal 4 in document 01's words: the passes refuse a text with `q.n` exactly if passes 1 and 2 accept it and the first
+-- statement with a qualified target, in the text that pass 3 reads, has `q.n`. Assumes nothing.
+use mathlib.Core.Path.{_≡_}
+use mathlib.Core.List.{List}
+use mathlib.Core.Logic.{_↔_}
+use Prim.Native.Nat.{ℕ}
+use Rattle.spec.proofs.RefusalLaws.{after2, Through2, qualified-exactly}
+use Rattle.spec.proofs.StatementTargets.{target-in-exactly}
+use Rattle.spec.proofs.TargetPlaces.{IsFirstTarget}
+use Rattle.spec.specs.Map.{bytes}
+use Rattle.spec.specs.Assignments.{Target}
+use Rattle.spec.specs.Body.{qualifiedTarget, rewriting}
+
+pub record HasQualifiedTarget (xs q n : List ℕ) : Type 0 where
+  pub before : Through2 xs
+  pub target : Target
+  pub first : IsFirstTarget (after2 xs) 0 target
+  pub qualifier : bytes (target .qualifier) ≡ q
+  pub name : bytes (target .name) ≡ n
+
+pub qualified-in-words : (xs q n : List ℕ) → (rewriting xs ≡ qualifiedTarget q n) ↔ HasQualifiedTarget xs q n
+qualified-in-words xs q n = (
+  (λ h.
+      let w = qualified-exactly xs q n .0 h in
+      let f = target-in-exactly (after2 xs) (w .target) .0 (w .first) in
+      record { before = w .before; target = w .target; first = f; qualifier = w .qualifier; name = w .name }),
+  (λ w.
+      let f = target-in-exactly (after2 xs) (w .target) .1 (w .first) in
+      qualified-exactly xs q n .1
+      (record { before = w .before; target = w .target; first = f; qualifier = w .qualifier; name = w .name })),
+)
