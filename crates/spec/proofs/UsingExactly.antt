@@ -268,8 +268,8 @@ module _ (xs : List ℕ) where
 -- ---- the answers
 
 -- 5: passes 1 to 4 accept, and in the text after pass 4 the first RAISE that is read and refused has the clause c
-pub refusal-5-exactly : (xs c : List ℕ) → (rewriting xs ≡ usingClause c) ↔ (Through4 xs × FirstRefused (after4 xs) c)
-refusal-5-exactly xs c = (
+pub using-in-words : (xs c : List ℕ) → (rewriting xs ≡ usingClause c) ↔ (Through4 xs × FirstRefused (after4 xs) c)
+using-in-words xs c = (
   (λ h. let u = using-exactly xs c .0 h in (u .before, clause-exactly (after4 xs) c .0 (u .first))),
   (λ w. using-exactly xs c .1 (record { before = w .0; first = clause-exactly (after4 xs) c .1 (w .1) })),
 )
