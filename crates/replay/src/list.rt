@@ -1,17 +1,21 @@
-// The stored list, line by line. Three kinds of line prepare for the questions behind them: `t RUNS` gives the text,
-// `l BYTES STARTS` lends buffers of these lengths, and `x` says that the answers are wrong.
+// The stored list, line by line. Four kinds of line prepare for the questions behind them: `t RUNS` gives the text,
+// `l BYTES STARTS` lends buffers of these lengths, `x` says that the answers are wrong, and `z BUFFER PLACE` changes a place
+// behind the next search: 0 is the buffer of bytes, 1 that of starts.
 use crate::ask::KINDS;
 use crate::question::agrees;
 use crate::rows;
 use classes::byte_at;
+use stored_list::Spoil;
 use stored_list::before_first;
 use stored_list::field;
 use stored_list::next_line;
 use stored_list::next_place;
+use stored_list::no_spoil;
 use stored_list::note;
 use stored_list::number;
 use stored_list::part;
 use stored_list::put_runs;
+use stored_list::spoil_of;
 
 pub struct State {
     // How many bytes the text has.
@@ -23,6 +27,8 @@ pub struct State {
     pub limits: bool,
     // Whether a line said that the answers are wrong.
     pub wrong: bool,
+    // What the next search's buffers are changed at.
+    pub spoil: Spoil,
 }
 
 // A text of n bytes, with buffers that are longer than any search needs.
@@ -33,6 +39,7 @@ fn with_text(n: usize) -> State {
         starts: 0,
         limits: false,
         wrong: false,
+        spoil: no_spoil(),
     };
     if n < 65537 {
         state.bytes = 2 * n + 3;
@@ -53,6 +60,11 @@ fn with_wrong(mut state: State) -> State {
     state
 }
 
+fn with_spoil(mut state: State, spoil: Spoil) -> State {
+    state.spoil = spoil;
+    state
+}
+
 // The row of the report that a question belongs to.
 fn row_of(kind: u8, state: State) -> usize {
     let row = next_place(&KINDS, 0, kind);
@@ -70,7 +82,7 @@ fn row_of(kind: u8, state: State) -> usize {
 
 // Makes the search of a line and counts it.
 fn compare(kind: u8, line: &[u8], text: &[u8], state: State, tally: &mut [u32]) {
-    let same = agrees(kind, line, text, state.bytes, state.starts);
+    let same = agrees(kind, line, text, state.bytes, state.starts, state.spoil);
     note(tally, row_of(kind, state), same);
 }
 
@@ -87,8 +99,11 @@ fn take_line(line: &[u8], text: &mut [u8], before: State, tally: &mut [u32]) -> 
     if kind == b'x' {
         return with_wrong(before);
     }
+    if kind == b'z' {
+        return with_spoil(before, spoil_of(line));
+    }
     compare(kind, line, part(text, 0, before.text), before, tally);
-    before
+    with_spoil(before, no_spoil())
 }
 
 // Takes the whole list from standard input. A proved loop has to end, so it counts down from a number that no list uses up.

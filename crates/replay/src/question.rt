@@ -6,6 +6,7 @@ use crate::numbers::four;
 use crate::numbers::same_numbers;
 use crate::numbers::wide;
 use classes::byte_at;
+use stored_list::Spoil;
 use stored_list::are_marked;
 use stored_list::decode;
 use stored_list::field;
@@ -15,9 +16,16 @@ use stored_list::marked_numbers;
 use stored_list::number;
 use stored_list::part;
 use stored_list::same;
+use stored_list::spoil_bytes;
+use stored_list::spoil_numbers;
 
 // The first field of a result; a list of numbers takes several.
 const RESULT: usize = 7;
+
+// The numbers of the lent buffers in a line that changes a place.
+const BYTES: usize = 0;
+
+const STARTS: usize = 1;
 
 // The numbers that a line expects.
 fn expected(line: &[u8]) -> Numbers {
@@ -144,8 +152,8 @@ fn is_answer(
     false
 }
 
-// The search of a line on buffers of m bytes and k numbers, and whether its answer is the line's.
-pub fn agrees(kind: u8, line: &[u8], text: &[u8], m: usize, k: usize) -> bool {
+// The search of a line on buffers of m bytes and k numbers, and whether its answer is the line's, after a place was changed.
+pub fn agrees(kind: u8, line: &[u8], text: &[u8], m: usize, k: usize, spoil: Spoil) -> bool {
     let mut needle = io::buffer();
     let w = decode(field(line, 1), &mut needle);
     let from = number(field(line, 2));
@@ -161,5 +169,7 @@ pub fn agrees(kind: u8, line: &[u8], text: &[u8], m: usize, k: usize) -> bool {
         part(&needle, 0, w),
         from,
     );
+    spoil_bytes(&mut bytes, BYTES, spoil);
+    spoil_numbers(&mut starts, STARTS, spoil);
     is_answer(kind, line, got, &bytes, m, &starts, k, text.len())
 }

@@ -3,6 +3,7 @@
 use crate::call::CallNumbers;
 use crate::call::call_body;
 use crate::call::call_function;
+use stored_list::Spoil;
 use stored_list::are_filled;
 use stored_list::are_marked;
 use stored_list::is_filled;
@@ -13,12 +14,25 @@ use stored_list::marked_numbers;
 use stored_list::part;
 use stored_list::same;
 use stored_list::same_front;
+use stored_list::spoil_bytes;
+use stored_list::spoil_numbers;
 
 // How many bytes of each lent buffer a call fills.
 const SIZE: usize = 65536;
 
 // How many record numbers the function call fills.
 const RECORD_NUMBERS: usize = 4104;
+
+// The numbers of the lent buffers in a line that changes a place.
+const OUTPUT: usize = 0;
+
+const WORK: usize = 1;
+
+const SPARE: usize = 2;
+
+const DECLARED: usize = 3;
+
+const RECORDS: usize = 4;
 
 // How many bytes and numbers are lent.
 pub struct Lent {
@@ -105,8 +119,8 @@ fn are_buffers(
     false
 }
 
-// The body call of a line, and whether its answer is the line's and its buffers are as they must be.
-pub fn body_agrees(line: &[u8], text: &[u8], result: &[u8], lent: Lent) -> bool {
+// The body call of a line, and whether its answer is the line's and its buffers are as they must be, after a place was changed.
+pub fn body_agrees(line: &[u8], text: &[u8], result: &[u8], lent: Lent, spoil: Spoil) -> bool {
     let mut output = marked_bytes();
     let mut work = marked_bytes();
     let mut spare = marked_bytes();
@@ -119,6 +133,9 @@ pub fn body_agrees(line: &[u8], text: &[u8], result: &[u8], lent: Lent) -> bool 
         &mut spare,
         lent.spare,
     );
+    spoil_bytes(&mut output, OUTPUT, spoil);
+    spoil_bytes(&mut work, WORK, spoil);
+    spoil_bytes(&mut spare, SPARE, spoil);
     let number = got.number;
     if are_numbers(line, got) {
         return are_buffers(number, &output, &work, &spare, result, lent);
@@ -135,6 +152,7 @@ pub fn function_agrees(
     numbers: &[u32],
     n: usize,
     lent: Lent,
+    spoil: Spoil,
 ) -> bool {
     let mut output = marked_bytes();
     let mut work = marked_bytes();
@@ -154,6 +172,11 @@ pub fn function_agrees(
         &mut records,
         lent.records,
     );
+    spoil_bytes(&mut output, OUTPUT, spoil);
+    spoil_bytes(&mut work, WORK, spoil);
+    spoil_bytes(&mut spare, SPARE, spoil);
+    spoil_bytes(&mut declared, DECLARED, spoil);
+    spoil_numbers(&mut records, RECORDS, spoil);
     let number = got.number;
     if !are_numbers(line, got) {
         return false;

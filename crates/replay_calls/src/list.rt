@@ -1,18 +1,21 @@
-// The stored list, line by line. Six kinds of line prepare for the calls behind them: `t RUNS` gives the text, `e RUNS` the
+// The stored list, line by line. Seven kinds of line prepare for the calls behind them: `t RUNS` gives the text, `e RUNS` the
 // output that the call must leave, `d RUNS` the declaration text and `n NUMBER ..` the record numbers, `l` with five numbers
-// lends buffers of these lengths, and `s ROW` names the report's row.
+// lends buffers of these lengths, `s ROW` names the report's row, and `z BUFFER PLACE` changes a place behind the next call.
 use crate::answer::Lent;
 use crate::answer::body_agrees;
 use crate::answer::function_agrees;
 use classes::byte_at;
+use stored_list::Spoil;
 use stored_list::before_first;
 use stored_list::field;
 use stored_list::next_line;
+use stored_list::no_spoil;
 use stored_list::note;
 use stored_list::number;
 use stored_list::part;
 use stored_list::put_numbers;
 use stored_list::put_runs;
+use stored_list::spoil_of;
 
 // The report's row of the lines that are of no kind.
 const UNKNOWN: usize = 6;
@@ -27,6 +30,8 @@ pub struct State {
     pub lent: Lent,
     // The report's row.
     pub row: usize,
+    // What the next call's buffers are changed at.
+    pub spoil: Spoil,
 }
 
 // The lengths that a line gives. One that is missing is too large to be lent.
@@ -59,6 +64,7 @@ fn first_state() -> State {
             records: 0,
         },
         row: UNKNOWN,
+        spoil: no_spoil(),
     }
 }
 
@@ -96,6 +102,11 @@ fn with_row(mut state: State, row: usize) -> State {
     state
 }
 
+fn with_spoil(mut state: State, spoil: Spoil) -> State {
+    state.spoil = spoil;
+    state
+}
+
 // Makes the call of a line, or counts the line as one of no kind.
 fn compare(
     kind: u8,
@@ -108,7 +119,7 @@ fn compare(
     tally: &mut [u32],
 ) {
     if kind == b'b' {
-        let same = body_agrees(line, text, result, state.lent);
+        let same = body_agrees(line, text, result, state.lent, state.spoil);
         note(tally, state.row, same);
         return;
     }
@@ -121,6 +132,7 @@ fn compare(
             numbers,
             state.numbers,
             state.lent,
+            state.spoil,
         );
         note(tally, state.row, same);
         return;
@@ -157,6 +169,9 @@ fn take_line(
     if kind == b's' {
         return with_row(before, number(field(line, 1)));
     }
+    if kind == b'z' {
+        return with_spoil(before, spoil_of(line));
+    }
     compare(
         kind,
         line,
@@ -167,7 +182,7 @@ fn take_line(
         before,
         tally,
     );
-    before
+    with_spoil(before, no_spoil())
 }
 
 // Takes the whole list from standard input. A proved loop has to end, so it counts down from a number that no list uses up.

@@ -12,6 +12,8 @@ mod question;
 #[cfg(test)]
 mod rows;
 mod runs;
+mod spoiled_calls;
+mod spoiled_searches;
 mod stored;
 mod stored_call;
 mod stored_calls;

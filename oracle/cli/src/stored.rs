@@ -11,6 +11,7 @@ use crate::generate::number;
 use crate::hex;
 use crate::question::Question;
 use crate::runs::Runs;
+use crate::spoiled_searches;
 use crate::stored_limits;
 use crate::wrong_searches;
 use crate::Stop;
@@ -26,7 +27,8 @@ pub fn run(count: &str, seed: &str, out: &mut impl Write) -> Result<(), Stop> {
         }
     }
     stored_limits::write(out)?;
-    wrong_searches::write(out)
+    wrong_searches::write(out)?;
+    spoiled_searches::write(out)
 }
 
 fn questions(text: &str, random: &mut Random) -> Vec<Question> {

@@ -12,6 +12,7 @@ use crate::body_rows;
 use crate::function_limits;
 use crate::function_rows;
 use crate::generate::number;
+use crate::spoiled_calls;
 use crate::stored_call::{write_all, Body, Function, Stored, BODY_LEAST, FUNCTION_LEAST, SIZE};
 use crate::wrong_calls;
 use crate::Stop;
@@ -33,7 +34,8 @@ pub fn run(bodies: &str, functions: &str, seed: &str, out: &mut impl Write) -> R
     write_bodies(bodies, seed, out)?;
     write_functions(functions, seed, out)?;
     writeln!(out, "s {WRONG_ANSWERS}")?;
-    Ok(wrong_calls::write(out)?)
+    wrong_calls::write(out)?;
+    Ok(spoiled_calls::write(out)?)
 }
 
 fn write_bodies(count: u64, seed: u64, out: &mut impl Write) -> Result<(), Stop> {

@@ -48,7 +48,7 @@ fn bodies() -> [(Body, [usize; 5]); 8] {
 }
 
 /// A function with two records, whose last number is not 0.
-fn declaring() -> Function {
+pub fn declaring() -> Function {
     let declared = [declaration("b", None), declaration("a", Some("12"))];
     let text = Runs::one(b"DECLARE b t; a t := 12; BEGIN x");
     Function::new(text, Answer::accepted("BEGIN x"), &declared)
