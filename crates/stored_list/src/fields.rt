@@ -1,23 +1,33 @@
 // The fields of a line: a letter for its kind, then texts in hex and decimal numbers, with one space between two fields.
 use classes::byte_at;
-ghost use Prim.Native.Nat.{_≤_, _<_};
+ghost use mathlib.Core.Path.{_≡_};
+ghost use Prim.Native.Nat.{_+_, _≤_, _<_, min};
+ghost use lib.Dec.{eqb};
+ghost use lib.ListN.{length, drop, getD};
+ghost use lib.Seq.{sets};
+ghost use Rattle.spec.specs.Bytes.{isSame};
+ghost use Rattle.stored_list.specs.Fields.{partOf, placeOf, behindSpaces, fieldOf};
+ghost use Rattle.stored_list.specs.Numbers.{hexDigit, hexPair, hexBytes, withDigit, numberOf};
 
 // What stands for a number that is none or is too large to be one.
 const NO_NUMBER: usize = 99999999;
 
 // The bytes from a up to e, or none where they do not lie in the list.
-pub fn part(list: &[u8], a: usize, e: usize) -> &[u8] {
-    if e <= list.len() {
-        if a <= e {
-            return &list[a..e];
-        }
+pub fn part(list: &[u8], a: usize, e: usize) -> &[u8]
+    ensures { λ r. ⌜ now r ≡ partOf a e (now (list .entry)) ⌝ }
+{
+    if list.len() < e {
+        return &list[..0];
     }
-    &list[..0]
+    if e < a {
+        return &list[..0];
+    }
+    &list[a..e]
 }
 
 // Where b stands next at or after `from`, or the list's end.
 pub fn next_place(list: &[u8], from: usize, b: u8) -> usize
-    ensures { λ r. ⌜ from ≤ r ⌝ }
+    ensures { λ r. ⌜ r ≡ placeOf b from (now (list .entry)) ⌝ }
 {
     let mut i = from;
     while i < list.len() {
@@ -30,7 +40,10 @@ pub fn next_place(list: &[u8], from: usize, b: u8) -> usize
 }
 
 // Where the field begins that has k fields before it.
-fn field_start(line: &[u8], k: usize) -> usize {
+fn field_start(line: &[u8], k: usize) -> usize
+    ensures { λ r. ⌜ drop r (now (line .entry)) ≡ behindSpaces k (now (line .entry)) ⌝ }
+    ensures { λ r. ⌜ r ≤ length (now (line .entry)) ⌝ }
+{
     let mut left = k;
     let mut i: usize = 0;
     while i < line.len() {
@@ -39,14 +52,18 @@ fn field_start(line: &[u8], k: usize) -> usize {
         }
         if line[i] == b' ' {
             left -= 1;
+            i += 1;
+        } else {
+            i += 1;
         }
-        i += 1;
     }
     i
 }
 
 // The field that has k fields before it; empty if there is none.
-pub fn field(line: &[u8], k: usize) -> &[u8] {
+pub fn field(line: &[u8], k: usize) -> &[u8]
+    ensures { λ r. ⌜ now r ≡ fieldOf k (now (line .entry)) ⌝ }
+{
     let start = field_start(line, k);
     part(line, start, next_place(line, start, b' '))
 }
@@ -54,6 +71,7 @@ pub fn field(line: &[u8], k: usize) -> &[u8] {
 // The value of a hex digit; 0 for any other byte.
 fn digit(b: u8) -> u8
     ensures { λ r. ⌜ r < 16 ⌝ }
+    ensures { λ r. ⌜ r ≡ hexDigit b ⌝ }
 {
     if b < 48 {
         return 0;
@@ -71,16 +89,19 @@ fn digit(b: u8) -> u8
 }
 
 // The byte that two hex digits stand for.
-fn pair(hex: &[u8], i: usize) -> u8 {
-    if hex.len() <= i {
-        return 0;
-    }
+fn pair(hex: &[u8], i: usize) -> u8
+    requires { ⌜ i + 1 < length (now hex) ⌝ }
+    ensures { λ r. ⌜ r ≡ hexPair (getD (now (hex .entry)) i 0) (getD (now (hex .entry)) (i + 1) 0) ⌝ }
+{
     16 * digit(byte_at(hex, i)) + digit(byte_at(hex, i + 1))
 }
 
 // Puts the bytes that a field of hex digits stands for at the front of out, as far as it reaches, and gives their number.
 // The field `-` is the empty text.
-pub fn decode(hex: &[u8], out: &mut [u8]) -> usize {
+pub fn decode(hex: &[u8], out: &mut [u8]) -> usize
+    ensures { λ r. ⌜ r ≡ min (length (hexBytes (now (hex .entry)))) (length (now (out .entry))) ⌝ }
+    ensures { λ _. ⌜ now (out .exit) ≡ sets (now (out .entry)) 0 (hexBytes (now (hex .entry))) ⌝ }
+{
     let mut n: usize = 0;
     let mut i: usize = 0;
     while n < out.len() {
@@ -95,7 +116,9 @@ pub fn decode(hex: &[u8], out: &mut [u8]) -> usize {
 }
 
 // The number n with one more digit behind it.
-fn with_digit(n: usize, b: u8) -> usize {
+fn with_digit(n: usize, b: u8) -> usize
+    ensures { λ r. ⌜ r ≡ withDigit n b ⌝ }
+{
     if b < 48 {
         return NO_NUMBER;
     }
@@ -109,7 +132,9 @@ fn with_digit(n: usize, b: u8) -> usize {
 }
 
 // The value of a decimal field.
-pub fn number(digits: &[u8]) -> usize {
+pub fn number(digits: &[u8]) -> usize
+    ensures { λ r. ⌜ r ≡ numberOf (now (digits .entry)) ⌝ }
+{
     if digits.len() == 0 {
         return NO_NUMBER;
     }
@@ -123,7 +148,9 @@ pub fn number(digits: &[u8]) -> usize {
 }
 
 // Whether two texts are the same.
-pub fn same(a: &[u8], b: &[u8]) -> bool {
+pub fn same(a: &[u8], b: &[u8]) -> bool
+    ensures { λ r. ⌜ r ≡ isSame (now (a .entry)) (now (b .entry)) ⌝ }
+{
     if a.len() == b.len() {
         classes::starts_with(a, b)
     } else {
@@ -132,6 +159,8 @@ pub fn same(a: &[u8], b: &[u8]) -> bool {
 }
 
 // Whether the field that has k fields before it is this number.
-pub fn is_number(line: &[u8], k: usize, n: usize) -> bool {
+pub fn is_number(line: &[u8], k: usize, n: usize) -> bool
+    ensures { λ r. ⌜ r ≡ eqb (numberOf (fieldOf k (now (line .entry)))) n ⌝ }
+{
     number(field(line, k)) == n
 }

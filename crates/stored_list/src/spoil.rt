@@ -1,6 +1,8 @@
 // A place of a buffer is changed behind a call, so that the answer must be found to differ.
 use crate::fields::field;
 use crate::fields::number;
+ghost use mathlib.Core.Path.{_≡_};
+ghost use Rattle.stored_list.specs.Spoil.{other, noSpoil, spoilOf, spoiled};
 
 pub struct Spoil {
     // The number of the buffer, and the place in it.
@@ -12,7 +14,9 @@ pub struct Spoil {
 const NO_BUFFER: usize = 99;
 
 // Nothing is changed.
-pub fn no_spoil() -> Spoil {
+pub fn no_spoil() -> Spoil
+    ensures { λ r. ⌜ r ≡ noSpoil ⌝ }
+{
     Spoil {
         buffer: NO_BUFFER,
         place: 0,
@@ -20,7 +24,9 @@ pub fn no_spoil() -> Spoil {
 }
 
 // The second field of a line names the buffer, the third the place.
-pub fn spoil_of(line: &[u8]) -> Spoil {
+pub fn spoil_of(line: &[u8]) -> Spoil
+    ensures { λ r. ⌜ r ≡ spoilOf (now (line .entry)) ⌝ }
+{
     let buffer = number(field(line, 1));
     Spoil {
         buffer,
@@ -29,33 +35,43 @@ pub fn spoil_of(line: &[u8]) -> Spoil {
 }
 
 // Another byte.
-fn other_byte(b: u8) -> u8 {
+fn other_byte(b: u8) -> u8
+    ensures { λ r. ⌜ r ≡ other b ⌝ }
+{
     if b == 1 { 2 } else { 1 }
 }
 
 // Another number.
-fn other_number(n: u32) -> u32 {
+fn other_number(n: u32) -> u32
+    ensures { λ r. ⌜ r ≡ other n ⌝ }
+{
     if n == 1 { 2 } else { 1 }
 }
 
 // Changes the byte at the place, if it is one of this buffer.
-pub fn spoil_bytes(buffer: &mut [u8], own: usize, spoil: Spoil) {
+pub fn spoil_bytes(buffer: &mut [u8], own: usize, spoil: Spoil)
+    ensures { λ _. ⌜ now (buffer .exit) ≡ spoiled own spoil (now (buffer .entry)) ⌝ }
+{
     let place = spoil.place;
-    if spoil.buffer == own {
-        if place < buffer.len() {
-            let b = buffer[place];
-            buffer[place] = other_byte(b);
-        }
+    if spoil.buffer != own {
+        return;
     }
+    if buffer.len() <= place {
+        return;
+    }
+    buffer[place] = other_byte(buffer[place]);
 }
 
 // The same for numbers.
-pub fn spoil_numbers(buffer: &mut [u32], own: usize, spoil: Spoil) {
+pub fn spoil_numbers(buffer: &mut [u32], own: usize, spoil: Spoil)
+    ensures { λ _. ⌜ now (buffer .exit) ≡ spoiled own spoil (now (buffer .entry)) ⌝ }
+{
     let place = spoil.place;
-    if spoil.buffer == own {
-        if place < buffer.len() {
-            let n = buffer[place];
-            buffer[place] = other_number(n);
-        }
+    if spoil.buffer != own {
+        return;
     }
+    if buffer.len() <= place {
+        return;
+    }
+    buffer[place] = other_number(buffer[place]);
 }

@@ -1,20 +1,31 @@
+-- `stored_list::field_start` meets its contract. The loop's invariant: what stands behind the first k spaces of the line
+-- stands behind the first `left` spaces from i on. Assumes nothing.
 use borrow.Author.Needs.{needs}
-use Prim.Native.Nat.{_-_}
-use lib.ListN.{length}
+use native.Mathlib.Omega.{arith}
+use mathlib.Core.Path.{_≡_, refl, sym, _∙_}
+use Prim.Native.Nat.{_-_, _≤_}
+use lib.ListN.{length, drop}
+use Rattle.stored_list.specs.Fields.{behindSpaces}
+use Rattle.stored_list.proofs.FieldLaws.{behind-none, behind-space, behind-other, behind-end}
 use Rattle.stored_list.proofs.fields.field_start.Statement.{statement}
 use Rattle.stored_list.proofs.fields.field_start.Tie as tie
 
 abbrev Inv-loop : tie.InvT-loop
-Inv-loop line k left₀ i₀ left i = Unit {0}
+Inv-loop line k left₀ i₀ left i = (i ≤ length line) × (behindSpaces k line ≡ behindSpaces left (drop i line))
 
 abbrev μ-loop : tie.MeasureT-loop
 μ-loop line k left₀ i₀ left i = length line - i
 
 loop-holds : tie.Need-loop-holds Inv-loop μ-loop
-loop-holds c = search needs
+loop-holds c = (omega arith, refl)
 
 returns : tie.Need-returns Inv-loop μ-loop
-returns c = search needs
+returns c =
+    let l = c .before .before .loop in (
+      sym (l .inv .1 ∙ behind-none (drop (l .i) (c .before .before .before .args .line .now)) (l .left) (c .if1 .taken)),
+      omega
+          arith,
+    )
 
 shared-slice-read-if2 : tie.Need-shared-slice-read-if2 Inv-loop μ-loop
 shared-slice-read-if2 c = search needs
@@ -29,10 +40,31 @@ loop-less : tie.Need-loop-less Inv-loop μ-loop
 loop-less c = search needs
 
 loop-again : tie.Need-loop-again Inv-loop μ-loop
-loop-again c = search needs
+loop-again c =
+    let l = c .before .before .before .before .loop in (
+      omega arith,
+      l .inv .1 ∙ behind-space (l .left) (c .before .before .before .before .before .args .line .now) (l .i)
+          (c .before .before .if1 .left) (omega arith) (c .if2 .taken),
+    )
+
+add-i-2 : tie.Need-add-i-2 Inv-loop μ-loop
+add-i-2 c = search needs
+
+loop-less-2 : tie.Need-loop-less-2 Inv-loop μ-loop
+loop-less-2 c = search needs
+
+loop-again-2 : tie.Need-loop-again-2 Inv-loop μ-loop
+loop-again-2 c =
+    let l = c .before .before .before .before .loop in (
+      omega arith,
+      l .inv .1 ∙ behind-other (l .left) (c .before .before .before .before .before .args .line .now) (l .i)
+          (c .before .before .if1 .left) (omega arith) (c .if2 .left),
+    )
 
 returns-2 : tie.Need-returns-2 Inv-loop μ-loop
-returns-2 c = search needs
+returns-2 c =
+    let l = c .before .loop in
+    (sym (l .inv .1 ∙ behind-end (l .left) (c .before .before .args .line .now) (l .i) (omega arith)), omega arith)
 
 pub field-start-spec : {M : Type 1} → statement M
 field-start-spec =
@@ -47,4 +79,7 @@ field-start-spec =
     add-i
     loop-less
     loop-again
+    add-i-2
+    loop-less-2
+    loop-again-2
     returns-2)

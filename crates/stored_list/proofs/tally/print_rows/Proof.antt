@@ -1,3 +1,4 @@
+-- `stored_list::print_rows` meets its contract. The measure is what is left of n. Assumes nothing.
 use borrow.Author.Needs.{needs}
 use Prim.Native.Nat.{_-_}
 use Rattle.stored_list.proofs.tally.print_rows.Statement.{statement}

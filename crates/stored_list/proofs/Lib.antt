@@ -1,0 +1,9 @@
+pub mod StoringLaws
+pub mod FieldLaws
+pub mod NumberLaws
+pub mod MarkLaws
+pub mod LineLaws
+pub mod RunLaws
+pub mod SpoilLaws
+pub mod TallyLaws
+pub mod Rows

@@ -1,0 +1,7 @@
+pub mod Fields
+pub mod Numbers
+pub mod Lines
+pub mod Runs
+pub mod Marks
+pub mod Spoil
+pub mod Tally
