@@ -68,12 +68,13 @@ fn first_state() -> State {
     }
 }
 
-// A text of n bytes; no output and no declarations are expected yet.
+// A text of n bytes; no output and no declarations are expected yet, and no place is changed.
 fn with_text(mut state: State, n: usize) -> State {
     state.text = n;
     state.result = 0;
     state.declared = 0;
     state.numbers = 0;
+    state.spoil = no_spoil();
     state
 }
 

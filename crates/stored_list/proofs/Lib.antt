@@ -1,3 +1,4 @@
+pub mod CountLaws
 pub mod StoringLaws
 pub mod FieldLaws
 pub mod NumberLaws

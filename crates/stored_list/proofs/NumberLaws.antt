@@ -2,7 +2,7 @@
 use mathlib.Core.Path.{_≡_, refl, sym, ap, _∙_}
 use mathlib.Core.Bool.{Bool, true, false, _&&_}
 use mathlib.Core.List.{List, [], _∷_}
-use Prim.Native.Nat.{ℕ, suc, _+_, _-_, _*_, _≤_, _<_}
+use Prim.Native.Nat.{ℕ, _+_, _-_, _*_, _≤_, _<_}
 use native.Mathlib.Nat.{suc-inj}
 use native.Mathlib.Omega.{arith}
 use borrow.Author.Tests.{eq-eqb, ne-eqb, le-leb, lt-leb, lt-ltb, le-ltb, ltb-true, ltb-false}
@@ -17,6 +17,7 @@ use Rattle.spec.proofs.NameOrder.{same-eq}
 use Rattle.stored_list.proofs.FieldLaws.{place-part}
 use Rattle.stored_list.specs.Fields.{partOf, isOther, placeOf}
 use Rattle.stored_list.specs.Numbers.{hexDigit, hexPair, hexBytes, noNumber, withDigit, withDigits, numberOf, narrowed, numbersOf, sameFront}
+use Rattle.stored_list.proofs.CountLaws.{one-less}
 
 -- ---- digits
 
@@ -157,27 +158,24 @@ numbers-turn xs i e v h k p q =
 -- ---- the same numbers in front
 
 module _ (n : ℕ) (xs ys : List ℕ) (i : ℕ) (h : i < n) where
-  more : n - i ≡ suc (n - (i + 1))
-  more = omega arith
-
   pub front-short : length xs ≤ i → false ≡ sameFront (n - i) (drop i xs) (drop i ys)
   unfolding sameFront
-  front-short k = rw (more, drop-of-length-le xs k) refl
+  front-short k = rw (one-less n i h, drop-of-length-le xs k) refl
 
   module _ (k : i < length xs) where
     pub front-short-second : length ys ≤ i → false ≡ sameFront (n - i) (drop i xs) (drop i ys)
     unfolding sameFront
-    front-short-second m = rw (more, drop-one xs i 0 k, drop-of-length-le ys m) refl
+    front-short-second m = rw (one-less n i h, drop-one xs i 0 k, drop-of-length-le ys m) refl
 
     module _ (m : i < length ys) where
       pub front-differs : (getD xs i 0 ≡ getD ys i 0 → ⊥) → false ≡ sameFront (n - i) (drop i xs) (drop i ys)
       unfolding sameFront
-      front-differs e = rw (more, drop-one xs i 0 k, drop-one ys i 0 m, ne-eqb (getD xs i 0) (getD ys i 0) e) refl
+      front-differs e = rw (one-less n i h, drop-one xs i 0 k, drop-one ys i 0 m, ne-eqb (getD xs i 0) (getD ys i 0) e) refl
 
       pub front-step : getD xs i 0 ≡ getD ys i 0
           → sameFront (n - i) (drop i xs) (drop i ys) ≡ sameFront (n - (i + 1)) (drop (i + 1) xs) (drop (i + 1) ys)
       unfolding sameFront
-      front-step e = rw (more, drop-one xs i 0 k, drop-one ys i 0 m, eq-eqb (getD xs i 0) (getD ys i 0) e) refl
+      front-step e = rw (one-less n i h, drop-one xs i 0 k, drop-one ys i 0 m, eq-eqb (getD xs i 0) (getD ys i 0) e) refl
 
 pub front-all : (n : ℕ) (xs ys : List ℕ) (i : ℕ) → n ≤ i → sameFront (n - i) (drop i xs) (drop i ys) ≡ true
 unfolding sameFront

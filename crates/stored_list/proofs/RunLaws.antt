@@ -15,6 +15,7 @@ use Rattle.stored_list.specs.Fields.{partOf, fieldOf}
 use Rattle.stored_list.specs.Numbers.{numberOf}
 use Rattle.stored_list.specs.Runs.{repeated, hexRun, runAt, runsFrom}
 use Rattle.stored_list.proofs.FieldLaws.{part-in}
+use Rattle.stored_list.proofs.CountLaws.{one-less}
 
 pub repeated-step : (n : ℕ) (xs : List ℕ) → 0 < n → repeated n xs ≡ xs ++ repeated (n - 1) xs
 unfolding repeated
@@ -44,17 +45,14 @@ module _ (n j : ℕ) (line : List ℕ) where
   runs-end h = let k : n - j ≡ 0 = omega arith in rw k refl
 
   module _ (h : j < n) where
-    more : n - j ≡ suc (n - (j + 1))
-    more = omega arith
-
     pub runs-none : length (fieldOf (2 * j + 1) line) ≡ 0 → runsFrom (n - j) j line ≡ []
     unfolding runsFrom
-    runs-none e = rw (more, empty-none (fieldOf (2 * j + 1) line) e) refl
+    runs-none e = rw (one-less n j h, empty-none (fieldOf (2 * j + 1) line) e) refl
 
     pub runs-step : (length (fieldOf (2 * j + 1) line) ≡ 0 → ⊥)
         → runsFrom (n - j) j line ≡ runAt j line ++ runsFrom (n - (j + 1)) (j + 1) line
     unfolding runsFrom
-    runs-step e = rw (more, empty-some (fieldOf (2 * j + 1) line) e) refl
+    runs-step e = rw (one-less n j h, empty-some (fieldOf (2 * j + 1) line) e) refl
 
 -- a run from what the code computes: its fields, and the number of the first
 pub run-fields : (j : ℕ) (line count hex : List ℕ) (n : ℕ) → count ≡ fieldOf (2 * j + 1) line → n ≡ numberOf count

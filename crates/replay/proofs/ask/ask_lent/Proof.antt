@@ -1,3 +1,4 @@
+-- `replay::ask_lent` meets its contract. A part of each buffer is lent, of the length that is asked for. Assumes nothing.
 use native.Mathlib.Omega.{arith}
 use mathlib.Core.Path.{sym}
 use lib.Seq.{length-take-le}
@@ -21,13 +22,18 @@ slice-relend-prefix-ask : tie.Need-slice-relend-prefix-ask
 slice-relend-prefix-ask c = search needs
 
 slice-aggregate-ask : tie.Need-slice-aggregate-ask
-slice-aggregate-ask c = sym (length-take-le (c .before .before .before .before .before .before .before .args .m) (c .before .before .before .before .before .before .before .args .bytes .now) (omega (arith, c .before .before .if1 .left)))
+slice-aggregate-ask c =
+    let back = c .before .before .before .before .before .before in
+    sym (length-take-le (back .before .args .m) (back .before .args .bytes .now) (omega (arith, c .before .before .if1 .left)))
 
 slice-relend-prefix-ask-2 : tie.Need-slice-relend-prefix-ask-2
 slice-relend-prefix-ask-2 c = search needs
 
 slice-aggregate-ask-2 : tie.Need-slice-aggregate-ask-2
-slice-aggregate-ask-2 c = sym (length-take-le (c .before .before .before .before .before .before .before .before .args .k) (c .before .before .before .before .before .before .before .before .args .starts .now) (omega (arith, c .before .before .if2 .left)))
+slice-aggregate-ask-2 c =
+    let back = c .before .before .before .before .before .before in
+    sym (length-take-le (back .before .before .args .k) (back .before .before .args .starts .now)
+    (omega (arith, c .before .before .if2 .left)))
 
 ask-requires : tie.Need-ask-requires
 ask-requires c κs = search needs

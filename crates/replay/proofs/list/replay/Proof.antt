@@ -1,3 +1,5 @@
+-- `replay::replay` meets its contract. The loop's invariant: the buffers keep their lengths. The measure is `turns`. Assumes
+-- nothing.
 use borrow.Author.Needs.{needs}
 use mathlib.Core.Path.{_≡_, refl}
 use lib.ListN.{length}

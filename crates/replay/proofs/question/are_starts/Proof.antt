@@ -1,3 +1,4 @@
+-- `replay::are_starts` meets its contract. The measure is what is left of 65536. Assumes nothing.
 use borrow.Author.Needs.{needs}
 use Prim.Native.Nat.{_-_}
 use Rattle.replay.proofs.question.are_starts.Statement.{statement}

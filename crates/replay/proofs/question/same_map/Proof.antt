@@ -1,3 +1,4 @@
+-- `replay::same_map` meets its contract. The measure is what is left of the digits. Assumes nothing.
 use borrow.Author.Needs.{needs}
 use Prim.Native.Nat.{_-_}
 use lib.ListN.{length}

@@ -1,3 +1,4 @@
+-- `replay_calls::call_body` meets its contract. A part of each buffer is lent, of the length that is asked for. Assumes nothing.
 use native.Mathlib.Omega.{arith}
 use mathlib.Core.Path.{sym}
 use lib.Seq.{length-take-le}
@@ -27,19 +28,28 @@ slice-relend-prefix-transform-body : tie.Need-slice-relend-prefix-transform-body
 slice-relend-prefix-transform-body c = search needs
 
 slice-aggregate-transform-body : tie.Need-slice-aggregate-transform-body
-slice-aggregate-transform-body c = sym (length-take-le (c .before .before .before .before .before .before .before .before .args .m) (c .before .before .before .before .before .before .before .before .args .output .now) (omega (arith, c .before .before .before .if1 .left)))
+slice-aggregate-transform-body c =
+    let back = c .before .before .before .before .before .before in
+    sym (length-take-le (back .before .before .args .m) (back .before .before .args .output .now)
+    (omega (arith, c .before .before .before .if1 .left)))
 
 slice-relend-prefix-transform-body-2 : tie.Need-slice-relend-prefix-transform-body-2
 slice-relend-prefix-transform-body-2 c = search needs
 
 slice-aggregate-transform-body-2 : tie.Need-slice-aggregate-transform-body-2
-slice-aggregate-transform-body-2 c = sym (length-take-le (c .before .before .before .before .before .before .before .before .before .args .k) (c .before .before .before .before .before .before .before .before .before .args .work .now) (omega (arith, c .before .before .before .if2 .left)))
+slice-aggregate-transform-body-2 c =
+    let back = c .before .before .before .before .before .before in
+    sym (length-take-le (back .before .before .before .args .k) (back .before .before .before .args .work .now)
+    (omega (arith, c .before .before .before .if2 .left)))
 
 slice-relend-prefix-transform-body-3 : tie.Need-slice-relend-prefix-transform-body-3
 slice-relend-prefix-transform-body-3 c = search needs
 
 slice-aggregate-transform-body-3 : tie.Need-slice-aggregate-transform-body-3
-slice-aggregate-transform-body-3 c = sym (length-take-le (c .before .before .before .before .before .before .before .before .before .before .args .j) (c .before .before .before .before .before .before .before .before .before .before .args .spare .now) (omega (arith, c .before .before .before .if3 .left)))
+slice-aggregate-transform-body-3 c =
+    let back = c .before .before .before .before .before .before in
+    sym (length-take-le (back .before .before .before .before .args .j)
+    (back .before .before .before .before .args .spare .now) (omega (arith, c .before .before .before .if3 .left)))
 
 transform-body-requires : tie.Need-transform-body-requires
 transform-body-requires c κs = search needs

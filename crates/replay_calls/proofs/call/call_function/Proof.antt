@@ -1,3 +1,5 @@
+-- `replay_calls::call_function` meets its contract. A part of each buffer is lent, of the length that is asked for. Assumes
+-- nothing.
 use native.Mathlib.Omega.{arith}
 use mathlib.Core.Path.{sym}
 use lib.Seq.{length-take-le}
@@ -39,31 +41,52 @@ slice-relend-prefix-preprocess : tie.Need-slice-relend-prefix-preprocess
 slice-relend-prefix-preprocess c = search needs
 
 slice-aggregate-preprocess : tie.Need-slice-aggregate-preprocess
-slice-aggregate-preprocess c = sym (length-take-le (c .before .before .before .before .before .before .before .before .before .before .before .before .args .m) (c .before .before .before .before .before .before .before .before .before .before .before .before .args .output .now) (omega (arith, c .before .before .before .before .before .if1 .left)))
+slice-aggregate-preprocess c =
+    let back = c .before .before .before .before .before .before in
+    sym (length-take-le (back .before .before .before .before .before .before .args .m)
+    (back .before .before .before .before .before .before .args .output .now)
+    (omega (arith, c .before .before .before .before .before .if1 .left)))
 
 slice-relend-prefix-preprocess-2 : tie.Need-slice-relend-prefix-preprocess-2
 slice-relend-prefix-preprocess-2 c = search needs
 
 slice-aggregate-preprocess-2 : tie.Need-slice-aggregate-preprocess-2
-slice-aggregate-preprocess-2 c = sym (length-take-le (c .before .before .before .before .before .before .before .before .before .before .before .before .before .args .k) (c .before .before .before .before .before .before .before .before .before .before .before .before .before .args .work .now) (omega (arith, c .before .before .before .before .before .if2 .left)))
+slice-aggregate-preprocess-2 c =
+    let back = c .before .before .before .before .before .before in
+    let back₂ = back .before .before .before .before .before .before in
+    sym (length-take-le (back₂ .before .args .k) (back₂ .before .args .work .now)
+    (omega (arith, c .before .before .before .before .before .if2 .left)))
 
 slice-relend-prefix-preprocess-3 : tie.Need-slice-relend-prefix-preprocess-3
 slice-relend-prefix-preprocess-3 c = search needs
 
 slice-aggregate-preprocess-3 : tie.Need-slice-aggregate-preprocess-3
-slice-aggregate-preprocess-3 c = sym (length-take-le (c .before .before .before .before .before .before .before .before .before .before .before .before .before .before .args .j) (c .before .before .before .before .before .before .before .before .before .before .before .before .before .before .args .spare .now) (omega (arith, c .before .before .before .before .before .if3 .left)))
+slice-aggregate-preprocess-3 c =
+    let back = c .before .before .before .before .before .before in
+    let back₂ = back .before .before .before .before .before .before in
+    sym (length-take-le (back₂ .before .before .args .j) (back₂ .before .before .args .spare .now)
+    (omega (arith, c .before .before .before .before .before .if3 .left)))
 
 slice-relend-prefix-preprocess-4 : tie.Need-slice-relend-prefix-preprocess-4
 slice-relend-prefix-preprocess-4 c = search needs
 
 slice-aggregate-preprocess-4 : tie.Need-slice-aggregate-preprocess-4
-slice-aggregate-preprocess-4 c = sym (length-take-le (c .before .before .before .before .before .before .before .before .before .before .before .before .before .before .before .args .d) (c .before .before .before .before .before .before .before .before .before .before .before .before .before .before .before .args .declared .now) (omega (arith, c .before .before .before .before .before .if4 .left)))
+slice-aggregate-preprocess-4 c =
+    let back = c .before .before .before .before .before .before in
+    let back₂ = back .before .before .before .before .before .before in
+    sym (length-take-le (back₂ .before .before .before .args .d) (back₂ .before .before .before .args .declared .now)
+    (omega (arith, c .before .before .before .before .before .if4 .left)))
 
 slice-relend-prefix-preprocess-5 : tie.Need-slice-relend-prefix-preprocess-5
 slice-relend-prefix-preprocess-5 c = search needs
 
 slice-aggregate-preprocess-5 : tie.Need-slice-aggregate-preprocess-5
-slice-aggregate-preprocess-5 c = sym (length-take-le (c .before .before .before .before .before .before .before .before .before .before .before .before .before .before .before .before .args .r) (c .before .before .before .before .before .before .before .before .before .before .before .before .before .before .before .before .args .records .now) (omega (arith, c .before .before .before .before .before .if5 .left)))
+slice-aggregate-preprocess-5 c =
+    let back = c .before .before .before .before .before .before in
+    let back₂ = back .before .before .before .before .before .before in
+    sym (length-take-le (back₂ .before .before .before .before .args .r)
+    (back₂ .before .before .before .before .args .records .now)
+    (omega (arith, c .before .before .before .before .before .if5 .left)))
 
 preprocess-requires : tie.Need-preprocess-requires
 preprocess-requires c κs = search needs

@@ -1,3 +1,5 @@
+-- `replay_calls::replay` meets its contract. The loop's invariant: the buffers keep their lengths. The measure is `turns`.
+-- Assumes nothing.
 use borrow.Author.Needs.{needs}
 use mathlib.Core.Path.{_≡_, refl, _∙_}
 use lib.ListN.{length}
@@ -57,9 +59,18 @@ loop-less c = search needs
 
 loop-again : tie.Need-loop-again Inv-loop μ-loop
 loop-again c =
-    let l = c .before .before .before .before .before .before .before .before .before .before .before .before .before .before .before .before .before .before .before .before .before .before .before .before .loop in
-    let t = c .before .before .before .before .before .before .before .before .before .before .take-line in
-    (c .before .before .before .before .before .before .before .before .before .before .before .before .before .before .before .before .before .before .before .before .before .next-line .kept .0 ∙ l .inv .0, t .kept .1 .0 ∙ l .inv .1, t .kept .1 .1 .0 ∙ l .inv .2, t .kept .1 .1 .1 .0 ∙ l .inv .3, t .kept .1 .1 .1 .1 .0 ∙ l .inv .4, t .kept .1 .1 .1 .1 .1 .1 .0 ∙ l .inv .5)
+    let back = c .before .before .before .before .before .before in
+    let back₂ = back .before .before .before .before .before .before in
+    let back₃ = back₂ .before .before .before .before .before .before in
+    let l = back₃ .before .before .before .before .before .before .loop in
+    let t = back .before .before .before .before .take-line in (
+      back₃ .before .before .before .next-line .kept .0 ∙ l .inv .0,
+      t .kept .1 .0 ∙ l .inv .1,
+      t .kept .1 .1 .0 ∙ l .inv .2,
+      t .kept .1 .1 .1 .0 ∙ l .inv .3,
+      t .kept .1 .1 .1 .1 .0 ∙ l .inv .4,
+      t .kept .1 .1 .1 .1 .1 .1 .0 ∙ l .inv .5,
+    )
 
 same-length-7 : tie.Need-same-length-7 Inv-loop μ-loop
 same-length-7 c = search needs
