@@ -5,17 +5,17 @@ use crate::ask::KINDS;
 use crate::question::agrees;
 use crate::rows;
 use classes::byte_at;
-use stored_list::Spoil;
+use stored_list::Fault;
 use stored_list::before_first;
+use stored_list::fault_of;
 use stored_list::field;
 use stored_list::next_line;
 use stored_list::next_place;
-use stored_list::no_spoil;
+use stored_list::no_fault;
 use stored_list::note;
 use stored_list::number;
 use stored_list::part;
 use stored_list::put_runs;
-use stored_list::spoil_of;
 
 pub struct State {
     // How many bytes the text has.
@@ -28,7 +28,7 @@ pub struct State {
     // Whether a line said that the answers are wrong.
     pub wrong: bool,
     // What the next search's buffers are changed at.
-    pub spoil: Spoil,
+    pub fault: Fault,
 }
 
 // A text of n bytes, with buffers that are longer than any search needs.
@@ -39,7 +39,7 @@ fn with_text(n: usize) -> State {
         starts: 0,
         limits: false,
         wrong: false,
-        spoil: no_spoil(),
+        fault: no_fault(),
     };
     if n < 65537 {
         state.bytes = 2 * n + 3;
@@ -60,8 +60,8 @@ fn with_wrong(mut state: State) -> State {
     state
 }
 
-fn with_spoil(mut state: State, spoil: Spoil) -> State {
-    state.spoil = spoil;
+fn with_fault(mut state: State, fault: Fault) -> State {
+    state.fault = fault;
     state
 }
 
@@ -82,7 +82,7 @@ fn row_of(kind: u8, state: State) -> usize {
 
 // Makes the search of a line and counts it.
 fn compare(kind: u8, line: &[u8], text: &[u8], state: State, tally: &mut [u32]) {
-    let same = agrees(kind, line, text, state.bytes, state.starts, state.spoil);
+    let same = agrees(kind, line, text, state.bytes, state.starts, state.fault);
     note(tally, row_of(kind, state), same);
 }
 
@@ -100,10 +100,10 @@ fn take_line(line: &[u8], text: &mut [u8], before: State, tally: &mut [u32]) -> 
         return with_wrong(before);
     }
     if kind == b'z' {
-        return with_spoil(before, spoil_of(line));
+        return with_fault(before, fault_of(line));
     }
     compare(kind, line, part(text, 0, before.text), before, tally);
-    with_spoil(before, no_spoil())
+    with_fault(before, no_fault())
 }
 
 // Takes the whole list from standard input. A proved loop has to end, so it counts down from a number that no list uses up.

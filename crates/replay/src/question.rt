@@ -6,18 +6,18 @@ use crate::numbers::four;
 use crate::numbers::same_numbers;
 use crate::numbers::wide;
 use classes::byte_at;
-use stored_list::Spoil;
+use stored_list::Fault;
 use stored_list::are_marked;
 use stored_list::decode;
 use stored_list::field;
+use stored_list::inject_byte;
+use stored_list::inject_number;
 use stored_list::is_marked;
 use stored_list::marked_bytes;
 use stored_list::marked_numbers;
 use stored_list::number;
 use stored_list::part;
 use stored_list::same;
-use stored_list::spoil_bytes;
-use stored_list::spoil_numbers;
 
 // The first field of a result; a list of numbers takes several.
 const RESULT: usize = 7;
@@ -153,7 +153,7 @@ fn is_answer(
 }
 
 // The search of a line on buffers of m bytes and k numbers, and whether its answer is the line's, after a place was changed.
-pub fn agrees(kind: u8, line: &[u8], text: &[u8], m: usize, k: usize, spoil: Spoil) -> bool {
+pub fn agrees(kind: u8, line: &[u8], text: &[u8], m: usize, k: usize, fault: Fault) -> bool {
     let mut needle = io::buffer();
     let w = decode(field(line, 1), &mut needle);
     let from = number(field(line, 2));
@@ -169,7 +169,7 @@ pub fn agrees(kind: u8, line: &[u8], text: &[u8], m: usize, k: usize, spoil: Spo
         part(&needle, 0, w),
         from,
     );
-    spoil_bytes(&mut bytes, BYTES, spoil);
-    spoil_numbers(&mut starts, STARTS, spoil);
+    inject_byte(&mut bytes, BYTES, fault);
+    inject_number(&mut starts, STARTS, fault);
     is_answer(kind, line, got, &bytes, m, &starts, k, text.len())
 }

@@ -3,9 +3,11 @@
 use crate::call::CallNumbers;
 use crate::call::call_body;
 use crate::call::call_function;
-use stored_list::Spoil;
+use stored_list::Fault;
 use stored_list::are_filled;
 use stored_list::are_marked;
+use stored_list::inject_byte;
+use stored_list::inject_number;
 use stored_list::is_filled;
 use stored_list::is_marked;
 use stored_list::is_number;
@@ -14,8 +16,6 @@ use stored_list::marked_numbers;
 use stored_list::part;
 use stored_list::same;
 use stored_list::same_front;
-use stored_list::spoil_bytes;
-use stored_list::spoil_numbers;
 
 // How many bytes of each lent buffer a call fills.
 const SIZE: usize = 65536;
@@ -120,7 +120,7 @@ fn are_buffers(
 }
 
 // The body call of a line, and whether its answer is the line's and its buffers are as they must be, after a place was changed.
-pub fn body_agrees(line: &[u8], text: &[u8], result: &[u8], lent: Lent, spoil: Spoil) -> bool {
+pub fn body_agrees(line: &[u8], text: &[u8], result: &[u8], lent: Lent, fault: Fault) -> bool {
     let mut output = marked_bytes();
     let mut work = marked_bytes();
     let mut spare = marked_bytes();
@@ -133,9 +133,9 @@ pub fn body_agrees(line: &[u8], text: &[u8], result: &[u8], lent: Lent, spoil: S
         &mut spare,
         lent.spare,
     );
-    spoil_bytes(&mut output, OUTPUT, spoil);
-    spoil_bytes(&mut work, WORK, spoil);
-    spoil_bytes(&mut spare, SPARE, spoil);
+    inject_byte(&mut output, OUTPUT, fault);
+    inject_byte(&mut work, WORK, fault);
+    inject_byte(&mut spare, SPARE, fault);
     let number = got.number;
     if are_numbers(line, got) {
         return are_buffers(number, &output, &work, &spare, result, lent);
@@ -152,7 +152,7 @@ pub fn function_agrees(
     numbers: &[u32],
     n: usize,
     lent: Lent,
-    spoil: Spoil,
+    fault: Fault,
 ) -> bool {
     let mut output = marked_bytes();
     let mut work = marked_bytes();
@@ -172,11 +172,11 @@ pub fn function_agrees(
         &mut records,
         lent.records,
     );
-    spoil_bytes(&mut output, OUTPUT, spoil);
-    spoil_bytes(&mut work, WORK, spoil);
-    spoil_bytes(&mut spare, SPARE, spoil);
-    spoil_bytes(&mut declared, DECLARED, spoil);
-    spoil_numbers(&mut records, RECORDS, spoil);
+    inject_byte(&mut output, OUTPUT, fault);
+    inject_byte(&mut work, WORK, fault);
+    inject_byte(&mut spare, SPARE, fault);
+    inject_byte(&mut declared, DECLARED, fault);
+    inject_number(&mut records, RECORDS, fault);
     let number = got.number;
     if !are_numbers(line, got) {
         return false;

@@ -5,17 +5,17 @@ use crate::answer::Lent;
 use crate::answer::body_agrees;
 use crate::answer::function_agrees;
 use classes::byte_at;
-use stored_list::Spoil;
+use stored_list::Fault;
 use stored_list::before_first;
+use stored_list::fault_of;
 use stored_list::field;
 use stored_list::next_line;
-use stored_list::no_spoil;
+use stored_list::no_fault;
 use stored_list::note;
 use stored_list::number;
 use stored_list::part;
 use stored_list::put_numbers;
 use stored_list::put_runs;
-use stored_list::spoil_of;
 
 // The report's row of the lines that are of no kind.
 const UNKNOWN: usize = 6;
@@ -31,7 +31,7 @@ pub struct State {
     // The report's row.
     pub row: usize,
     // What the next call's buffers are changed at.
-    pub spoil: Spoil,
+    pub fault: Fault,
 }
 
 // The lengths that a line gives. One that is missing is too large to be lent.
@@ -64,7 +64,7 @@ fn first_state() -> State {
             records: 0,
         },
         row: UNKNOWN,
-        spoil: no_spoil(),
+        fault: no_fault(),
     }
 }
 
@@ -74,7 +74,7 @@ fn with_text(mut state: State, n: usize) -> State {
     state.result = 0;
     state.declared = 0;
     state.numbers = 0;
-    state.spoil = no_spoil();
+    state.fault = no_fault();
     state
 }
 
@@ -103,8 +103,8 @@ fn with_row(mut state: State, row: usize) -> State {
     state
 }
 
-fn with_spoil(mut state: State, spoil: Spoil) -> State {
-    state.spoil = spoil;
+fn with_fault(mut state: State, fault: Fault) -> State {
+    state.fault = fault;
     state
 }
 
@@ -120,7 +120,7 @@ fn compare(
     tally: &mut [u32],
 ) {
     if kind == b'b' {
-        let same = body_agrees(line, text, result, state.lent, state.spoil);
+        let same = body_agrees(line, text, result, state.lent, state.fault);
         note(tally, state.row, same);
         return;
     }
@@ -133,7 +133,7 @@ fn compare(
             numbers,
             state.numbers,
             state.lent,
-            state.spoil,
+            state.fault,
         );
         note(tally, state.row, same);
         return;
@@ -171,7 +171,7 @@ fn take_line(
         return with_row(before, number(field(line, 1)));
     }
     if kind == b'z' {
-        return with_spoil(before, spoil_of(line));
+        return with_fault(before, fault_of(line));
     }
     compare(
         kind,
@@ -183,7 +183,7 @@ fn take_line(
         before,
         tally,
     );
-    with_spoil(before, no_spoil())
+    with_fault(before, no_fault())
 }
 
 // Takes the whole list from standard input. A proved loop has to end, so it counts down from a number that no list uses up.

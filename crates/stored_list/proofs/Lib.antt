@@ -5,6 +5,6 @@ pub mod NumberLaws
 pub mod MarkLaws
 pub mod LineLaws
 pub mod RunLaws
-pub mod SpoilLaws
+pub mod FaultLaws
 pub mod TallyLaws
 pub mod Rows

@@ -3,5 +3,5 @@ pub mod Numbers
 pub mod Lines
 pub mod Runs
 pub mod Marks
-pub mod Spoil
+pub mod Fault
 pub mod Tally

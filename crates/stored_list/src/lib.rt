@@ -1,13 +1,18 @@
 // What the programs share that replay stored lists: the lines of standard input, their fields, texts and numbers,
 // marked buffers, places that are changed behind a call, and the report.
+mod fault;
 mod fields;
 mod lines;
 mod marks;
 mod numbers;
 mod runs;
-mod spoil;
 mod tally;
 
+pub use fault::Fault;
+pub use fault::fault_of;
+pub use fault::inject_byte;
+pub use fault::inject_number;
+pub use fault::no_fault;
 pub use fields::decode;
 pub use fields::field;
 pub use fields::is_number;
@@ -27,10 +32,5 @@ pub use marks::marked_numbers;
 pub use numbers::put_numbers;
 pub use numbers::same_front;
 pub use runs::put_runs;
-pub use spoil::Spoil;
-pub use spoil::no_spoil;
-pub use spoil::spoil_bytes;
-pub use spoil::spoil_numbers;
-pub use spoil::spoil_of;
 pub use tally::note;
 pub use tally::print_rows;

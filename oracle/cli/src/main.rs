@@ -4,6 +4,7 @@ mod answer;
 mod answers;
 mod body_limits;
 mod body_rows;
+mod call_faults;
 mod function_limits;
 mod function_rows;
 mod generate;
@@ -12,8 +13,7 @@ mod question;
 #[cfg(test)]
 mod rows;
 mod runs;
-mod spoiled_calls;
-mod spoiled_searches;
+mod search_faults;
 mod stored;
 mod stored_call;
 mod stored_calls;

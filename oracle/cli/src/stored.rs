@@ -11,7 +11,7 @@ use crate::generate::number;
 use crate::hex;
 use crate::question::Question;
 use crate::runs::Runs;
-use crate::spoiled_searches;
+use crate::search_faults;
 use crate::stored_limits;
 use crate::wrong_searches;
 use crate::Stop;
@@ -28,7 +28,7 @@ pub fn run(count: &str, seed: &str, out: &mut impl Write) -> Result<(), Stop> {
     }
     stored_limits::write(out)?;
     wrong_searches::write(out)?;
-    spoiled_searches::write(out)
+    search_faults::write(out)
 }
 
 fn questions(text: &str, random: &mut Random) -> Vec<Question> {

@@ -9,10 +9,10 @@ use texts::random::Random;
 use crate::answer::{preprocessed, rewritten};
 use crate::body_limits;
 use crate::body_rows;
+use crate::call_faults;
 use crate::function_limits;
 use crate::function_rows;
 use crate::generate::number;
-use crate::spoiled_calls;
 use crate::stored_call::{write_all, Body, Function, Stored, BODY_LEAST, FUNCTION_LEAST, SIZE};
 use crate::wrong_calls;
 use crate::Stop;
@@ -35,7 +35,7 @@ pub fn run(bodies: &str, functions: &str, seed: &str, out: &mut impl Write) -> R
     write_functions(functions, seed, out)?;
     writeln!(out, "s {WRONG_ANSWERS}")?;
     wrong_calls::write(out)?;
-    Ok(spoiled_calls::write(out)?)
+    Ok(call_faults::write(out)?)
 }
 
 fn write_bodies(count: u64, seed: u64, out: &mut impl Write) -> Result<(), Stop> {

@@ -20,8 +20,8 @@ const STARTS: usize = 1;
 type Change = (String, usize, usize);
 
 pub fn write(out: &mut impl Write) -> Result<(), Stop> {
-    write_spoiled(&Runs::one(TEXT.as_bytes()), &accepted().map_err(Stop::Question)?, out)?;
-    Ok(write_spoiled(&Runs::with_byte(2, 1, 200), &refused(), out)?)
+    write_faults(&Runs::one(TEXT.as_bytes()), &accepted().map_err(Stop::Question)?, out)?;
+    Ok(write_faults(&Runs::with_byte(2, 1, 200), &refused(), out)?)
 }
 
 /// More bytes and numbers than a search of a text of this length needs.
@@ -59,7 +59,7 @@ fn length_of(line: &str) -> Result<usize, String> {
 }
 
 /// The text, what is lent, and each search with its change.
-fn write_spoiled(text: &Runs, changes: &[Change], out: &mut impl Write) -> io::Result<()> {
+fn write_faults(text: &Runs, changes: &[Change], out: &mut impl Write) -> io::Result<()> {
     let (bytes, starts) = lent(text.len());
     writeln!(out, "t {text}\nx\nl {bytes} {starts}")?;
     for (line, buffer, place) in changes {

@@ -1,18 +1,18 @@
--- `stored_list::spoil_bytes` meets its contract. A case for each test. Assumes nothing.
-use Rattle.stored_list.proofs.SpoilLaws.{spoil-not, spoil-out, spoil-at}
+-- `stored_list::inject_byte` meets its contract. A case for each test. Assumes nothing.
+use Rattle.stored_list.proofs.FaultLaws.{fault-not, fault-out, fault-at}
 use borrow.Author.Needs.{needs}
-use Rattle.stored_list.proofs.spoil.spoil_bytes.Statement.{statement}
-use Rattle.stored_list.proofs.spoil.spoil_bytes.Tie as tie
+use Rattle.stored_list.proofs.fault.inject_byte.Statement.{statement}
+use Rattle.stored_list.proofs.fault.inject_byte.Tie as tie
 
 returns : tie.Need-returns
 returns c =
     let s = c .before .before .before .args in
-    spoil-not (s .own) (s .spoil) (s .buffer .now) (c .if1 .taken)
+    fault-not (s .own) (s .fault) (s .buffer .now) (c .if1 .taken)
 
 returns-2 : tie.Need-returns-2
 returns-2 c =
     let s = c .before .before .before .before .args in
-    spoil-out (s .own) (s .spoil) (s .buffer .now) (c .before .if1 .left) (c .if2 .taken)
+    fault-out (s .own) (s .fault) (s .buffer .now) (c .before .if1 .left) (c .if2 .taken)
 
 slice-read-other-byte : tie.Need-slice-read-other-byte
 slice-read-other-byte c = search needs
@@ -29,11 +29,11 @@ same-length c = search needs
 returns-3 : tie.Need-returns-3
 returns-3 c =
     let s = c .before .before .before .before .before .before .args in
-    spoil-at (s .own) (s .spoil) (s .buffer .now) (c .before .before .before .if1 .left) (c .other-byte .result)
+    fault-at (s .own) (s .fault) (s .buffer .now) (c .before .before .before .if1 .left) (c .other-byte .result)
     (c .other-byte .ensures)
 
-pub spoil-bytes-spec : {M : Type 1} → statement M
-spoil-bytes-spec =
+pub inject-byte-spec : {M : Type 1} → statement M
+inject-byte-spec =
     tie.close
     (tie.spec
     returns

@@ -1,18 +1,18 @@
--- `stored_list::spoil_numbers` meets its contract. A case for each test. Assumes nothing.
-use Rattle.stored_list.proofs.SpoilLaws.{spoil-not, spoil-out, spoil-at}
+-- `stored_list::inject_number` meets its contract. A case for each test. Assumes nothing.
+use Rattle.stored_list.proofs.FaultLaws.{fault-not, fault-out, fault-at}
 use borrow.Author.Needs.{needs}
-use Rattle.stored_list.proofs.spoil.spoil_numbers.Statement.{statement}
-use Rattle.stored_list.proofs.spoil.spoil_numbers.Tie as tie
+use Rattle.stored_list.proofs.fault.inject_number.Statement.{statement}
+use Rattle.stored_list.proofs.fault.inject_number.Tie as tie
 
 returns : tie.Need-returns
 returns c =
     let s = c .before .before .before .args in
-    spoil-not (s .own) (s .spoil) (s .buffer .now) (c .if1 .taken)
+    fault-not (s .own) (s .fault) (s .buffer .now) (c .if1 .taken)
 
 returns-2 : tie.Need-returns-2
 returns-2 c =
     let s = c .before .before .before .before .args in
-    spoil-out (s .own) (s .spoil) (s .buffer .now) (c .before .if1 .left) (c .if2 .taken)
+    fault-out (s .own) (s .fault) (s .buffer .now) (c .before .if1 .left) (c .if2 .taken)
 
 mul-other-number : tie.Need-mul-other-number
 mul-other-number c = search needs
@@ -35,11 +35,11 @@ same-length c = search needs
 returns-3 : tie.Need-returns-3
 returns-3 c =
     let s = c .before .before .before .before .before .before .args in
-    spoil-at (s .own) (s .spoil) (s .buffer .now) (c .before .before .before .if1 .left) (c .other-number .result)
+    fault-at (s .own) (s .fault) (s .buffer .now) (c .before .before .before .if1 .left) (c .other-number .result)
     (c .other-number .ensures)
 
-pub spoil-numbers-spec : {M : Type 1} → statement M
-spoil-numbers-spec =
+pub inject-number-spec : {M : Type 1} → statement M
+inject-number-spec =
     tie.close
     (tie.spec
     returns

@@ -1,9 +1,9 @@
--- `stored_list::spoil_of` meets its contract. By what `field` and `number` give. Assumes nothing.
+-- `stored_list::fault_of` meets its contract. By what `field` and `number` give. Assumes nothing.
 use mathlib.Core.Path.{refl, ap, _∙_}
 use Rattle.stored_list.specs.Numbers.{numberOf}
 use borrow.Author.Needs.{needs}
-use Rattle.stored_list.proofs.spoil.spoil_of.Statement.{statement}
-use Rattle.stored_list.proofs.spoil.spoil_of.Tie as tie
+use Rattle.stored_list.proofs.fault.fault_of.Statement.{statement}
+use Rattle.stored_list.proofs.fault.fault_of.Tie as tie
 
 field-requires : tie.Need-field-requires
 field-requires c κs = search needs
@@ -25,6 +25,6 @@ returns c =
           numberOf (c .before .field2 .ensures),
     ) refl
 
-pub spoil-of-spec : {M : Type 1} → statement M
-spoil-of-spec =
+pub fault-of-spec : {M : Type 1} → statement M
+fault-of-spec =
     tie.close (tie.spec field-requires number-requires field-requires-2 number-requires-2 returns)

@@ -8,8 +8,8 @@ use lib.Dec.{eqb}
 use lib.ListN.{length, getD, set}
 use lib.Seq.{set-out}
 use Rattle.spec.proofs.Choice.{by}
-use Rattle.stored_list.specs.Spoil.{other, spoiled}
-use Rattle.stored_list.specs.declared.spoil.Spoil.{Spoil}
+use Rattle.stored_list.specs.Fault.{other, injected}
+use Rattle.stored_list.specs.declared.fault.Fault.{Fault}
 
 module _ (b : ℕ) where
   pub other-one : b ≡ 1 → 2 ≡ other b
@@ -26,16 +26,16 @@ module _ (b : ℕ) where
       (λ h. omega (arith, other-one (eqb-true b 1 h), eqb-true b 1 h))
       (λ h. eqb-false b 1 h (sym e ∙ sym (other-rest (eqb-false b 1 h))))
 
-module _ (own : ℕ) (s : Spoil) (xs : List ℕ) where
-  pub spoil-not : (s .buffer ≡ own → ⊥) → xs ≡ spoiled own s xs
-  unfolding spoiled
-  spoil-not n = simp (ne-eqb (s .buffer) own n)
+module _ (own : ℕ) (s : Fault) (xs : List ℕ) where
+  pub fault-not : (s .buffer ≡ own → ⊥) → xs ≡ injected own s xs
+  unfolding injected
+  fault-not n = simp (ne-eqb (s .buffer) own n)
 
   module _ (e : s .buffer ≡ own) where
-    pub spoil-at : (v : ℕ) → v ≡ other (getD xs (s .place) 0) → set xs (s .place) v ≡ spoiled own s xs
-    unfolding spoiled
-    spoil-at v p = rw (p, eq-eqb (s .buffer) own e) refl
+    pub fault-at : (v : ℕ) → v ≡ other (getD xs (s .place) 0) → set xs (s .place) v ≡ injected own s xs
+    unfolding injected
+    fault-at v p = rw (p, eq-eqb (s .buffer) own e) refl
 
-    pub spoil-out : length xs ≤ s .place → xs ≡ spoiled own s xs
-    unfolding spoiled
-    spoil-out h = sym (rw (eq-eqb (s .buffer) own e) (set-out xs (s .place) (other (getD xs (s .place) 0)) h))
+    pub fault-out : length xs ≤ s .place → xs ≡ injected own s xs
+    unfolding injected
+    fault-out h = sym (rw (eq-eqb (s .buffer) own e) (set-out xs (s .place) (other (getD xs (s .place) 0)) h))

@@ -16,12 +16,12 @@ type Place = (usize, usize);
 
 pub fn write(out: &mut impl Write) -> io::Result<()> {
     let accepted = declaring();
-    write_spoiled(&accepted, LENT, &behind_results(&accepted), out)?;
+    write_faults(&accepted, LENT, &behind_results(&accepted), out)?;
     let answer = Answer::refused(2, 1);
     let refused = Function::from(Body { text: Runs::with_byte(2, 1, 200), answer });
-    write_spoiled(&refused, LENT, &ends(), out)?;
+    write_faults(&refused, LENT, &ends(), out)?;
     let body = Body::new("v := 1;", Answer::accepted("SET v = 1;"));
-    write_spoiled(&body, BODY_LONGER, &[(1, 0), (2, 0)], out)
+    write_faults(&body, BODY_LONGER, &[(1, 0), (2, 0)], out)
 }
 
 /// In each buffer the first zero behind the result, the last one, the first place behind the
@@ -42,7 +42,7 @@ fn ends() -> Vec<Place> {
 }
 
 /// The text, and a call for each place.
-fn write_spoiled<S: Stored>(
+fn write_faults<S: Stored>(
     right: &S,
     lent: S::Lent,
     places: &[Place],

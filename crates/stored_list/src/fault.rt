@@ -2,9 +2,9 @@
 use crate::fields::field;
 use crate::fields::number;
 ghost use mathlib.Core.Path.{_≡_};
-ghost use Rattle.stored_list.specs.Spoil.{other, noSpoil, spoilOf, spoiled};
+ghost use Rattle.stored_list.specs.Fault.{other, noFault, faultOf, injected};
 
-pub struct Spoil {
+pub struct Fault {
     // The number of the buffer, and the place in it.
     pub buffer: usize,
     pub place: usize,
@@ -14,21 +14,21 @@ pub struct Spoil {
 const NO_BUFFER: usize = 99;
 
 // Nothing is changed.
-pub fn no_spoil() -> Spoil
-    ensures { λ r. ⌜ r ≡ noSpoil ⌝ }
+pub fn no_fault() -> Fault
+    ensures { λ r. ⌜ r ≡ noFault ⌝ }
 {
-    Spoil {
+    Fault {
         buffer: NO_BUFFER,
         place: 0,
     }
 }
 
 // The second field of a line names the buffer, the third the place.
-pub fn spoil_of(line: &[u8]) -> Spoil
-    ensures { λ r. ⌜ r ≡ spoilOf (now (line .entry)) ⌝ }
+pub fn fault_of(line: &[u8]) -> Fault
+    ensures { λ r. ⌜ r ≡ faultOf (now (line .entry)) ⌝ }
 {
     let buffer = number(field(line, 1));
-    Spoil {
+    Fault {
         buffer,
         place: number(field(line, 2)),
     }
@@ -49,11 +49,11 @@ fn other_number(n: u32) -> u32
 }
 
 // Changes the byte at the place, if it is one of this buffer.
-pub fn spoil_bytes(buffer: &mut [u8], own: usize, spoil: Spoil)
-    ensures { λ _. ⌜ now (buffer .exit) ≡ spoiled own spoil (now (buffer .entry)) ⌝ }
+pub fn inject_byte(buffer: &mut [u8], own: usize, fault: Fault)
+    ensures { λ _. ⌜ now (buffer .exit) ≡ injected own fault (now (buffer .entry)) ⌝ }
 {
-    let place = spoil.place;
-    if spoil.buffer != own {
+    let place = fault.place;
+    if fault.buffer != own {
         return;
     }
     if buffer.len() <= place {
@@ -63,11 +63,11 @@ pub fn spoil_bytes(buffer: &mut [u8], own: usize, spoil: Spoil)
 }
 
 // The same for numbers.
-pub fn spoil_numbers(buffer: &mut [u32], own: usize, spoil: Spoil)
-    ensures { λ _. ⌜ now (buffer .exit) ≡ spoiled own spoil (now (buffer .entry)) ⌝ }
+pub fn inject_number(buffer: &mut [u32], own: usize, fault: Fault)
+    ensures { λ _. ⌜ now (buffer .exit) ≡ injected own fault (now (buffer .entry)) ⌝ }
 {
-    let place = spoil.place;
-    if spoil.buffer != own {
+    let place = fault.place;
+    if fault.buffer != own {
         return;
     }
     if buffer.len() <= place {
