@@ -74,7 +74,7 @@ enum plpgsql_number {
     PLPGSQL_NOT_ASCII = 2,        /* a byte over 127, in the text or in what is sought */
     PLPGSQL_BUFFER_TOO_SHORT = 3, /* a lent buffer is shorter than it must be */
     PLPGSQL_QUALIFIED_TARGET = 4, /* an assignment to a qualified target q.n, such as NEW.v */
-    PLPGSQL_USING_CLAUSE = 5,     /* a USING clause of RAISE EXCEPTION that has no translation */
+    PLPGSQL_USING_CLAUSE = 5,     /* USING directly behind RAISE EXCEPTION, with no translation */
     PLPGSQL_RESULT_TOO_LONG = 6,  /* the result of a pass is longer than 65,536 bytes */
     PLPGSQL_TOO_MANY_NAMES = 7    /* over 512 different names are declared */
 };

@@ -280,7 +280,7 @@ fn behind(stop: usize, n: usize) -> usize
     if stop < n { stop + 1 } else { n }
 }
 
-// A RAISE EXCEPTION, from the RAISE on.
+// A RAISE EXCEPTION, from the RAISE on: RAISE, the separator and EXCEPTION have 15 bytes.
 fn read_exception(rest: &[u8]) -> RaiseRead
     requires { ⌜ 15 ≤ length (now rest) ⌝ }
     requires { ⌜ length (now rest) ≤ 65536 ⌝ }
