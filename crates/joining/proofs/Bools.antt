@@ -5,7 +5,7 @@ use Prim.Native.Nat.{ℕ, _≤_}
 use native.Mathlib.Omega.{arith}
 use borrow.Author.Tests.{eqb-true, leb-true}
 use lib.Dec.{eqb, leb}
-use Rattle.spec.proofs.Choice.{by, and-left, and-right}
+use Rattle.spec.proofs.Choice.{by, and-left, and-right, or-cases}
 use Rattle.spec.specs.Bytes.{within, isDigit, isLower, isUpper, isIdent, isQuote, isW}
 
 pub clash : {P : Type 0} → true ≡ false → P
@@ -18,11 +18,6 @@ no false e = refl
 pub yes : (a : Bool) → a ≡ false → not a ≡ true
 yes true e = clash e
 yes false e = refl
-
--- where `or` holds, one side holds
-pub or-cases : {P : Type 0} (a b : Bool) → (a || b) ≡ true → (a ≡ true → P) → (b ≡ true → P) → P
-or-cases true b e f g = f refl
-or-cases false b e f g = g e
 
 pub or-first : (a b : Bool) → a ≡ true → (a || b) ≡ true
 or-first true b e = refl

@@ -8,10 +8,10 @@ use Prim.Native.Nat.{ℕ, _+_, _-_}
 use native.Mathlib.Omega.{arith}
 use borrow.Author.Tests.{eqb-true, leb-true}
 use lib.Dec.{eqb, leb}
-use Rattle.spec.proofs.Choice.{by, cond-case, and-left}
+use Rattle.spec.proofs.Choice.{by, cond-case, and-left, or-cases}
 use Rattle.spec.specs.Bytes.{ascii, within, isDigit, isLower, isUpper, isIdent, isW, upper}
 use Rattle.spec.specs.Map.{Marked, live, byte, isLive, lives, frontByte}
-use Rattle.joining.proofs.Bools.{clash, no, or-cases, and-no, at, another, ident-not-white}
+use Rattle.joining.proofs.Bools.{clash, no, and-no, at, another, ident-not-white}
 use Rattle.joining.proofs.Reading.{Reads, leaves, Takes, Reading}
 
 -- where the reading stands: behind no identifier byte, in a word, behind so many letters of RAISE, behind RAISE and a

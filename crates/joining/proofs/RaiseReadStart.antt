@@ -5,13 +5,13 @@ use mathlib.Core.List.{List, [], _∷_}
 use Prim.Native.Nat.{ℕ}
 use lib.Dec.{eqb}
 use lib.ListN.{length, drop}
-use Rattle.spec.proofs.Choice.{by, cond-case, and-left, and-right, and-both}
+use Rattle.spec.proofs.Choice.{by, cond-case, and-left, and-right, and-both, or-cases}
 use Rattle.spec.specs.Bytes.{ascii, within, isDigit, isLower, isUpper, isIdent, upper}
 use Rattle.spec.specs.Lists.{dropWhile}
 use Rattle.spec.specs.Map.{Marked, byte, isLive, frontByte, frontLive, ofByte}
 use Rattle.spec.specs.Search.{startsIgnoringCase, wordHere}
 use Rattle.spec.specs.Closed.{endsWord, isFollowed, raisesFollowed}
-use Rattle.joining.proofs.Bools.{no, or-cases, at, other, ident-not-white}
+use Rattle.joining.proofs.Bools.{no, at, other, ident-not-white}
 use Rattle.joining.proofs.RaiseRead.{Seen, edge, inWord, r1, r2, r3, r4, r5, gap, paren, inLevel, closed, levelLetter, level-letter, wordStart, letterNext, seenNext, seenOk, seenEdge, RaiseRead}
 
 -- where w stands in front and no identifier byte behind it, what follows is as *closed* says

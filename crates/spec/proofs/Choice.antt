@@ -1,6 +1,6 @@
 -- Choices by a Bool. Assumes nothing.
 use mathlib.Core.Path.{_≡_, refl, sym}
-use mathlib.Core.Bool.{Bool, true, false, cond, not, _&&_, _||_, false≢true}
+use mathlib.Core.Bool.{Bool, true, false, cond, _&&_, _||_, false≢true}
 use Prim.Native.Nat.{ℕ, _≤_}
 
 -- a proof by the two cases of a test, each with its equation
@@ -38,3 +38,8 @@ or-left false b h = refl
 pub or-right : (a b : Bool) → (a || b) ≡ false → b ≡ false
 or-right true b h = absurd (false≢true (sym h))
 or-right false b h = h
+
+-- where `or` holds, one side holds
+pub or-cases : {P : Type 0} (a b : Bool) → (a || b) ≡ true → (a ≡ true → P) → (b ≡ true → P) → P
+or-cases true b h p q = p refl
+or-cases false b h p q = q h

@@ -11,7 +11,7 @@ module _ {A : Type 0} where
   eitherOf none o = o
   eitherOf (some a) o = some a
 
-  either-none : (o p : Option A) → eitherOf o p ≡ none → (o ≡ none) × (p ≡ none)
+  pub either-none : (o p : Option A) → eitherOf o p ≡ none → (o ≡ none) × (p ≡ none)
   either-none none p h = (refl, h)
   either-none (some a) p h = absurd (apart (cc))
 

@@ -112,7 +112,7 @@ pub record Says (p : Test) (t : List Marked) (Q : ℕ → Type 0) : Type 0 where
   pub complete : (k : ℕ) → Q k → passesAt p t k ≡ true
   pub inside : (k : ℕ) → Q k → k < length t
 
-fails-not : {b : Bool} → b ≡ true → b ≡ false → ⊥
+pub fails-not : {b : Bool} → b ≡ true → b ≡ false → ⊥
 fails-not e f = false≢true (sym f ∙ e)
 
 not-passes : (b : Bool) → (b ≡ true → ⊥) → b ≡ false

@@ -1,5 +1,5 @@
 -- The leading closed `'` literal as a grammar with no walk in it: the definition reads exactly that. Assumes nothing.
-use mathlib.Core.Path.{_≡_, refl, sym, ap, _∙_}
+use mathlib.Core.Path.{_≡_, sym, ap, _∙_}
 use mathlib.Core.Bool.{cond}
 use mathlib.Core.Logic.{_↔_}
 use mathlib.Core.List.{List, [], _∷_, _++_}
@@ -181,13 +181,3 @@ module _ (t : List Marked) where
           let f : bytes u ≡ l .inside ++ (39 ∷ l .rest) = cc in
           let n = close-complete (l .reads) u (l .rest) f (l .single) in
           ((cc), omega arith, omega (arith, l .size))
-
-  -- where the walk closes none, there is none
-  pub literal-none : frontByte t ≡ 39 → (closeLen (drop 1 t) ≡ 0) ↔ ((n : ℕ) → IsLiteral (bytes t) n → ⊥)
-  literal-none p = (
-    (λ e n l. let w = literal-exactly n .1 l in omega (arith, w .1)),
-    (λ h.
-        let n = closeLen (drop 1 t) in
-        by (eqb n 0) (λ e. eqb-true n 0 e)
-        (λ e. absurd (h (1 + n) (literal-exactly (1 + n) .0 (p, omega (arith, eqb-false n 0 e), refl))))),
-  )

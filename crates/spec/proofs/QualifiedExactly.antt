@@ -4,13 +4,14 @@ use mathlib.Core.Path.{_≡_}
 use mathlib.Core.List.{List}
 use mathlib.Core.Logic.{_↔_}
 use Prim.Native.Nat.{ℕ}
-use Rattle.spec.proofs.RefusalLaws.{after2, Through2, qualified-exactly}
-use Rattle.spec.proofs.StatementTargets.{target-in-exactly}
-use Rattle.spec.proofs.TargetPlaces.{IsFirstTarget}
-use Rattle.spec.specs.Map.{bytes}
+use Rattle.spec.proofs.RefusalLaws.{after2, Through2, accepted-exactly, qualified-exactly}
+use Rattle.spec.proofs.StatementTargets.{target-in-exactly, target-in-none}
+use Rattle.spec.proofs.TargetPlaces.{part, IsStatement, HasNoTarget, IsFirstTarget}
+use Rattle.spec.specs.Map.{bytes, markedText}
 use Rattle.spec.specs.Assignments.{Target}
-use Rattle.spec.specs.Body.{qualifiedTarget, rewriting}
+use Rattle.spec.specs.Body.{accepted, qualifiedTarget, rewriting}
 
+-- 4: passes 1 and 2 accept, and in the text after pass 2 the first statement with a qualified target has `q.n`
 pub record HasQualifiedTarget (xs q n : List ℕ) : Type 0 where
   pub before : Through2 xs
   pub target : Target
@@ -29,3 +30,8 @@ qualified-in-words xs q n = (
       qualified-exactly xs q n .1
       (record { before = w .before; target = w .target; first = f; qualifier = w .qualifier; name = w .name })),
 )
+
+-- where a text is accepted, no statement of the text after pass 2 has a qualified target
+pub accepted-no-target : (xs zs : List ℕ) → rewriting xs ≡ accepted zs
+    → (a e : ℕ) → IsStatement (after2 xs) a e → HasNoTarget (part (markedText (after2 xs)) a e)
+accepted-no-target xs zs h = target-in-none (after2 xs) .0 (accepted-exactly xs zs .0 h .before .before .noTarget)

@@ -3,7 +3,7 @@
 use mathlib.Core.Path.{_≡_, refl, sym, ap, _∙_, subst}
 use mathlib.Core.Bool.{Bool, true, false, not, false≢true}
 use mathlib.Core.Logic.{_↔_}
-use mathlib.Core.List.{List, []}
+use mathlib.Core.List.{List}
 use mathlib.Core.Option.{Option, none, some}
 use Prim.Native.Nat.{ℕ, _+_, _-_, _≤_, _<_, zero-le}
 use native.Mathlib.Omega.{arith}
@@ -18,7 +18,7 @@ use Rattle.spec.proofs.FirstLaws.{LeastOf, NoneOf}
 use Rattle.spec.proofs.MapLaws.{text-bytes, text-length}
 use Rattle.spec.proofs.SearchLaws.{IsByteAt, byte-says}
 use Rattle.spec.proofs.TrimLaws.{while-exactly, IsTrimmed, trimmed-some, trimmed-part, part-of-front}
-use Rattle.spec.proofs.UsingPlaces.{Stands, IsRefusedContent, starts-stands, stands-starts, abort-refused-exactly}
+use Rattle.spec.proofs.UsingPlaces.{MatchesAt, IsRefusedContent, starts-matches, matches-starts, abort-refused-exactly}
 use Rattle.spec.proofs.WalkLaws.{drop-step, passesAt, while-take, while-length, while-passes, while-fails, while-passes-at, while-fails-at}
 use Rattle.spec.specs.Bytes.{ascii, upper, isLower, within}
 use Rattle.spec.specs.Lists.{takeWhile}
@@ -43,7 +43,7 @@ pub data IsOtherWord : List ℕ → Type 0 where
 pub record IsOtherLevel (xs : List ℕ) (p : ℕ) : Type 0 where
   pub word : List ℕ
   pub is-word : IsOtherWord word
-  pub stands : Stands word xs p
+  pub stands : MatchesAt word xs p
 
 -- such a level runs from p to W or `;` at l, or to the end
 pub record IsLevelEnd (xs : List ℕ) (p l : ℕ) : Type 0 where
@@ -60,14 +60,14 @@ pub data EndsAt (ys : List ℕ) : ℕ → Type 0 where
 -- where the search that found a RAISE at k goes on: behind the separator at k + 5 if no level stands there, as none does
 -- where the text ends; else behind the statement's `;`. Past the end it finds none.
 pub data GoesOn (xs : List ℕ) (k : ℕ) : ℕ → Type 0 where
-  no-level : (Stands (ascii "EXCEPTION") xs (k + 6) → ⊥) → (IsOtherLevel xs (k + 6) → ⊥) → GoesOn xs k (k + 6)
-  behind-exception : {e : ℕ} → Stands (ascii "EXCEPTION") xs (k + 6) → EndsAt (drop (k + 15) xs) e → GoesOn xs k (k + 15 + e + 1)
+  no-level : (MatchesAt (ascii "EXCEPTION") xs (k + 6) → ⊥) → (IsOtherLevel xs (k + 6) → ⊥) → GoesOn xs k (k + 6)
+  behind-exception : {e : ℕ} → MatchesAt (ascii "EXCEPTION") xs (k + 6) → EndsAt (drop (k + 15) xs) e → GoesOn xs k (k + 15 + e + 1)
   behind-other : {l e : ℕ} → IsOtherLevel xs (k + 6) → IsLevelEnd xs (k + 6) l → EndsAt (drop l xs) e → GoesOn xs k (l + e + 1)
 
 -- the RAISE at k is refused with the clause c: its level is EXCEPTION, and what stands behind that, up to the statement's
 -- end and trimmed, is c, a refused content
 pub record IsRefusedRaise (xs : List ℕ) (k : ℕ) (c : List ℕ) : Type 0 where
-  pub level : Stands (ascii "EXCEPTION") xs (k + 6)
+  pub level : MatchesAt (ascii "EXCEPTION") xs (k + 6)
   pub end : ℕ
   pub ends : EndsAt (drop (k + 15) xs) end
   pub i : ℕ
@@ -182,23 +182,23 @@ raiseOf u = raisedAt (levelIn levelWords (drop 6 u)) u
 
 -- what the definition reads at p, and what stands there
 data Reads (t : List Marked) (p : ℕ) : Type 0 where
-  reads-exception : levelIn levelWords (drop p t) ≡ some exception → Stands (ascii "EXCEPTION") (bytes t) p → Reads t p
+  reads-exception : levelIn levelWords (drop p t) ≡ some exception → MatchesAt (ascii "EXCEPTION") (bytes t) p → Reads t p
   reads-other : (l : Level) → levelIn levelWords (drop p t) ≡ some l → isException l ≡ false → actionOf l ≡ drops
-      → (Stands (ascii "EXCEPTION") (bytes t) p → ⊥)
+      → (MatchesAt (ascii "EXCEPTION") (bytes t) p → ⊥)
       → IsOtherLevel (bytes t) p
       → Reads t p
-  reads-none : levelIn levelWords (drop p t) ≡ none → (Stands (ascii "EXCEPTION") (bytes t) p → ⊥) → (IsOtherLevel (bytes t) p → ⊥)
+  reads-none : levelIn levelWords (drop p t) ≡ none → (MatchesAt (ascii "EXCEPTION") (bytes t) p → ⊥) → (IsOtherLevel (bytes t) p → ⊥)
       → Reads t p
 
 module _ (t : List Marked) (p : ℕ) where
   abbrev here : List ℕ → Bool
   here w = startsIgnoringCase w (drop p t)
 
-  fails : (w : List ℕ) → here w ≡ false → Stands w (bytes t) p → ⊥
-  fails w e s = false≢true (sym e ∙ stands-starts t w p s)
+  fails : (w : List ℕ) → here w ≡ false → MatchesAt w (bytes t) p → ⊥
+  fails w e s = false≢true (sym e ∙ matches-starts t w p s)
 
   stood : (w : List ℕ) → IsOtherWord w → 0 < length w → here w ≡ true → IsOtherLevel (bytes t) p
-  stood w i h e = record { word = w; is-word = i; stands = starts-stands t w p e h }
+  stood w i h e = record { word = w; is-word = i; stands = starts-matches t w p e h }
 
   -- where EXCEPTION does not stand, the words of the other levels are tried in turn
   reads-on : here (ascii "EXCEPTION") ≡ false → Reads t p
@@ -238,7 +238,7 @@ module _ (t : List Marked) (p : ℕ) where
   unfolding levelWords levelIn
   reads =
       by (here (ascii "EXCEPTION"))
-      (λ e. reads-exception (rw e) (starts-stands t (ascii "EXCEPTION") p e (omega arith))) reads-on
+      (λ e. reads-exception (rw e) (starts-matches t (ascii "EXCEPTION") p e (omega arith))) reads-on
 
 -- EXCEPTION is none of the others: they have another first letter
 other-letter : (w : List ℕ) → IsOtherWord w → (0 < length w) × (upper (getD w 0 0) ≡ 69 → ⊥)
@@ -251,7 +251,7 @@ other-letter w info-space = (omega arith, λ e. omega arith)
 other-letter w info-newline = (omega arith, λ e. omega arith)
 other-letter w info-semicolon = (omega arith, λ e. omega arith)
 
-not-both : (xs : List ℕ) (p : ℕ) → Stands (ascii "EXCEPTION") xs p → IsOtherLevel xs p → ⊥
+not-both : (xs : List ℕ) (p : ℕ) → MatchesAt (ascii "EXCEPTION") xs p → IsOtherLevel xs p → ⊥
 unfolding upper isLower within
 not-both xs p e o =
     let l = other-letter (o .word) (o .is-word) in

@@ -10,10 +10,12 @@ use lib.Dec.{ltb}
 use lib.ListN.{length}
 use Rattle.spec.proofs.Apart.{apart}
 use Rattle.spec.proofs.Choice.{by}
-use Rattle.spec.proofs.RefusalLaws.{Accepts, Qualifies, Uses, Exceeds, accepted-exactly, qualified-exactly, using-exactly, too-long-exactly}
+use Rattle.spec.proofs.QualifiedExactly.{HasQualifiedTarget, qualified-in-words}
+use Rattle.spec.proofs.RefusalLaws.{Accepts, Exceeds, accepted-exactly, too-long-exactly}
+use Rattle.spec.proofs.UsingExactly.{HasUsingClause, using-in-words}
 use Rattle.spec.specs.Body.{Rewriting, accepted, qualifiedTarget, usingClause, resultTooLong, rewriting}
 use Rattle.spec.specs.Declarations.{recordLimit, Declared, recordsOf, bodyOf}
-use Rattle.spec.specs.Answers.{callNumbers, resultOf, bodyResult, functionResult, callAnswer, bodyCheck, bodyAnswer, functionCheck, functionAnswer}
+use Rattle.spec.specs.Answers.{callNumbers, withoutRecords, resultOf, bodyResult, functionResult, callAnswer, bodyCheck, bodyAnswer, functionCheck, functionAnswer}
 use Rattle.spec.specs.declared.Refusal.{Refusal}
 use Rattle.spec.specs.declared.Refusal.the-variants.{TextTooLong, BufferTooShort, NotAscii}
 use Rattle.spec.specs.declared.Check.{Check}
@@ -35,32 +37,6 @@ result-accepted ds r n c = (to r, (λ w. rw (w .1, w .2, w .3)))
     to (accepted zs) h = (zs, refl, (cc), (cc))
     to (qualifiedTarget q m) h = absurd (apart (cc))
     to (usingClause u) h = absurd (apart (cc))
-    to resultTooLong h = absurd (apart (cc))
-
--- 4, with the lengths of q and of `q.n`
-pub result-qualified : (ds : List Declared) (r : Rewriting) (k l : ℕ)
-    → (resultOf ds r .answer ≡ rewritten.QualifiedTarget k l)
-    ↔ ((q : List ℕ) × (n : List ℕ) × (r ≡ qualifiedTarget q n) × (length q ≡ k) × (length (q ++ (46 ∷ n)) ≡ l))
-unfolding resultOf
-result-qualified ds r k l = (to r, (λ w. rw (w .2, w .3, w .4)))
-  where
-    to : (r : Rewriting) → resultOf ds r .answer ≡ rewritten.QualifiedTarget k l
-        → (q : List ℕ) × (n : List ℕ) × (r ≡ qualifiedTarget q n) × (length q ≡ k) × (length (q ++ (46 ∷ n)) ≡ l)
-    to (accepted zs) h = absurd (apart (cc))
-    to (qualifiedTarget q m) h = (q, m, refl, (cc), (cc))
-    to (usingClause u) h = absurd (apart (cc))
-    to resultTooLong h = absurd (apart (cc))
-
--- 5, with the length of the clause
-pub result-using : (ds : List Declared) (r : Rewriting) (l : ℕ)
-    → (resultOf ds r .answer ≡ rewritten.UsingClause l) ↔ ((c : List ℕ) × (r ≡ usingClause c) × (length c ≡ l))
-unfolding resultOf
-result-using ds r l = (to r, (λ w. rw (w .1, w .2)))
-  where
-    to : (r : Rewriting) → resultOf ds r .answer ≡ rewritten.UsingClause l → (c : List ℕ) × (r ≡ usingClause c) × (length c ≡ l)
-    to (accepted zs) h = absurd (apart (cc))
-    to (qualifiedTarget q m) h = absurd (apart (cc))
-    to (usingClause u) h = (u, refl, (cc))
     to resultTooLong h = absurd (apart (cc))
 
 -- 6
@@ -103,29 +79,41 @@ module _ (ds : List Declared) (xs : List ℕ) where
       to (usingClause c) e h = absurd (omega arith)
       to resultTooLong e h = absurd (omega arith)
 
-  -- a qualified target
+  -- a qualified target, in 01's words
   pub number-four : (callNumbers (resultOf ds (rewriting xs) .answer) .number ≡ 4)
-      ↔ ((q : List ℕ) × (n : List ℕ) × Qualifies xs q n)
+      ↔ ((q : List ℕ) × (n : List ℕ) × HasQualifiedTarget xs q n)
   unfolding resultOf
-  number-four = (to (rewriting xs) refl, (λ w. rw (qualified-exactly xs (w .0) (w .1) .1 (w .2))))
+  number-four = (to (rewriting xs) refl, (λ w. rw (qualified-in-words xs (w .0) (w .1) .1 (w .2))))
     where
       to : (r : Rewriting) → rewriting xs ≡ r → callNumbers (resultOf ds r .answer) .number ≡ 4
-          → (q : List ℕ) × (n : List ℕ) × Qualifies xs q n
+          → (q : List ℕ) × (n : List ℕ) × HasQualifiedTarget xs q n
       to (accepted zs) e h = absurd (omega arith)
-      to (qualifiedTarget q n) e h = (q, n, qualified-exactly xs q n .0 e)
+      to (qualifiedTarget q n) e h = (q, n, qualified-in-words xs q n .0 e)
       to (usingClause c) e h = absurd (omega arith)
       to resultTooLong e h = absurd (omega arith)
 
-  -- a USING clause
-  pub number-five : (callNumbers (resultOf ds (rewriting xs) .answer) .number ≡ 5) ↔ ((c : List ℕ) × Uses xs c)
+  -- its place is the length of q, and the output holds `q.n`
+  pub result-four : (q n : List ℕ) → HasQualifiedTarget xs q n
+      → resultOf ds (rewriting xs) ≡ withoutRecords (rewritten.QualifiedTarget (length q) (length (q ++ (46 ∷ n)))) (q ++ (46 ∷ n))
   unfolding resultOf
-  number-five = (to (rewriting xs) refl, (λ w. rw (using-exactly xs (w .0) .1 (w .1))))
+  result-four q n w = ap (resultOf ds) (qualified-in-words xs q n .1 w)
+
+  -- a USING clause, in 01's words
+  pub number-five : (callNumbers (resultOf ds (rewriting xs) .answer) .number ≡ 5) ↔ ((c : List ℕ) × HasUsingClause xs c)
+  unfolding resultOf
+  number-five = (to (rewriting xs) refl, (λ w. rw (using-in-words xs (w .0) .1 (w .1))))
     where
-      to : (r : Rewriting) → rewriting xs ≡ r → callNumbers (resultOf ds r .answer) .number ≡ 5 → (c : List ℕ) × Uses xs c
+      to : (r : Rewriting) → rewriting xs ≡ r → callNumbers (resultOf ds r .answer) .number ≡ 5 → (c : List ℕ) × HasUsingClause xs c
       to (accepted zs) e h = absurd (omega arith)
       to (qualifiedTarget q n) e h = absurd (omega arith)
-      to (usingClause c) e h = (c, using-exactly xs c .0 e)
+      to (usingClause c) e h = (c, using-in-words xs c .0 e)
       to resultTooLong e h = absurd (omega arith)
+
+  -- the output holds the clause
+  pub result-five : (c : List ℕ) → HasUsingClause xs c
+      → resultOf ds (rewriting xs) ≡ withoutRecords (rewritten.UsingClause (length c)) c
+  unfolding resultOf
+  result-five c w = ap (resultOf ds) (using-in-words xs c .1 w)
 
   -- a pass's result exceeds the buffer size
   pub number-six : (callNumbers (resultOf ds (rewriting xs) .answer) .number ≡ 6) ↔ Exceeds xs

@@ -11,7 +11,7 @@ use lib.Dec.{eqb, ltb, leb}
 use lib.ListN.{length, take, drop, getD, length-drop, length-map, List·getD-map, List·getD-eq-default}
 use lib.Seq.{take-suc, getD-drop, drop-drop}
 use Rattle.spec.proofs.BytesLaws.{bytes-drop, front-bytes}
-use Rattle.spec.proofs.Choice.{by, and-left, and-right, or-left}
+use Rattle.spec.proofs.Choice.{by, and-left, and-right, or-left, or-cases}
 use Rattle.spec.proofs.RefusalBounds.{bytes-length}
 use Rattle.spec.proofs.TargetPlaces.{flagOf, flags, byteAt, part}
 use Rattle.spec.proofs.WalkLaws.{back-step, while-take, while-drop, while-length, while-passes-at, while-fails-at}
@@ -199,10 +199,6 @@ module _ (f : ℕ → Bool) (t : List Marked) where
 
 -- ---- the sets are apart
 
-or-cases : {P : Type 0} (a b : Bool) → (a || b) ≡ true → (a ≡ true → P) → (b ≡ true → P) → P
-or-cases true b h p q = p refl
-or-cases false b h p q = q h
-
 -- an identifier byte is at least 48, a byte of W at most 32
 pub ident-least : (c : ℕ) → isIdent c ≡ true → 48 ≤ c
 unfolding isIdent isLower isUpper isDigit within
@@ -218,7 +214,7 @@ ident-least c h =
     low : (a b : ℕ) → (leb a c && leb c b) ≡ true → 48 ≤ a → 48 ≤ c
     low a b e l = let r = leb-true a c (and-left (leb a c) (leb c b) e) in omega arith
 
-white-most : (c : ℕ) → isW c ≡ true → c ≤ 32
+pub white-most : (c : ℕ) → isW c ≡ true → c ≤ 32
 unfolding isW within
 white-most c h =
     or-cases (leb 9 c && leb c 13) (eqb c 32) h

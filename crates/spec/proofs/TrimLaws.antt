@@ -1,7 +1,6 @@
 -- A front that passes a test, and a text without W at both ends, by offsets: the definitions give exactly these. Assumes nothing.
 use mathlib.Core.Path.{_≡_, refl, sym, ap, _∙_}
-use mathlib.Core.Bool.{Bool, true, false, cond, _&&_, and-false, false≢true}
-use mathlib.Core.Logic.{_↔_}
+use mathlib.Core.Bool.{Bool, true, false, cond, _&&_, and-false}
 use mathlib.Core.List.{List, [], _∷_}
 use Prim.Native.Nat.{ℕ, zero, suc, _+_, _-_, _≤_, _<_}
 use native.Mathlib.Nat.{le-of-suc-le-suc}
@@ -14,6 +13,7 @@ use Rattle.spec.proofs.AheadLaws.{drop-take}
 use Rattle.spec.proofs.BytesLaws.{bytes-drop, while-length-bytes, end-length-bytes}
 use Rattle.spec.proofs.Choice.{by}
 use Rattle.spec.proofs.EndLaws.{drop-end-take}
+use Rattle.spec.proofs.FirstLaws.{fails-not}
 use Rattle.spec.proofs.ListLaws.{empty-length, drop-end-le}
 use Rattle.spec.proofs.WalkLaws.{while-drop, while-length, while-passes, while-fails}
 use Rattle.spec.specs.Bytes.{isW}
@@ -22,9 +22,6 @@ use Rattle.spec.specs.Map.{Marked, bytes, ofByte}
 use Rattle.spec.specs.Assignments.{trim, trimEnd}
 
 -- ---- for every test
-
-never : {b : Bool} → b ≡ true → b ≡ false → ⊥
-never p q = false≢true (sym q ∙ p)
 
 module _ {A : Type 0} (f : A → Bool) where
   -- the front that passes is as long as n: all before n passes, and what stands at n, if anything, does not
@@ -36,12 +33,12 @@ module _ {A : Type 0} (f : A → Bool) where
       by (ltb m n)
       (λ q.
       let b = ltb-true m n q in
-      absurd (never (g m b) (while-fails f t d (omega arith))))
+      absurd (fails-not (g m b) (while-fails f t d (omega arith))))
       (λ q.
       by (ltb n m)
       (λ r.
       let b = ltb-true n m r in
-      absurd (never (while-passes f t d n b) (e (omega (arith, while-length f t)))))
+      absurd (fails-not (while-passes f t d n b) (e (omega (arith, while-length f t)))))
       (λ r. omega (arith, ltb-false m n q, ltb-false n m r)))
 
   end-step : (x : A) (t : List A)
@@ -96,12 +93,12 @@ module _ {A : Type 0} (f : A → Bool) where
       by (ltb m n)
       (λ q.
       let b = ltb-true m n q in
-      absurd (never (end-passes t d (n - 1) (omega arith) (omega arith)) (e (omega arith))))
+      absurd (fails-not (end-passes t d (n - 1) (omega arith) (omega arith)) (e (omega arith))))
       (λ q.
       by (ltb n m)
       (λ r.
       let b = ltb-true n m r in
-      absurd (never (g (m - 1) (omega arith) (omega (arith, drop-end-le f t))) (end-last t d (omega arith))))
+      absurd (fails-not (g (m - 1) (omega arith) (omega (arith, drop-end-le f t))) (end-last t d (omega arith))))
       (λ r. omega (arith, ltb-false m n q, ltb-false n m r)))
 
 -- ---- W
@@ -203,13 +200,6 @@ trimmed-part t i j w =
     (λ q.
     let z : j - i ≡ 0 = omega (arith, ltb-false i j q) in
     rw z))
-
-pub trimmed-exactly : (t m : List Marked)
-    → (trim t ≡ m) ↔ ((i : ℕ) × (j : ℕ) × IsTrimmed (bytes t) i j × (m ≡ take (j - i) (drop i t)))
-trimmed-exactly t m = (
-  (λ e. let w = trimmed-some (bytes t) in (w .0, w .1, w .2, sym e ∙ trimmed-part t (w .0) (w .1) (w .2))),
-  (λ w. trimmed-part t (w .0) (w .1) (w .2) ∙ sym (w .3)),
-)
 
 -- a part of a front is a part of the text
 pub part-of-front : {A : Type 0} (l s k : ℕ) (t : List A) → s + l ≤ k → take l (drop s (take k t)) ≡ take l (drop s t)

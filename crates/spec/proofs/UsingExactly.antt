@@ -11,7 +11,7 @@ use lib.Dec.{eqb, ltb}
 use lib.ListN.{length, drop}
 use Rattle.spec.proofs.Apart.{apart}
 use Rattle.spec.proofs.Choice.{by}
-use Rattle.spec.proofs.FirstFound.{eitherOf}
+use Rattle.spec.proofs.FirstFound.{eitherOf, either-none}
 use Rattle.spec.proofs.FirstLaws.{LeastOf, found-least, least-found}
 use Rattle.spec.proofs.MapLaws.{text-bytes}
 use Rattle.spec.proofs.RaisePlaces.{GoesOn, IsRefusedRaise, raiseOf, raise-refused-exactly, goes-exactly, goes-further}
@@ -108,10 +108,6 @@ module _ (xs : List ℕ) where
       ∙ ap (λ (m : ℕ). eitherOf (clauseOf k) (from m)) (sym (goes-only k n g))
 
   -- ---- none is refused
-
-  either-none : (o p : Option (List ℕ)) → eitherOf o p ≡ none → (o ≡ none) × (p ≡ none)
-  either-none none p h = (refl, h)
-  either-none (some c) p h = absurd (apart (cc))
 
   none-from : from 0 ≡ none → (m : ℕ) → Begins xs m → from m ≡ none
   none-from e m at-front = e
@@ -268,10 +264,14 @@ module _ (xs : List ℕ) where
 -- ---- the answers
 
 -- 5: passes 1 to 4 accept, and in the text after pass 4 the first RAISE that is read and refused has the clause c
-pub using-in-words : (xs c : List ℕ) → (rewriting xs ≡ usingClause c) ↔ (Through4 xs × FirstRefused (after4 xs) c)
+pub record HasUsingClause (xs c : List ℕ) : Type 0 where
+  pub before : Through4 xs
+  pub first : FirstRefused (after4 xs) c
+
+pub using-in-words : (xs c : List ℕ) → (rewriting xs ≡ usingClause c) ↔ HasUsingClause xs c
 using-in-words xs c = (
-  (λ h. let u = using-exactly xs c .0 h in (u .before, clause-exactly (after4 xs) c .0 (u .first))),
-  (λ w. using-exactly xs c .1 (record { before = w .0; first = clause-exactly (after4 xs) c .1 (w .1) })),
+  (λ h. let u = using-exactly xs c .0 h in record { before = u .before; first = clause-exactly (after4 xs) c .0 (u .first) }),
+  (λ w. using-exactly xs c .1 (record { before = w .before; first = clause-exactly (after4 xs) c .1 (w .first) })),
 )
 
 -- where a text is accepted, no RAISE that is read in the text after pass 4 is refused

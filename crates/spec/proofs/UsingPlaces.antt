@@ -3,40 +3,41 @@
 use mathlib.Core.Path.{_≡_, refl, sym, ap, _∙_, subst}
 use mathlib.Core.Bool.{Bool, true, false, cond, _&&_, false≢true}
 use mathlib.Core.Logic.{_↔_}
-use mathlib.Core.List.{List, []}
+use mathlib.Core.List.{List}
 use Prim.Native.Nat.{ℕ, _+_, _-_, _≤_, _<_}
 use native.Mathlib.Omega.{arith}
-use borrow.Author.Tests.{eqb-true, eq-eqb, leb-true, lt-leb}
-use lib.Dec.{eqb, leb}
+use borrow.Author.Tests.{eqb-true, eq-eqb, lt-leb}
+use lib.Dec.{eqb}
 use lib.ListN.{length, take, drop, getD, length-drop}
 use lib.Seq.{drop-drop, getD-drop, length-take-le}
 use Rattle.spec.proofs.Apart.{apart}
-use Rattle.spec.proofs.BytesLaws.{bytes-drop, front-bytes, while-length-bytes}
+use Rattle.spec.proofs.BytesLaws.{bytes-drop, while-length-bytes}
 use Rattle.spec.proofs.Choice.{by, and-left, and-right, and-both}
 use Rattle.spec.proofs.ListLaws.{empty-length, while-sum}
 use Rattle.spec.proofs.MessagePlaces.{IsMessage, message-some, message-part, message-within, message-quote}
 use Rattle.spec.proofs.RefusalBounds.{bytes-length}
+use Rattle.spec.proofs.RunPlaces.{byte-ahead, white-most}
 use Rattle.spec.proofs.SearchLaws.{Same, prefix-at, at-prefix}
 use Rattle.spec.proofs.SpanLaws.{seen}
 use Rattle.spec.proofs.TrimLaws.{while-exactly, AllW}
 use Rattle.spec.proofs.WalkLaws.{prefixBy, prefix-by-len, starts-case, while-drop, while-passes-at, while-least-at}
 use Rattle.spec.specs.Bytes.{ascii, upper, isW, isLower, within}
 use Rattle.spec.specs.Lists.{isEmpty, takeWhile, dropWhile}
-use Rattle.spec.specs.Map.{Marked, bytes, frontByte, ofByte}
+use Rattle.spec.specs.Map.{Marked, bytes, ofByte}
 use Rattle.spec.specs.Search.{startsIgnoringCase}
 use Rattle.spec.specs.Raise.{message, Fate, rewritten, dropped, passed, refused, usingFate, abortFate}
 
 -- w stands at j of xs, ignoring ASCII case
-abbrev pub Stands : List ℕ → List ℕ → ℕ → Type 0
-Stands w xs j = Same upper w xs j
+abbrev pub MatchesAt : List ℕ → List ℕ → ℕ → Type 0
+MatchesAt w xs j = Same upper w xs j
 
 -- the content xs is USING, MESSAGE at a, `=` at b and a text starting with `'` at c, with W or nothing between, and behind
 -- that text's message of d bytes there is only W
 pub record IsMessageClause (xs : List ℕ) (a b c d : ℕ) : Type 0 where
-  pub at-using : Stands (ascii "USING") xs 0
+  pub at-using : MatchesAt (ascii "USING") xs 0
   pub from-using : 5 ≤ a
   pub behind-using : AllW xs 5 a
-  pub at-message : Stands (ascii "MESSAGE") xs a
+  pub at-message : MatchesAt (ascii "MESSAGE") xs a
   pub from-message : a + 7 ≤ b
   pub behind-message : AllW xs (a + 7) b
   pub at-equals : getD xs b 0 ≡ 61
@@ -48,27 +49,20 @@ pub record IsMessageClause (xs : List ℕ) (a b c d : ℕ) : Type 0 where
 
 -- refusal 5: any other content that starts with USING
 pub record IsRefusedContent (xs : List ℕ) : Type 0 where
-  pub at-using : Stands (ascii "USING") xs 0
+  pub at-using : MatchesAt (ascii "USING") xs 0
   pub no-clause : (a b c d : ℕ) → IsMessageClause xs a b c d → ⊥
 
 -- ---- words and runs of W, at an offset
 
 module _ (t : List Marked) (w : List ℕ) (j : ℕ) where
-  pub starts-stands : startsIgnoringCase w (drop j t) ≡ true → 0 < length w → Stands w (bytes t) j
-  starts-stands h some =
+  pub starts-matches : startsIgnoringCase w (drop j t) ≡ true → 0 < length w → MatchesAt w (bytes t) j
+  starts-matches h some =
       let p : prefixBy upper w (drop j (bytes t)) ≡ true =
       ap (prefixBy upper w) (sym (bytes-drop j t)) ∙ (sym (starts-case w (drop j t)) ∙ h) in
       prefix-at upper w (bytes t) j (omega (arith, prefix-by-len upper w (drop j (bytes t)) p, length-drop j (bytes t))) p
 
-  pub stands-starts : Stands w (bytes t) j → startsIgnoringCase w (drop j t) ≡ true
-  stands-starts s = starts-case w (drop j t) ∙ (ap (prefixBy upper w) (bytes-drop j t) ∙ at-prefix upper w (bytes t) j s)
-
--- the byte at i
-front-at : (t : List Marked) (i : ℕ) → frontByte (drop i t) ≡ getD (bytes t) i 0
-front-at t i =
-    let z : i + 0 ≡ i = omega arith in
-    front-bytes (drop i t)
-    ∙ (ap (λ (l : List ℕ). getD l 0 0) (bytes-drop i t) ∙ (getD-drop i (bytes t) 0 0 ∙ ap (λ (n : ℕ). getD (bytes t) n 0) z))
+  pub matches-starts : MatchesAt w (bytes t) j → startsIgnoringCase w (drop j t) ≡ true
+  matches-starts s = starts-case w (drop j t) ∙ (ap (prefixBy upper w) (bytes-drop j t) ∙ at-prefix upper w (bytes t) j s)
 
 -- where the W from i on end
 abbrev runEnd : List ℕ → ℕ → ℕ
@@ -86,20 +80,12 @@ skip-to t i =
 run-at : (xs : List ℕ) (i j : ℕ) → i ≤ j → AllW xs i j → j < length xs → isW (getD xs j 0) ≡ false → runEnd xs i ≡ j
 run-at xs i j h w b e = while-least-at isW xs 0 i j h b w e
 
-w-low : (c : ℕ) → isW c ≡ true → c ≤ 32
-unfolding isW within
-w-low c h = go (within 9 13 c) refl
-  where
-    go : (b : Bool) → within 9 13 c ≡ b → c ≤ 32
-    go true e = omega (arith, leb-true c 13 (and-right (leb 9 c) (leb c 13) e))
-    go false e = let f : eqb c 32 ≡ true = rw e at h in omega (arith, eqb-true c 32 f)
-
 letter-no-w : (c l : ℕ) → upper c ≡ l → 65 ≤ l → isW c ≡ false
 unfolding upper isLower within
 letter-no-w c l p h =
     by (isW c)
     (λ e.
-    let low = w-low c e in
+    let low = white-most c e in
     let same : c ≡ l = rw (lt-leb 97 c (omega arith)) at p in
     absurd (omega arith))
     (λ e. e)
@@ -190,12 +176,12 @@ module _ (t : List Marked) (a b c : ℕ)
         drop-drop 1 b t,
         skip-to t (b + 1),
         pc,
-        front-at t b,
-        front-at t c,
+        byte-ahead t b,
+        byte-ahead t c,
         drop-drop (length (message (drop c t))) c t,
       )
 
-  fits-clause : Stands (ascii "USING") (bytes t) 0 → fits ≡ true → IsMessageClause (bytes t) a b c (length (message (drop c t)))
+  fits-clause : MatchesAt (ascii "USING") (bytes t) 0 → fits ≡ true → IsMessageClause (bytes t) a b c (length (message (drop c t)))
   fits-clause u h =
       let p = startsIgnoringCase (ascii "MESSAGE") (drop a t) in
       let q = eqb (getD (bytes t) b 0) 61 in
@@ -208,7 +194,7 @@ module _ (t : List Marked) (a b c : ℕ)
         at-using = u;
         from-using = omega arith;
         behind-using = λ k x y. while-passes-at isW (bytes t) 0 5 k x (omega arith);
-        at-message = starts-stands t (ascii "MESSAGE") a (and-left p (q && (r && s)) h) (omega arith);
+        at-message = starts-matches t (ascii "MESSAGE") a (and-left p (q && (r && s)) h) (omega arith);
         from-message = omega arith;
         behind-message = λ k x y. while-passes-at isW (bytes t) 0 (a + 7) k x (omega arith);
         at-equals = eqb-true (getD (bytes t) b 0) 61 (and-left q (r && s) two);
@@ -227,7 +213,7 @@ module _ (t : List Marked) (a b c : ℕ)
       let s = isEmpty (dropWhile (ofByte isW) (drop (c + length (message (drop c t))) t)) in
       let n = message-from t c d (w .is-message) .1 in
       let rest : s ≡ true = rw n (w-rest t (c + d) (w .only-space)) in
-      and-both p (q && (r && s)) (stands-starts t (ascii "MESSAGE") a (w .at-message))
+      and-both p (q && (r && s)) (matches-starts t (ascii "MESSAGE") a (w .at-message))
       (and-both q (r && s) (eq-eqb (getD (bytes t) b 0) 61 (w .at-equals))
       (and-both r s (eq-eqb (getD (bytes t) c 0) 39 (w .at-quote)) rest))
 
@@ -236,7 +222,7 @@ module _ (t : List Marked) (a b c : ℕ)
 -- m is put in: the message of the clause, or of a content that does not start with USING
 pub data Rewrites (t m : List Marked) : Type 0 where
   of-clause : {a b c d : ℕ} → IsMessageClause (bytes t) a b c d → m ≡ take d (drop c t) → Rewrites t m
-  of-content : {i j : ℕ} → (Stands (ascii "USING") (bytes t) 0 → ⊥) → IsMessage (bytes t) i j → m ≡ take (j - i) (drop i t)
+  of-content : {i j : ℕ} → (MatchesAt (ascii "USING") (bytes t) 0 → ⊥) → IsMessage (bytes t) i j → m ≡ take (j - i) (drop i t)
       → Rewrites t m
 
 -- the condition of each fate
@@ -247,15 +233,15 @@ AbortCondition t (passed u) = ⊥
 AbortCondition t (refused c) = IsRefusedContent (bytes t) × (c ≡ bytes t)
 
 module _ (t : List Marked) where
-  abort-using : Stands (ascii "USING") (bytes t) 0 → abortFate t ≡ usingFate t (drop 5 t)
+  abort-using : MatchesAt (ascii "USING") (bytes t) 0 → abortFate t ≡ usingFate t (drop 5 t)
   unfolding abortFate
-  abort-using u = rw (stands-starts t (ascii "USING") 0 u)
+  abort-using u = rw (matches-starts t (ascii "USING") 0 u)
 
-  abort-content : (Stands (ascii "USING") (bytes t) 0 → ⊥) → abortFate t ≡ rewritten (message t)
+  abort-content : (MatchesAt (ascii "USING") (bytes t) 0 → ⊥) → abortFate t ≡ rewritten (message t)
   unfolding abortFate
   abort-content n =
       by (startsIgnoringCase (ascii "USING") t)
-      (λ e. absurd (n (starts-stands t (ascii "USING") 0 e (omega arith))))
+      (λ e. absurd (n (starts-matches t (ascii "USING") 0 e (omega arith))))
       (λ e. rw e)
 
   -- where the runs of W end
@@ -288,7 +274,7 @@ module _ (t : List Marked) where
   abort-decided =
       by (startsIgnoringCase (ascii "USING") t)
       (λ h.
-      let u = starts-stands t (ascii "USING") 0 h (omega arith) in
+      let u = starts-matches t (ascii "USING") 0 h (omega arith) in
       by (fits t aEnd bEnd cEnd refl refl refl)
       (λ e.
       let w = fits-clause t aEnd bEnd cEnd refl refl refl u e in
@@ -309,7 +295,7 @@ module _ (t : List Marked) where
       (λ h.
       let w = message-some t in (
         rewritten (take (w .1 - w .0) (drop (w .0) t)),
-        of-content (λ u. false≢true (sym h ∙ stands-starts t (ascii "USING") 0 u)) (w .2) refl,
+        of-content (λ u. false≢true (sym h ∙ matches-starts t (ascii "USING") 0 u)) (w .2) refl,
       ))
 
   -- each fate is given exactly on its condition

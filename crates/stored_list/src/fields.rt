@@ -25,7 +25,7 @@ pub fn part(list: &[u8], a: usize, e: usize) -> &[u8]
     &list[a..e]
 }
 
-// Where b stands next at or after `from`, or the list's end.
+// Where b stands next at or after `from`, or else the list's end; past the end it is `from` itself.
 pub fn next_place(list: &[u8], from: usize, b: u8) -> usize
     ensures { λ r. ⌜ r ≡ placeOf b from (now (list .entry)) ⌝ }
 {

@@ -23,7 +23,7 @@ pub fn marked_numbers() -> [u32; 65544]
     [NUMBER_MARK; 65544]
 }
 
-// Whether all bytes from `from` up to `end` are b.
+// Whether all bytes from `from` up to `end` are b, as far as the buffer reaches.
 pub fn is_filled(buffer: &[u8], from: usize, end: usize, b: u8) -> bool
     ensures { λ r. ⌜ r ≡ holdsOnly b from end (now (buffer .entry)) ⌝ }
 {
@@ -40,7 +40,7 @@ pub fn is_filled(buffer: &[u8], from: usize, end: usize, b: u8) -> bool
     true
 }
 
-// Whether all numbers from `from` up to `end` are n.
+// Whether all numbers from `from` up to `end` are n, as far as the buffer reaches.
 pub fn are_filled(buffer: &[u32], from: usize, end: usize, n: u32) -> bool
     ensures { λ r. ⌜ r ≡ holdsOnly n from end (now (buffer .entry)) ⌝ }
 {
@@ -57,7 +57,7 @@ pub fn are_filled(buffer: &[u32], from: usize, end: usize, n: u32) -> bool
     true
 }
 
-// Whether nothing was written from `from` up to `end`.
+// Whether nothing was written from `from` up to `end`, as far as the buffer reaches.
 pub fn is_marked(buffer: &[u8], from: usize, end: usize) -> bool
     ensures { λ r. ⌜ r ≡ holdsOnly mark from end (now (buffer .entry)) ⌝ }
 {

@@ -1,3 +1,5 @@
+-- `messages::abort_message` meets its contract. The part is what the definition makes of the trimmed content, by its two cases,
+-- a content that starts with USING and any other. Assumes nothing.
 use native.Mathlib.Omega.{arith}
 use mathlib.Core.Path.{_≡_, sym, ap, _∙_}
 use mathlib.Core.List.{List}

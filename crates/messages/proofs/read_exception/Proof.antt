@@ -1,3 +1,5 @@
+-- `messages::read_exception` meets its contract. The content runs to the first live `;` behind the level, as the definition's does.
+-- Assumes nothing.
 use native.Mathlib.Omega.{arith}
 use mathlib.Core.Path.{_≡_}
 use Prim.Native.Nat.{_≤_, _+_, _-_}

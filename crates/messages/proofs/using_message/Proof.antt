@@ -1,3 +1,5 @@
+-- `messages::using_message` meets its contract. Each test of the code is one of the definition's, in the same order. Assumes
+-- nothing.
 use native.Mathlib.Omega.{arith}
 use mathlib.Core.Path.{_≡_, refl, sym, ap, _∙_}
 use mathlib.Core.Bool.{true, cond}

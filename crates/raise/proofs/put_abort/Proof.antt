@@ -1,3 +1,4 @@
+-- `raise::put_abort` meets its contract: three texts put one behind the other are the abort. Assumes nothing.
 use native.Mathlib.Omega.{arith}
 use Rattle.raise.proofs.WrittenLaws.{aborting-length, aborting-stored}
 use borrow.Author.Needs.{needs}

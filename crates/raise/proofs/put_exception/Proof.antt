@@ -1,3 +1,4 @@
+-- `raise::put_exception` meets its contract, by what `abort_message` hands back: a message or a refused clause. Assumes nothing.
 use native.Mathlib.Omega.{arith}
 use Rattle.raise.proofs.WrittenLaws.{aborting-length, put-clause, put-message}
 use borrow.Author.Needs.{needs}

@@ -1,3 +1,4 @@
+-- `raise::put_raise` meets its contract, by the three cases of how the RAISE was read. Assumes nothing.
 use native.Mathlib.Omega.{arith}
 use mathlib.Core.Path.{_≡_, refl, sym}
 use mathlib.Core.List.{[]}

@@ -1,3 +1,5 @@
+-- `raise::transform_raise_statements` meets its contract. The loop keeps that what is put so far, and what the definition makes of
+-- the text from `from` on, are the pass's result. Assumes nothing.
 use borrow.Author.Needs.{needs}
 use native.Mathlib.Omega.{arith}
 use mathlib.Core.Path.{_≡_, refl, sym, ap, _∙_}
