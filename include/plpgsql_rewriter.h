@@ -5,10 +5,11 @@
  * bytes. Those of `records` and `starts` count 32-bit numbers, not bytes: for an array of 4,104 numbers
  * hand over 4104, not sizeof.
  *
- * The caller owes this: each pointer is valid for its length and aligned for its type, and the buffers
- * of one call overlap neither each other nor the text nor the answer. No pointer may be null, not even
- * for the length 0: for an empty part of memory hand over the address of any byte. The library keeps no
- * pointer, allocates nothing, and holds no state, so calls may run in several threads.
+ * The caller owes this: each pointer is valid for its length and aligned for its type, and what a call
+ * may write, its buffers and the answer, overlaps nothing else that is handed over. No pointer may be
+ * null, not even for the length 0: for an empty part of memory hand over the address of any byte, for
+ * `records` and `starts` that of any uint32_t. The library keeps no pointer, allocates nothing, and
+ * holds no state, so calls may run in several threads.
  *
  * Whatever the texts hold and however long the buffers are, each call returns and answers as told here.
  *
