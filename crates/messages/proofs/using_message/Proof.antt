@@ -4,7 +4,7 @@ use native.Mathlib.Omega.{arith}
 use mathlib.Core.Path.{_≡_, refl, sym, ap, _∙_}
 use mathlib.Core.Bool.{true, cond}
 use mathlib.Core.List.{List}
-use Prim.Native.Nat.{_≤_, _<_, _+_, _-_}
+use Prim.Native.Nat.{ℕ, _≤_, _<_, _+_, _-_}
 use lib.Dec.{leb}
 use lib.ListN.{length, take, drop, length-drop}
 use borrow.Author.Tests.{eq-eqb, ne-eqb, le-leb, lt-leb, not-true, not-false}
@@ -104,29 +104,37 @@ returns-3 c =
       omega arith,
     )
 
--- the quote stands within the content
-quoted-in : (c : tie.Else3) → c .before .before .skip-w3 .result < length (c .before .before .before .before .before .before .before .before .before .before .before .before .args .content .now)
-quoted-in c =
-    let test = c .before .before .before .before .before .before in
-    let xs = test .before .before .before .before .before .before .args .content .now in
-    seen xs (c .before .before .skip-w3 .result) 38 (sym (c .before .byte-at2 .ensures) ∙ c .if3 .left)
+-- the content, where a quote stands behind `=`
+abbrev content-of : tie.Else3 → List ℕ
+content-of c =
+    let equals = c .before .before .before in
+    let test = equals .before .before .before in
+    let first = test .before .before .before .before in
+    first .before .before .args .content .now
+
+-- the quote's place
+abbrev quote-of : tie.Else3 → ℕ
+quote-of c = c .before .before .skip-w3 .result
+
+-- it lies within the content
+quoted-in : (c : tie.Else3) → quote-of c < length (content-of c)
+quoted-in c = seen (content-of c) (quote-of c) 38 (sym (c .before .byte-at2 .ensures) ∙ c .if3 .left)
 
 -- the message that was found
-found : (c : tie.After-extract-first-string-literal) → c .extract-first-string-literal .result .now ≡ messageIn (drop (c .before .before .before .before .skip-w3 .result) (c .before .before .before .before .before .before .before .before .before .before .before .before .before .before .args .content .now))
+found : (c : tie.After-extract-first-string-literal)
+    → c .extract-first-string-literal .result .now ≡ messageIn (drop (quote-of (c .before .before)) (content-of (c .before .before)))
 found c =
-    let third = c .before .before .before .before in
-    let first = third .before .before .before .before .before .before .before .before in
-    let xs = first .before .before .args .content .now in
-    let ys = drop (third .skip-w3 .result) xs in
-    c .extract-first-string-literal .ensures (lives ys) (bytes-lives ys ∙ sym (rest-of xs (third .skip-w3 .result))) ∙ message-is (lives ys) ys (bytes-lives ys)
+    let xs = content-of (c .before .before) in
+    let from = quote-of (c .before .before) in
+    let ys = drop from xs in
+    c .extract-first-string-literal .ensures (lives ys) (bytes-lives ys ∙ sym (rest-of xs from)) ∙ message-is (lives ys) ys (bytes-lives ys)
 
 -- it ends within the content
-found-in : (c : tie.After-extract-first-string-literal) → c .before .before .before .before .skip-w3 .result + length (c .extract-first-string-literal .result .now) ≤ length (c .before .before .before .before .before .before .before .before .before .before .before .before .before .before .args .content .now)
+found-in : (c : tie.After-extract-first-string-literal)
+    → quote-of (c .before .before) + length (c .extract-first-string-literal .result .now) ≤ length (content-of (c .before .before))
 found-in c =
-    let third = c .before .before .before .before in
-    let first = third .before .before .before .before .before .before .before .before in
-    let xs = first .before .before .args .content .now in
-    let from = third .skip-w3 .result in
+    let xs = content-of (c .before .before) in
+    let from = quote-of (c .before .before) in
     omega (arith, ap length (found c), message-le (drop from xs), length-drop from xs, quoted-in (c .before .before))
 
 sub-extract-first-string-literal : tie.Need-sub-extract-first-string-literal
@@ -148,11 +156,10 @@ skip-w-requires-4 : tie.Need-skip-w-requires-4
 skip-w-requires-4 c κs = search needs
 
 -- what it comes to
-judged : (c : tie.After-skip-w4) (t : List Marked) → bytes t ≡ c .before .before .before .before .before .before .before .before .before .before .before .before .before .before .before .args .content .now
-    → forget (fateText (usingFate t (drop 5 t)))
-    ≡ cond (leb (length (c .before .before .before .before .before .before .before .before .before .before .before .before .before .before .before .args .content .now)) (c .skip-w4 .result))
-    (accepted (aborting (c .before .extract-first-string-literal .result .now)))
-    (usingClause (c .before .before .before .before .before .before .before .before .before .before .before .before .before .before .before .args .content .now))
+judged : (c : tie.After-skip-w4) (t : List Marked) → bytes t ≡ content-of (c .before .before .before)
+    → let xs = content-of (c .before .before .before) in
+    forget (fateText (usingFate t (drop 5 t)))
+    ≡ cond (leb (length xs) (c .skip-w4 .result)) (accepted (aborting (c .before .extract-first-string-literal .result .now))) (usingClause xs)
 judged c t e =
     let quote = c .before .before .before in
     let equals = quote .before .before .before in
