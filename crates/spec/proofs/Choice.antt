@@ -1,12 +1,21 @@
--- Choices by a Bool. Assumes nothing.
+-- Choices by a Bool, and by the order of two numbers. Assumes nothing.
 use mathlib.Core.Path.{_≡_, refl, sym}
 use mathlib.Core.Bool.{Bool, true, false, cond, _&&_, _||_, false≢true}
-use Prim.Native.Nat.{ℕ, _≤_}
+use Prim.Native.Nat.{ℕ, _≤_, _<_}
+use native.Mathlib.Omega.{arith}
+use borrow.Author.Tests.{ltb-true, ltb-false}
+use lib.Dec.{ltb}
 
 -- a proof by the two cases of a test, each with its equation
 pub by : {P : Type 0} (b : Bool) → (b ≡ true → P) → (b ≡ false → P) → P
 by true p q = p refl
 by false p q = q refl
+
+-- two numbers of which neither is less are one
+pub neither-less : (m n : ℕ) → (m < n → ⊥) → (n < m → ⊥) → m ≡ n
+neither-less m n a b =
+    by (ltb m n) (λ q. absurd (a (ltb-true m n q)))
+    (λ q. by (ltb n m) (λ r. absurd (b (ltb-true n m r))) (λ r. omega (arith, ltb-false m n q, ltb-false n m r)))
 
 -- what holds of both arms, each under its test, holds of the choice
 pub cond-case : {A : Type 0} (P : A → Type 0) (b : Bool) (x y : A) → (b ≡ true → P x) → (b ≡ false → P y) → P (cond b x y)

@@ -1,7 +1,7 @@
 -- Runs of bytes that pass a test, forwards and backwards from an offset of a statement: where they end and start, and that
 -- there is one such place only. Assumes nothing.
 use mathlib.Core.Path.{_≡_, refl, sym, ap, _∙_}
-use mathlib.Core.Bool.{Bool, true, false, not, _&&_, _||_, false≢true}
+use mathlib.Core.Bool.{Bool, true, false, not, _&&_, _||_}
 use mathlib.Core.List.{List, [], _∷_, _++_, reverse, reverse-cons}
 use Prim.Native.Nat.{ℕ, zero, suc, _+_, _-_, _≤_, _<_}
 use native.Mathlib.Numerals.{add-one}
@@ -11,7 +11,8 @@ use lib.Dec.{eqb, ltb, leb}
 use lib.ListN.{length, take, drop, getD, length-drop, length-map, List·getD-map, List·getD-eq-default}
 use lib.Seq.{take-suc, getD-drop, drop-drop}
 use Rattle.spec.proofs.BytesLaws.{bytes-drop, front-bytes}
-use Rattle.spec.proofs.Choice.{by, and-left, and-right, or-left, or-cases}
+use Rattle.spec.proofs.Choice.{by, neither-less, and-left, and-right, or-left, or-cases}
+use Rattle.spec.proofs.FirstLaws.{fails-not}
 use Rattle.spec.proofs.RefusalBounds.{bytes-length}
 use Rattle.spec.proofs.TargetPlaces.{flagOf, flags, byteAt, part}
 use Rattle.spec.proofs.WalkLaws.{back-step, while-take, while-drop, while-length, while-passes-at, while-fails-at}
@@ -70,9 +71,6 @@ back-rest t (suc i) h =
 -- ---- runs
 
 module _ (f : ℕ → Bool) (t : List Marked) where
-  clash : {P : Type 0} (k : ℕ) → f (byteAt t k) ≡ true → f (byteAt t k) ≡ false → P
-  clash k a b = absurd (false≢true (sym b ∙ a))
-
   -- what passes from i on ends at e
   pub record Ahead (i e : ℕ) : Type 0 where
     pub from : i ≤ e
@@ -108,11 +106,9 @@ module _ (f : ℕ → Bool) (t : List Marked) where
       → (a < length t → f (byteAt t a) ≡ false)
       → e ≡ a
   end-same i e a r h w g s =
-      by (ltb e a)
-      (λ q. let l = ltb-true e a q in clash e (g e (r .from) l) (r .stops (omega arith)))
-      (λ q. by (ltb a e)
-      (λ p. let l = ltb-true a e p in clash a (r .all a h l) (s (omega (arith, r .fits (omega arith)))))
-      (λ p. omega (arith, ltb-false e a q, ltb-false a e p)))
+      neither-less e a
+      (λ l. fails-not (g e (r .from) l) (r .stops (omega arith)))
+      (λ l. fails-not (r .all a h l) (s (omega (arith, r .fits (omega arith)))))
 
   -- what passes back from i starts at s
   pub record Behind (s i : ℕ) : Type 0 where
@@ -191,11 +187,9 @@ module _ (f : ℕ → Bool) (t : List Marked) where
       → (0 < a → f (byteAt t (a - 1)) ≡ false)
       → s ≡ a
   start-same i s a r h g e =
-      by (ltb s a)
-      (λ q. let l = ltb-true s a q in clash (a - 1) (r .all (a - 1) (omega arith) (omega arith)) (e (omega arith)))
-      (λ q. by (ltb a s)
-      (λ p. let l = ltb-true a s p in clash (s - 1) (g (s - 1) (omega arith) (omega (arith, r .upto))) (r .stops (omega arith)))
-      (λ p. omega (arith, ltb-false s a q, ltb-false a s p)))
+      neither-less s a
+      (λ l. fails-not (r .all (a - 1) (omega arith) (omega arith)) (e (omega arith)))
+      (λ l. fails-not (g (s - 1) (omega arith) (omega (arith, r .upto))) (r .stops (omega arith)))
 
 -- ---- the sets are apart
 

@@ -11,7 +11,7 @@ use lib.Dec.{eqb, ltb}
 use lib.ListN.{length, drop, length-drop}
 use lib.Seq.{take-all}
 use Rattle.spec.proofs.Apart.{apart}
-use Rattle.spec.proofs.Choice.{by}
+use Rattle.spec.proofs.Choice.{by, neither-less}
 use Rattle.spec.proofs.FirstFound.{eitherOf, firstSome}
 use Rattle.spec.proofs.FirstLaws.{LeastOf, NoneOf, found-least, found-none}
 use Rattle.spec.proofs.FirstTarget.{Exactly, else-exactly, else-none}
@@ -83,11 +83,9 @@ finds-as w a b =
 -- two statements that start at one offset are one
 one-end : (ys : List ℕ) (a e f : ℕ) → IsStatement ys a e → IsStatement ys a f → e ≡ f
 one-end ys a e f s u =
-    by (ltb e f)
-    (λ q. let l = ltb-true e f q in absurd (u .no-cut e (s .order) l (s .behind (omega (arith, u .fits)))))
-    (λ q. by (ltb f e)
-    (λ p. let l = ltb-true f e p in absurd (s .no-cut f (u .order) l (u .behind (omega (arith, s .fits)))))
-    (λ p. omega (arith, ltb-false e f q, ltb-false f e p)))
+    neither-less e f
+    (λ l. u .no-cut e (s .order) l (s .behind (omega (arith, u .fits))))
+    (λ l. s .no-cut f (u .order) l (u .behind (omega (arith, s .fits))))
 
 -- an offset at which a statement starts
 abbrev IsStart : List ℕ → ℕ → Type 0

@@ -11,7 +11,7 @@ use lib.ListN.{length, take, drop, getD, length-drop}
 use lib.Seq.{getD-drop, take-take}
 use Rattle.spec.proofs.AheadLaws.{drop-take}
 use Rattle.spec.proofs.BytesLaws.{bytes-drop, while-length-bytes, end-length-bytes}
-use Rattle.spec.proofs.Choice.{by}
+use Rattle.spec.proofs.Choice.{by, neither-less}
 use Rattle.spec.proofs.EndLaws.{drop-end-take}
 use Rattle.spec.proofs.FirstLaws.{fails-not}
 use Rattle.spec.proofs.ListLaws.{empty-length, drop-end-le}
@@ -30,16 +30,9 @@ module _ {A : Type 0} (f : A → Bool) where
       → length (takeWhile f t) ≡ n
   while-exactly t d n h g e =
       let m = length (takeWhile f t) in
-      by (ltb m n)
-      (λ q.
-      let b = ltb-true m n q in
-      absurd (fails-not (g m b) (while-fails f t d (omega arith))))
-      (λ q.
-      by (ltb n m)
-      (λ r.
-      let b = ltb-true n m r in
-      absurd (fails-not (while-passes f t d n b) (e (omega (arith, while-length f t)))))
-      (λ r. omega (arith, ltb-false m n q, ltb-false n m r)))
+      neither-less m n
+      (λ b. fails-not (g m b) (while-fails f t d (omega arith)))
+      (λ b. fails-not (while-passes f t d n b) (e (omega (arith, while-length f t))))
 
   end-step : (x : A) (t : List A)
       → length (dropEnd f (x ∷ t)) ≡ cond (f x && eqb (length (dropEnd f t)) 0) 0 (suc (length (dropEnd f t)))
@@ -90,16 +83,9 @@ module _ {A : Type 0} (f : A → Bool) where
       → length (dropEnd f t) ≡ n
   end-exactly t d n h g e =
       let m = length (dropEnd f t) in
-      by (ltb m n)
-      (λ q.
-      let b = ltb-true m n q in
-      absurd (fails-not (end-passes t d (n - 1) (omega arith) (omega arith)) (e (omega arith))))
-      (λ q.
-      by (ltb n m)
-      (λ r.
-      let b = ltb-true n m r in
-      absurd (fails-not (g (m - 1) (omega arith) (omega (arith, drop-end-le f t))) (end-last t d (omega arith))))
-      (λ r. omega (arith, ltb-false m n q, ltb-false n m r)))
+      neither-less m n
+      (λ b. fails-not (end-passes t d (n - 1) (omega arith) (omega arith)) (e (omega arith)))
+      (λ b. fails-not (g (m - 1) (omega arith) (omega (arith, drop-end-le f t))) (end-last t d (omega arith)))
 
 -- ---- W
 

@@ -6,11 +6,11 @@ use mathlib.Core.List.{List}
 use mathlib.Core.Option.{Option, none, some}
 use Prim.Native.Nat.{ℕ, zero, suc, _+_, _≤_, _<_, zero-le}
 use native.Mathlib.Omega.{arith}
-use borrow.Author.Tests.{eqb-true, eqb-false, ltb-true, ltb-false}
-use lib.Dec.{eqb, ltb}
+use borrow.Author.Tests.{eqb-true, eqb-false}
+use lib.Dec.{eqb}
 use lib.ListN.{length, drop}
 use Rattle.spec.proofs.Apart.{apart}
-use Rattle.spec.proofs.Choice.{by}
+use Rattle.spec.proofs.Choice.{by, neither-less}
 use Rattle.spec.proofs.FirstFound.{eitherOf, either-none}
 use Rattle.spec.proofs.FirstLaws.{LeastOf, found-least, least-found}
 use Rattle.spec.proofs.MapLaws.{text-bytes}
@@ -230,16 +230,13 @@ module _ (xs : List ℕ) where
   -- there is but one first
   first-only : (c d : List ℕ) → FirstRefused xs c → FirstRefused xs d → c ≡ d
   first-only c d v w =
-      by (ltb (v .at) (w .at))
-      (λ q. absurd (w .none-before (v .at) c (ltb-true _ _ q) (v .is-read) (v .is-refused)))
-      (λ q.
-      by (ltb (w .at) (v .at))
-      (λ r. absurd (v .none-before (w .at) d (ltb-true _ _ r) (w .is-read) (w .is-refused)))
-      (λ r.
-      let same : v .at ≡ w .at = omega (arith, ltb-false (v .at) (w .at) q, ltb-false (w .at) (v .at) r) in
+      let same =
+      neither-less (v .at) (w .at)
+      (λ l. w .none-before (v .at) c l (v .is-read) (v .is-refused))
+      (λ l. v .none-before (w .at) d l (w .is-read) (w .is-refused)) in
       let e = refused-some (v .at) c (v .is-refused) in
       let f = ap clauseOf same ∙ refused-some (w .at) d (w .is-refused) in
-      cc))
+      cc
 
   first-some : (c : List ℕ) → FirstRefused xs c → (o : Option (List ℕ)) → from 0 ≡ o → from 0 ≡ some c
   first-some c w none e = absurd (none-refused e (w .at) c (w .is-read) (w .is-refused))
