@@ -1,22 +1,22 @@
--- The statements one after the other: what is left of a pass, and a turn of its loop. Assumes nothing.
+-- Pass 3 statement by statement: what is left from an offset on, a turn of the loop, and one statement. Assumes nothing.
 use mathlib.Core.Path.{_≡_, refl, sym, ap, _∙_}
 use mathlib.Core.Bool.{not, _&&_}
 use mathlib.Core.List.{List, [], _∷_, _++_, reverse}
-use mathlib.Core.Logic.{_⊎_, inl, inr}
 use mathlib.Core.Option.{Option, none, some}
 use Prim.Native.Nat.{ℕ, _+_, _-_, _≤_}
 use native.Mathlib.Numerals.{add-one}
 use native.Mathlib.Omega.{arith}
-use denote.Enum.Declared.{tagOf}
 use lib.ListN.{length, take, drop, set, length-append, length-drop, length-reverse, take-append-drop}
 use lib.Seq.{sets, sets-eq, take-at}
+use Rattle.spec.proofs.Apart.{apart}
 use Rattle.spec.proofs.BytesLaws.{bytes-take, bytes-drop, bytes-append}
 use Rattle.spec.proofs.RefusalBounds.{bytes-length}
 use Rattle.spec.specs.Bytes.{ascii, isIdent, isW}
 use Rattle.spec.specs.Lists.{isEmpty, takeWhile, dropWhile}
 use Rattle.spec.specs.Map.{Marked, marked, live, bytes, lives, ofByte}
 use Rattle.spec.specs.Search.{first, byteHere, pieces}
-use Rattle.spec.specs.Assignments.{Outcome, done, qualified, clause, _⊕_, Target, assignHere, rightSide, startsName, assignmentAt, assignment, statementTarget, checkedStatement, statement, joinStatements, assignments}
+use Rattle.spec.specs.Outcome.{qualifiedTarget, Outcome, accepted, refused, _⊕_}
+use Rattle.spec.specs.Assignments.{Target, assignHere, rightSide, startsName, assignmentAt, assignment, statementTarget, checkedStatement, statement, joinStatements, assignments}
 use Rattle.spec.specs.declared.Found.{Found}
 use Rattle.spec.specs.declared.Found.the-variants.{At, Nothing}
 use Rattle.spec.proofs.Choice.{cond-case}
@@ -25,86 +25,45 @@ use Rattle.spec.proofs.LengthLaws.{right-le}
 use Rattle.spec.proofs.ListLaws.{while-sum, drop-while-le}
 use Rattle.spec.proofs.MapLaws.{marked-bytes}
 use Rattle.spec.proofs.WalkLaws.{piecesAt, pieces-cut, pieces-last}
-use Rattle.output.specs.Passes.{passAnswer, Leaves}
-use Rattle.output.specs.declared.Pass.{Pass}
+use Rattle.output.specs.Passes.{answerFrom, LeavesFrom}
 use Rattle.output.specs.declared.Pass.the-variants.{Done}
-use Rattle.output.proofs.Pass as pass
+use Rattle.output.proofs.OutcomeLaws.{Turn, turn-none, turn-both, turn-front}
 use Rattle.output.proofs.StoreLaws.{sets-append}
 use Rattle.targets.specs.Tells.{Tells}
 use Rattle.targets.specs.declared.TargetFound.the-variants as target
-use Rattle.assignments.specs.Written.{answerFrom, LeavesFrom}
 
--- ---- what is left of a pass
-
--- n bytes of the whole outcome's text are in `out`, which was `first` before, and `rest` is left
-pub record Rest (whole : Outcome) (first : List ℕ) (n : ℕ) (out : List ℕ) (rest : Outcome) : Type 0 where
-  pub answer : passAnswer whole ≡ answerFrom n rest
-  pub leaves : (after : List ℕ) → LeavesFrom n rest out after → Leaves whole first after
-
-rest-whole : (o : Outcome) (out : List ℕ) → Rest o out 0 out o
-rest-whole (done t) out = record { answer = ap Done (omega arith); leaves = λ a h. h }
-rest-whole (qualified q m) out = record { answer = refl; leaves = λ a h. h }
-rest-whole (clause c) out = record { answer = refl; leaves = λ a h. h }
-
--- a part that is text is written
-rest-more : (whole rest : Outcome) (first out out′ : List ℕ) (n n′ : ℕ) (u : List Marked)
-    → Rest whole first n out (done u ⊕ rest)
-    → out′ ≡ sets out n (bytes u)
-    → n′ ≡ n + length u
-    → length (bytes u) ≡ length u
-    → Rest whole first n′ out′ rest
-unfolding _⊕_
-rest-more whole (done v) first out out′ n n′ u r p k l =
-    let c : n + length (u ++ v) ≡ n′ + length v = omega (arith, length-append u v) in
-    let s : sets out n (bytes (u ++ v)) ≡ sets out′ n′ (bytes v) =
-    rw (bytes-append u v, p, k, ← l) (sets-append (bytes u) (bytes v) out n) in
-    record { answer = r .answer ∙ ap Done c; leaves = λ a h. r .leaves a (h ∙ sym s) }
-rest-more whole (qualified q m) first out out′ n n′ u r p k l = record { answer = r .answer; leaves = λ a h. r .leaves a h }
-rest-more whole (clause d) first out out′ n n′ u r p k l = record { answer = r .answer; leaves = λ a h. r .leaves a h }
-
--- a refusal is all that counts
-pub rest-refused : (whole o more : Outcome) (first out : List ℕ) (n : ℕ) (p : Pass) → Rest whole first n out (o ⊕ more) → p ≡ answerFrom n o
-    → (tagOf pass.the-type p ≡ 1) ⊎ (tagOf pass.the-type p ≡ 2)
-    → Rest whole first n out o
-unfolding _⊕_
-rest-refused whole (done t) more first out n p r e h = absurd (none (rw e at h))
-  where
-    none : (tagOf pass.the-type (Done (n + length t)) ≡ 1) ⊎ (tagOf pass.the-type (Done (n + length t)) ≡ 2) → ⊥
-    none (inl z) = omega arith
-    none (inr z) = omega arith
-rest-refused whole (qualified q m) more first out n p r e h = r
-rest-refused whole (clause c) more first out n p r e h = r
+-- ---- a turn of the loop
 
 -- a statement and its `;` are written
-pub rest-turn : (whole o rest : Outcome) (first out out₁ out₂ : List ℕ) (n m n₂ : ℕ)
-    → Rest whole first n out (o ⊕ (done (live 59 ∷ []) ⊕ rest))
+pub statement-turn : (whole o rest : Outcome (List Marked)) (first out out₁ out₂ : List ℕ) (n m n₂ : ℕ)
+    → Turn first 0 whole out n (o ⊕ (accepted (live 59 ∷ []) ⊕ rest))
     → Done m ≡ answerFrom n o
     → LeavesFrom n o out out₁
     → n₂ ≡ m + 1
     → out₂ ≡ set out₁ m 59
-    → Rest whole first n₂ out₂ rest
+    → Turn first 0 whole out₂ n₂ rest
 unfolding bytes
-rest-turn whole (done u) rest first out out₁ out₂ n m n₂ r e l k p =
+statement-turn whole (accepted u) rest first out out₁ out₂ n m n₂ r e l k p =
     let c : m ≡ n + length u = cc in
-    rest-more whole rest first out₁ out₂ m n₂ (live 59 ∷ [])
-    (rest-more whole (done (live 59 ∷ []) ⊕ rest) first out out₁ n m u r l c (bytes-length u)) p k refl
-rest-turn whole (qualified q d) rest first out out₁ out₂ n m n₂ r e l k p = let z : _≡_ {A = ℕ} 0 1 = cc in absurd (omega arith)
-rest-turn whole (clause d) rest first out out₁ out₂ n m n₂ r e l k p = let z : _≡_ {A = ℕ} 0 1 = cc in absurd (omega arith)
+    let text = turn-front u (bytes u) out out₁ n m _ refl l (omega (arith, bytes-length u)) in
+    let semicolon = turn-front (live 59 ∷ []) (59 ∷ []) out₁ out₂ m n₂ rest refl p k in
+    turn-both r (turn-both text semicolon)
+statement-turn whole (refused f) rest first out out₁ out₂ n m n₂ r e l k p = absurd (apart (cc))
 
 -- ---- the statements of a text
 
 join-cut : (s : List Marked) (ps : List (List Marked)) → (p : List Marked) × (qs : List (List Marked)) × (ps ≡ p ∷ qs)
-    → joinStatements (s ∷ ps) ≡ statement s ⊕ (done (live 59 ∷ []) ⊕ joinStatements ps)
+    → joinStatements (s ∷ ps) ≡ statement s ⊕ (accepted (live 59 ∷ []) ⊕ joinStatements ps)
 unfolding joinStatements
 join-cut s ps w = rw (w .2) refl
 
 -- what the statements from i on come to
-abbrev pub leftFrom : List Marked → ℕ → Outcome
+abbrev pub leftFrom : List Marked → ℕ → Outcome (List Marked)
 leftFrom t i = joinStatements (piecesAt (byteHere 59) t i)
 
 module _ (t : List Marked) (i : ℕ) where
   pub left-cut : (j : ℕ) → first (byteHere 59) i t ≡ At j
-      → leftFrom t i ≡ statement (take (j - i) (drop i t)) ⊕ (done (live 59 ∷ []) ⊕ leftFrom t (j + 1))
+      → leftFrom t i ≡ statement (take (j - i) (drop i t)) ⊕ (accepted (live 59 ∷ []) ⊕ leftFrom t (j + 1))
   left-cut j e =
       ap joinStatements (pieces-cut (byteHere 59) t i j e)
       ∙ join-cut (take (j - i) (drop i t)) (piecesAt (byteHere 59) t (j + 1)) (pieces-cons (byteHere 59) (reverse (take (j + 1) t)) (drop (j + 1) t))
@@ -114,15 +73,15 @@ module _ (t : List Marked) (i : ℕ) where
   left-last e = ap joinStatements (pieces-last (byteHere 59) t i e)
 
 -- nothing is written yet
-pub rest-start : (t : List Marked) (out : List ℕ) → Rest (assignments t) out 0 out (leftFrom t 0)
+pub turn-start : (t : List Marked) (out : List ℕ) → Turn out 0 (assignments t) out 0 (leftFrom t 0)
 unfolding assignments pieces
-rest-start t out = rest-whole (assignments t) out
+turn-start t out = turn-none out 0 (assignments t)
 
 -- ---- one statement
 
 module _ (xs ms : List ℕ) where
   pub told-qualified : (a k b m : ℕ) → Tells (marked xs ms) (statementTarget (marked xs ms)) (target.At a k b m)
-      → statement (marked xs ms) ≡ qualified (take k (drop a xs)) (take m (drop b xs))
+      → statement (marked xs ms) ≡ refused (qualifiedTarget (take k (drop a xs)) (take m (drop b xs)))
   unfolding statement checkedStatement
   told-qualified a k b m w =
       rw (
@@ -135,7 +94,7 @@ module _ (xs ms : List ℕ) where
       )
       refl
 
-  pub told-none : Tells (marked xs ms) (statementTarget (marked xs ms)) target.Nothing → statement (marked xs ms) ≡ done (assignment (marked xs ms))
+  pub told-none : Tells (marked xs ms) (statementTarget (marked xs ms)) target.Nothing → statement (marked xs ms) ≡ accepted (assignment (marked xs ms))
   unfolding statement checkedStatement
   told-none w = rw (w .target) refl
 

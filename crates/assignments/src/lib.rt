@@ -8,6 +8,7 @@ use output::put_all;
 use scanner::find_byte_in;
 use scanner::find_str_in;
 use spec::Found;
+use spec::Refusal;
 use targets::Set;
 use targets::TargetFound;
 use targets::qualified_assignment_target;
@@ -20,9 +21,10 @@ ghost use lib.ListN.{length, take, drop};
 ghost use Rattle.spec.specs.Map.{Marked, marked, bytes};
 ghost use Rattle.spec.specs.Assignments.{trim, rightSide, startsName, assignmentAt, assignment, statement, assignments};
 ghost use Rattle.spec.specs.declared.Found.the-variants.{At};
-ghost use Rattle.output.specs.Passes.{passAnswer, Leaves};
-ghost use Rattle.output.specs.declared.Pass.the-variants.{Qualified};
-ghost use Rattle.assignments.specs.Written.{setText, Writes, answerFrom, LeavesFrom};
+ghost use Rattle.output.specs.Passes.{passAnswer, Leaves, answerFrom, LeavesFrom};
+ghost use Rattle.output.specs.declared.Pass.the-variants.{Refused};
+ghost use Rattle.spec.specs.declared.Refusal.the-variants.{QualifiedTarget};
+ghost use Rattle.assignments.specs.Written.{setText, Writes};
 
 // Without W at both ends.
 fn trimmed<'a>(text: &'a [u8]) -> &'a [u8]
@@ -105,13 +107,16 @@ fn put_qualified(out: &mut [u8], statement: &[u8], a: usize, k: usize, b: usize,
     requires { ⌜ b ≡ a + k + 1 ⌝ }
     requires { ⌜ b + m ≤ length (now statement) ⌝ }
     requires { ⌜ length (now statement) ≤ length (now out) ⌝ }
-    ensures { λ r. ⌜ r ≡ Qualified k (k + 1 + m) ⌝ }
+    ensures { λ r. ⌜ r ≡ Refused (QualifiedTarget k (k + 1 + m)) ⌝ }
     ensures { λ r. ⌜ take (k + 1 + m) (now (out .exit)) ≡ take k (drop a (now (statement .entry))) ++ (46 ∷ take m (drop b (now (statement .entry)))) ⌝ }
 {
     let p = put_all(out, 0, &statement[a..a + k]);
     let q = put(out, p, b'.');
     let end = put_all(out, q, &statement[b..b + m]);
-    Pass::Qualified(k, end)
+    Pass::Refused(Refusal::QualifiedTarget {
+        qualifier: k,
+        length: end,
+    })
 }
 
 // One statement, checked before it is rewritten; n bytes of the result are written before it.

@@ -1,9 +1,11 @@
-// The checks that come before anything is written: 1 the text's length, 3 the lent buffers, 2 bytes over 127.
+// Refusals: the checks that come before anything is written (1 the text's length, 3 the lent buffers, 2 bytes over 127), and
+// the numbers of every refusal.
 use spec::Check;
 use spec::Found;
 use spec::Refusal;
+use spec::RefusalNumbers;
 ghost use mathlib.Core.Path.{_≡_};
-ghost use Rattle.spec.specs.Answers.{firstHigh, asciiCheck, checkOf};
+ghost use Rattle.spec.specs.Answers.{firstHigh, asciiCheck, checkOf, refusalNumbers};
 ghost use Rattle.spec.specs.declared.Check.the-variants.{Passed};
 
 // The offset of the first byte over 127.
@@ -46,5 +48,48 @@ fn check_needle(needle: &[u8]) -> Check
     match high {
         Found::At(i) => Check::Refused(Refusal::NotAscii(i)),
         Found::Nothing => Check::Passed,
+    }
+}
+
+// What is handed back of a refusal.
+pub fn refusal_numbers(r: Refusal) -> RefusalNumbers
+    ensures { λ n. ⌜ n ≡ refusalNumbers r ⌝ }
+{
+    match r {
+        Refusal::TextTooLong => RefusalNumbers {
+            number: 1,
+            place: 0,
+            length: 0,
+        },
+        Refusal::NotAscii(i) => RefusalNumbers {
+            number: 2,
+            place: i,
+            length: 0,
+        },
+        Refusal::BufferTooShort => RefusalNumbers {
+            number: 3,
+            place: 0,
+            length: 0,
+        },
+        Refusal::QualifiedTarget { qualifier, length } => RefusalNumbers {
+            number: 4,
+            place: qualifier,
+            length: length,
+        },
+        Refusal::UsingClause { length } => RefusalNumbers {
+            number: 5,
+            place: 0,
+            length: length,
+        },
+        Refusal::ResultTooLong => RefusalNumbers {
+            number: 6,
+            place: 0,
+            length: 0,
+        },
+        Refusal::TooManyNames => RefusalNumbers {
+            number: 7,
+            place: 0,
+            length: 0,
+        },
     }
 }

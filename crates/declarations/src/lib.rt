@@ -4,6 +4,8 @@ use declared_parts::comes_before;
 use declared_parts::piece;
 use declared_parts::put_requoted;
 use declared_parts::put_spaced;
+use declared_records::RECORD_LIMIT;
+use declared_records::RECORD_WIDTH;
 use declared_records::gather;
 use declared_records::name_of;
 use declared_records::number;
@@ -104,9 +106,9 @@ fn insert(text: &[u8], records: &mut [u32], count: usize, k: usize)
 {
     let from = start_of(text, records, count, k);
     let p = find_place(text, records, count, k, from);
-    let next = records[8 * p];
-    records[8 * k] = next;
-    records[8 * p] = k as u32;
+    let next = records[RECORD_WIDTH * p];
+    records[RECORD_WIDTH * k] = next;
+    records[RECORD_WIDTH * p] = k as u32;
 }
 
 // Each record gets its next. The records are put in from the last to the first.
@@ -175,7 +177,7 @@ fn write_record(text: &[u8], declared: &mut [u8], records: &mut [u32], k: usize,
     ensures { λ _. ⌜ now (declared .exit) ≡ sets (now (declared .entry)) n (packedRecord (recordIn (now (text .entry)) (now (records .entry)) k)) ⌝ }
     ensures { λ _. ⌜ now (records .exit) ≡ sets (now (records .entry)) (8 * k) (getD (now (records .entry)) (8 * k) 0 ∷ otherNumbers n (recordIn (now (text .entry)) (now (records .entry)) k)) ⌝ }
 {
-    let next = records[8 * k];
+    let next = records[RECORD_WIDTH * k];
     let present = number(records, k, 5);
     let ends = put_texts(text, declared, records, k, n);
     let flag = if_present(present, 1);
@@ -267,7 +269,7 @@ fn parse_section(text: &[u8], map: &[u8], declared: &mut [u8], records: &mut [u3
     ensures { λ _. ⌜ Holds (recordsOfSection (marked (now (text .entry)) (now (map .entry)))) (now (declared .entry)) (now (declared .exit)) (now (records .entry)) (now (records .exit)) ⌝ }
 {
     let count = gather(text, map, records);
-    if 512 < count {
+    if RECORD_LIMIT < count {
         return Parsed::TooManyNames;
     }
     link(text, records, count);

@@ -14,6 +14,16 @@ ghost use Rattle.spec.specs.Map.{marked};
 ghost use Rattle.declared_parts.specs.Parts.{Within, partNumbers};
 ghost use Rattle.declared_records.specs.Held.{recordIn, recordsFrom, placeOf, Added, Gathered};
 
+// How many numbers a record has, how many records there may be, and how many numbers they and the head take.
+pub const RECORD_WIDTH: usize = 8;
+
+pub const RECORD_LIMIT: usize = 512;
+
+pub const RECORD_NUMBERS: usize = RECORD_WIDTH * (RECORD_LIMIT + 1);
+
+// The count that stands for too many names.
+const TOO_MANY: usize = RECORD_LIMIT + 1;
+
 // Number j of record k.
 pub fn number(records: &[u32], k: usize, j: usize) -> usize
     requires { ⌜ k ≤ 512 ⌝ }
@@ -22,7 +32,7 @@ pub fn number(records: &[u32], k: usize, j: usize) -> usize
     ensures { λ r. ⌜ r ≡ getD (drop (8 * k) (now (records .entry))) j 0 ⌝ }
     ensures { λ r. ⌜ r < 2 ^ 32 ⌝ }
 {
-    records[8 * k + j] as usize
+    records[RECORD_WIDTH * k + j] as usize
 }
 
 // The name of record k.
@@ -53,7 +63,7 @@ pub fn put_numbers(
     requires { ⌜ 4104 ≤ length (now records) ⌝ }
     ensures { λ _. ⌜ now (records .exit) ≡ sets (now (records .entry)) (8 * k) (next ∷ name ∷ «name_len» ∷ kind ∷ «kind_len» ∷ present ∷ value ∷ «value_len» ∷ []) ⌝ }
 {
-    let at = 8 * k;
+    let at = RECORD_WIDTH * k;
     records[at] = next;
     records[at + 1] = name;
     records[at + 2] = name_len;
@@ -131,8 +141,8 @@ fn add_part(text: &[u8], records: &mut [u32], count: usize, p: Part) -> usize
     }
     let name = piece(text, p.name, p.name_len);
     let k = find_name(text, records, count, name);
-    if k == 512 {
-        return 513;
+    if k == RECORD_LIMIT {
+        return TOO_MANY;
     }
     put_part(records, k + 1, p);
     if k < count { count } else { k + 1 }
@@ -156,7 +166,7 @@ pub fn gather(text: &[u8], map: &[u8], records: &mut [u32]) -> usize
         };
         let p = read_part(text, map, at, end);
         count = add_part(text, records, count, p);
-        if 512 < count {
+        if RECORD_LIMIT < count {
             return count;
         }
         at = end + 1;

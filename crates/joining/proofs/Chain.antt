@@ -10,13 +10,14 @@ use lib.ListN.{length, length-append}
 use Rattle.spec.proofs.BytesLaws.{bytes-append}
 use Rattle.spec.proofs.Apart.{apart}
 use Rattle.spec.proofs.RefusalLaws.{then-accepted, after2, after3, after4, assign-done, assign-refused, raise-done, raise-refused, accepted-exactly, qualified-exactly, using-exactly, accepted-fits}
-use Rattle.spec.specs.Map.{bytes, markedText}
+use Rattle.spec.specs.Map.{Marked, bytes, markedText}
 use Rattle.spec.specs.Requote.{requoted}
 use Rattle.spec.specs.Elsif.{elsif}
-use Rattle.spec.specs.Assignments.{Outcome, done, qualified, clause, _⊕_, assignments}
+use Rattle.spec.specs.Outcome.{qualifiedTarget, usingClause, resultTooLong, Outcome, accepted, refused, _⊕_, Rewriting, forget}
+use Rattle.spec.specs.Assignments.{assignments}
 use Rattle.spec.specs.SelectInto.{quoteWalk, selectInto}
-use Rattle.spec.specs.Raise.{raise}
-use Rattle.spec.specs.Body.{bufferSize, Rewriting, accepted, qualifiedTarget, usingClause, resultTooLong, forget, requotePass, elsifPass, assignPass, selectPass, raisePass, rewriting}
+use Rattle.spec.specs.Raise.{Level, Action, raise}
+use Rattle.spec.specs.Body.{bufferSize, requotePass, elsifPass, assignPass, selectPass, raisePass, rewriting}
 use Rattle.spec.specs.Closed.{endsLive}
 use Rattle.joining.specs.Safe.{raisesSafe}
 use Rattle.joining.specs.Unlimited.{thenPass, unlimited}
@@ -36,26 +37,22 @@ pub record Both (r s : Rewriting) (zs : List ℕ) : Type 0 where
   pub whole : zs ≡ front ++ back
 
 -- two outcomes joined are text exactly if both are, and then it is the two texts joined
-forget-only : (o p : Outcome) (zs : List ℕ) → forget (o ⊕ p) ≡ accepted zs → Both (forget o) (forget p) zs
+forget-only : (o p : Outcome (List Marked)) (zs : List ℕ) → forget (o ⊕ p) ≡ accepted zs → Both (forget o) (forget p) zs
 unfolding forget _⊕_
-forget-only (done t) (done u) zs h =
+forget-only (accepted t) (accepted u) zs h =
     let e : bytes (t ++ u) ≡ zs = cc in
     record { front = bytes t; back = bytes u; first = refl; second = refl; whole = sym e ∙ bytes-append t u }
-forget-only (done t) (qualified q n) zs h = absurd (apart (cc))
-forget-only (done t) (clause c) zs h = absurd (apart (cc))
-forget-only (qualified q n) p zs h = absurd (apart (cc))
-forget-only (clause c) p zs h = absurd (apart (cc))
+forget-only (accepted t) (refused r) zs h = absurd (apart (cc))
+forget-only (refused r) p zs h = absurd (apart (cc))
 
-pub forget-both : (o p : Outcome) (us vs : List ℕ) → forget o ≡ accepted us → forget p ≡ accepted vs → forget (o ⊕ p) ≡ accepted (us ++ vs)
+pub forget-both : (o p : Outcome (List Marked)) (us vs : List ℕ) → forget o ≡ accepted us → forget p ≡ accepted vs → forget (o ⊕ p) ≡ accepted (us ++ vs)
 unfolding forget _⊕_
-forget-both (done t) (done u) us vs h k =
+forget-both (accepted t) (accepted u) us vs h k =
     let e : bytes t ≡ us = cc in
     let f : bytes u ≡ vs = cc in
     ap accepted (bytes-append t u ∙ rw (e, f))
-forget-both (done t) (qualified q n) us vs h k = absurd (apart (cc))
-forget-both (done t) (clause c) us vs h k = absurd (apart (cc))
-forget-both (qualified q n) p us vs h k = absurd (apart (cc))
-forget-both (clause c) p us vs h k = absurd (apart (cc))
+forget-both (accepted t) (refused r) us vs h k = absurd (apart (cc))
+forget-both (refused r) p us vs h k = absurd (apart (cc))
 
 pub assign-join : (a b : List ℕ) → endsLive (markedText a) ≡ true
     → assignPass (a ++ b) ≡ forget (assignments (markedText a) ⊕ assignments (markedText b))
@@ -73,50 +70,48 @@ fourth-join a b h =
     rw (quotes-join a b h, select-join (quoteWalk 0 a) (quoteWalk 0 b) h)
     (bytes-append (selectInto (quoteWalk 0 a)) (selectInto (quoteWalk 0 b)))
 
-pub raised-join : (a b : List ℕ) → endsLive (markedText a) ≡ true → raisesSafe 0 (markedText a) ≡ true
-    → raisePass (a ++ b) ≡ forget (raise (markedText a) ⊕ raise (markedText b))
+pub raised-join : (act : Level → Action) (a b : List ℕ) → endsLive (markedText a) ≡ true → raisesSafe 0 (markedText a) ≡ true
+    → raisePass act (a ++ b) ≡ forget (raise act (markedText a) ⊕ raise act (markedText b))
 unfolding raisePass
-raised-join a b h s = ap forget (raise-join a b h s)
+raised-join act a b h s = ap forget (raise-join act a b h s)
 
 -- ---- all five passes
 
 -- passes 3 and 5, the two that may refuse, accept; middle is the text after pass 3
-pub record Run (xs zs : List ℕ) : Type 0 where
+pub record Run (act : Level → Action) (xs zs : List ℕ) : Type 0 where
   pub middle : List ℕ
   pub third : assignPass (secondText xs) ≡ accepted middle
-  pub fifth : raisePass (fourthText middle) ≡ accepted zs
+  pub fifth : raisePass act (fourthText middle) ≡ accepted zs
 
-run-only : (xs zs : List ℕ) → unlimited xs ≡ accepted zs → Run xs zs
+run-only : (act : Level → Action) (xs zs : List ℕ) → unlimited act xs ≡ accepted zs → Run act xs zs
 unfolding unlimited thenPass requotePass elsifPass selectPass
-run-only xs zs h = go (assignPass (secondText xs)) refl h
+run-only act xs zs h = go (assignPass (secondText xs)) refl h
   where
-    go : (r : Rewriting) → assignPass (secondText xs) ≡ r → thenPass (thenPass r selectPass) raisePass ≡ accepted zs → Run xs zs
+    go : (r : Rewriting) → assignPass (secondText xs) ≡ r → thenPass (thenPass r selectPass) (raisePass act) ≡ accepted zs → Run act xs zs
     go (accepted ys) e h = record { middle = ys; third = e; fifth = h }
-    go (qualifiedTarget q n) e h = absurd (apart (cc))
-    go (usingClause c) e h = absurd (apart (cc))
-    go resultTooLong e h = absurd (apart (cc))
+    go (refused f) e h = absurd (apart (cc))
 
-run-gives : (xs zs : List ℕ) → Run xs zs → unlimited xs ≡ accepted zs
+run-gives : (act : Level → Action) (xs zs : List ℕ) → Run act xs zs → unlimited act xs ≡ accepted zs
 unfolding unlimited thenPass requotePass elsifPass selectPass
-run-gives xs zs r = rw (r .third) (r .fifth)
+run-gives act xs zs r = rw (r .third) (r .fifth)
 
 -- without the size limits a text is accepted exactly so
-pub unlimited-exactly : (xs zs : List ℕ) → (unlimited xs ≡ accepted zs) ↔ Run xs zs
-unlimited-exactly xs zs = (run-only xs zs, run-gives xs zs)
+pub unlimited-exactly : (act : Level → Action) (xs zs : List ℕ) → (unlimited act xs ≡ accepted zs) ↔ Run act xs zs
+unlimited-exactly act xs zs = (run-only act xs zs, run-gives act xs zs)
 
 -- ---- two texts, the first continuable
 
 -- passes 3 and 5 accept both texts, and zs and middle are their two texts joined
-pub record Runs (a b zs middle : List ℕ) : Type 0 where
+pub record Runs (act : Level → Action) (a b zs middle : List ℕ) : Type 0 where
   pub front : List ℕ
   pub back : List ℕ
-  pub first : Run a front
-  pub second : Run b back
+  pub first : Run act a front
+  pub second : Run act b back
   pub whole : zs ≡ front ++ back
   pub between : middle ≡ first .middle ++ second .middle
 
-module _ (a : List ℕ) (s : Continuable a) (b : List ℕ) where
-  run-split : (zs : List ℕ) (r : Run (a ++ b) zs) → Runs a b zs (r .middle)
+module _ (act : Level → Action) (a : List ℕ) (s : Continuable a) (b : List ℕ) where
+  run-split : (zs : List ℕ) (r : Run act (a ++ b) zs) → Runs act a b zs (r .middle)
   unfolding assignPass raisePass
   run-split zs r =
       let three = forget-only (assignments (markedText (secondText a))) (assignments (markedText (secondText b))) (r .middle)
@@ -124,8 +119,8 @@ module _ (a : List ℕ) (s : Continuable a) (b : List ℕ) where
       let q = s .behind (three .front) (three .first) in
       let four : fourthText (r .middle) ≡ fourthText (three .front) ++ fourthText (three .back) =
       ap fourthText (three .whole) ∙ fourth-join (three .front) (three .back) (q .quotes) in
-      let five = forget-only (raise (markedText (fourthText (three .front)))) (raise (markedText (fourthText (three .back)))) zs
-      (sym (raised-join (fourthText (three .front)) (fourthText (three .back)) (q .marks) (q .raises)) ∙ (ap raisePass (sym four) ∙ r .fifth)) in
+      let five = forget-only (raise act (markedText (fourthText (three .front)))) (raise act (markedText (fourthText (three .back)))) zs
+      (sym (raised-join act (fourthText (three .front)) (fourthText (three .back)) (q .marks) (q .raises)) ∙ (ap (raisePass act) (sym four) ∙ r .fifth)) in
       record {
         front = five .front;
         back = five .back;
@@ -135,7 +130,7 @@ module _ (a : List ℕ) (s : Continuable a) (b : List ℕ) where
         between = three .whole;
       }
 
-  run-both : (us vs : List ℕ) → Run a us → Run b vs → Run (a ++ b) (us ++ vs)
+  run-both : (us vs : List ℕ) → Run act a us → Run act b vs → Run act (a ++ b) (us ++ vs)
   unfolding assignPass raisePass
   run-both us vs r t =
       let q = s .behind (r .middle) (r .third) in
@@ -143,25 +138,25 @@ module _ (a : List ℕ) (s : Continuable a) (b : List ℕ) where
       ap assignPass (second-join a b (s .first) (s .second))
       ∙ (assign-join (secondText a) (secondText b) (s .third)
       ∙ forget-both (assignments (markedText (secondText a))) (assignments (markedText (secondText b))) _ _ (r .third) (t .third)) in
-      let five : raisePass (fourthText (r .middle ++ t .middle)) ≡ accepted (us ++ vs) =
-      ap raisePass (fourth-join (r .middle) (t .middle) (q .quotes))
-      ∙ (raised-join (fourthText (r .middle)) (fourthText (t .middle)) (q .marks) (q .raises)
-      ∙ forget-both (raise (markedText (fourthText (r .middle)))) (raise (markedText (fourthText (t .middle)))) _ _ (r .fifth) (t .fifth)) in
+      let five : raisePass act (fourthText (r .middle ++ t .middle)) ≡ accepted (us ++ vs) =
+      ap (raisePass act) (fourth-join (r .middle) (t .middle) (q .quotes))
+      ∙ (raised-join act (fourthText (r .middle)) (fourthText (t .middle)) (q .marks) (q .raises)
+      ∙ forget-both (raise act (markedText (fourthText (r .middle)))) (raise act (markedText (fourthText (t .middle)))) _ _ (r .fifth) (t .fifth)) in
       record { middle = r .middle ++ t .middle; third = three; fifth = five }
 
   -- without the size limits: the joined text is accepted exactly if both are, and its result is the two results joined
-  pub unlimited-join : (zs : List ℕ) → (unlimited (a ++ b) ≡ accepted zs) ↔ Both (unlimited a) (unlimited b) zs
+  pub unlimited-join : (zs : List ℕ) → (unlimited act (a ++ b) ≡ accepted zs) ↔ Both (unlimited act a) (unlimited act b) zs
   unlimited-join zs = (
     (λ h.
-        let r = run-split zs (run-only (a ++ b) zs h) in
+        let r = run-split zs (run-only act (a ++ b) zs h) in
         record {
           front = r .front;
           back = r .back;
-          first = run-gives a (r .front) (r .first);
-          second = run-gives b (r .back) (r .second);
+          first = run-gives act a (r .front) (r .first);
+          second = run-gives act b (r .back) (r .second);
           whole = r .whole;
         }),
-    (λ w. run-gives (a ++ b) (w .front ++ w .back) (run-both (w .front) (w .back) (run-only a _ (w .first)) (run-only b _ (w .second)))
+    (λ w. run-gives act (a ++ b) (w .front ++ w .back) (run-both (w .front) (w .back) (run-only act a _ (w .first)) (run-only act b _ (w .second)))
         ∙ ap accepted (sym (w .whole))),
   )
 
@@ -175,59 +170,59 @@ pub record Fits (xs zs middle : List ℕ) : Type 0 where
   pub fits4 : length (fourthText middle) ≤ bufferSize
   pub fits5 : length zs ≤ bufferSize
 
-limited-only : (xs zs : List ℕ) → rewriting xs ≡ accepted zs → (r : Run xs zs) × Fits xs zs (r .middle)
-limited-only xs zs h =
-    let t = accepted-exactly xs zs .0 h in
+limited-only : (act : Level → Action) (xs zs : List ℕ) → rewriting act xs ≡ accepted zs → (r : Run act xs zs) × Fits xs zs (r .middle)
+limited-only act xs zs h =
+    let t = accepted-exactly act xs zs .0 h in
     let three = t .before .before in (
       record {
         middle = after3 xs;
         third = assign-done (after2 xs) (three .noTarget);
-        fifth = raise-done (after4 xs) (t .noClause) ∙ ap accepted (t .text);
+        fifth = raise-done act (after4 xs) (t .noClause) ∙ ap accepted (t .text);
       },
       record {
         fits1 = three .before .fits1;
         fits2 = three .before .fits2;
         fits3 = three .fits3;
         fits4 = t .before .fits4;
-        fits5 = accepted-fits xs zs h;
+        fits5 = accepted-fits act xs zs h;
       },
     )
 
-limited-gives : (xs zs : List ℕ) (r : Run xs zs) → Fits xs zs (r .middle) → rewriting xs ≡ accepted zs
+limited-gives : (act : Level → Action) (xs zs : List ℕ) (r : Run act xs zs) → Fits xs zs (r .middle) → rewriting act xs ≡ accepted zs
 unfolding rewriting requotePass elsifPass selectPass
-limited-gives xs zs r f =
+limited-gives act xs zs r f =
     let one = then-accepted (accepted xs) requotePass xs (requoted xs) refl refl (f .fits1) in
     let two = then-accepted _ elsifPass (requoted xs) (secondText xs) one refl (f .fits2) in
     let three = then-accepted _ assignPass (secondText xs) (r .middle) two (r .third) (f .fits3) in
     let four = then-accepted _ selectPass (r .middle) (fourthText (r .middle)) three refl (f .fits4) in
-    then-accepted _ raisePass (fourthText (r .middle)) zs four (r .fifth) (f .fits5)
+    then-accepted _ (raisePass act) (fourthText (r .middle)) zs four (r .fifth) (f .fits5)
 
 -- with the size limits a text is accepted exactly if it is without them and each pass's result is within the buffer size
-pub limited-exactly : (xs zs : List ℕ) → (rewriting xs ≡ accepted zs) ↔ ((r : Run xs zs) × Fits xs zs (r .middle))
-limited-exactly xs zs = (limited-only xs zs, (λ w. limited-gives xs zs (w .0) (w .1)))
+pub limited-exactly : (act : Level → Action) (xs zs : List ℕ) → (rewriting act xs ≡ accepted zs) ↔ ((r : Run act xs zs) × Fits xs zs (r .middle))
+limited-exactly act xs zs = (limited-only act xs zs, (λ w. limited-gives act xs zs (w .0) (w .1)))
 
 -- what is accepted without the size limits is accepted with them, or is refusal 6
-pub run-limited : (xs zs : List ℕ) → Run xs zs → (rewriting xs ≡ resultTooLong → ⊥) → rewriting xs ≡ accepted zs
-run-limited xs zs r short = go (rewriting xs) refl
+pub run-limited : (act : Level → Action) (xs zs : List ℕ) → Run act xs zs → (rewriting act xs ≡ refused resultTooLong → ⊥) → rewriting act xs ≡ accepted zs
+run-limited act xs zs r short = go (rewriting act xs) refl
   where
-    go : (w : Rewriting) → rewriting xs ≡ w → rewriting xs ≡ accepted zs
+    go : (w : Rewriting) → rewriting act xs ≡ w → rewriting act xs ≡ accepted zs
     go (accepted ws) e =
-        let g : unlimited xs ≡ accepted ws = run-gives xs ws (limited-only xs ws e .0) in
-        e ∙ (sym g ∙ run-gives xs zs r)
-    go (qualifiedTarget q n) e =
-        let t = qualified-exactly xs q n .0 e in
+        let g : unlimited act xs ≡ accepted ws = run-gives act xs ws (limited-only act xs ws e .0) in
+        e ∙ (sym g ∙ run-gives act xs zs r)
+    go (refused (qualifiedTarget q n)) e =
+        let t = qualified-exactly act xs q n .0 e in
         let f = assign-refused (after2 xs) (t .target) (t .first) in
         let g = r .third in
         absurd (apart (cc))
-    go (usingClause c) e =
-        let t = using-exactly xs c .0 e in
+    go (refused (usingClause c)) e =
+        let t = using-exactly act xs c .0 e in
         let f = assign-done (after2 xs) (t .before .before .noTarget) in
         let g = r .third in
         let m : after3 xs ≡ r .middle = cc in
-        let k = raise-refused (after4 xs) c (t .first) in
-        let l : raisePass (after4 xs) ≡ accepted zs = ap (λ (ys : List ℕ). raisePass (fourthText ys)) m ∙ r .fifth in
+        let k = raise-refused act (after4 xs) c (t .first) in
+        let l : raisePass act (after4 xs) ≡ accepted zs = ap (λ (ys : List ℕ). raisePass act (fourthText ys)) m ∙ r .fifth in
         absurd (apart (cc))
-    go resultTooLong e = absurd (short e)
+    go (refused resultTooLong) e = absurd (short e)
 
 fit-front : (a b : List ℕ) → length (a ++ b) ≤ bufferSize → length a ≤ bufferSize
 fit-front a b h = omega (arith, length-append a b)
@@ -235,12 +230,12 @@ fit-front a b h = omega (arith, length-append a b)
 fit-back : (a b : List ℕ) → length (a ++ b) ≤ bufferSize → length b ≤ bufferSize
 fit-back a b h = omega (arith, length-append a b)
 
-module _ (a : List ℕ) (s : Continuable a) (b : List ℕ) where
+module _ (act : Level → Action) (a : List ℕ) (s : Continuable a) (b : List ℕ) where
   -- a joined text that is accepted: both are accepted, and the result is the two results joined
-  pub rewriting-split : (zs : List ℕ) → rewriting (a ++ b) ≡ accepted zs → Both (rewriting a) (rewriting b) zs
+  pub rewriting-split : (zs : List ℕ) → rewriting act (a ++ b) ≡ accepted zs → Both (rewriting act a) (rewriting act b) zs
   rewriting-split zs h =
-      let w = limited-only (a ++ b) zs h in
-      let r = run-split a s b zs (w .0) in
+      let w = limited-only act (a ++ b) zs h in
+      let r = run-split act a s b zs (w .0) in
       let f = w .1 in
       let ma = r .first .middle in
       let mb = r .second .middle in
@@ -254,7 +249,7 @@ module _ (a : List ℕ) (s : Continuable a) (b : List ℕ) where
       record {
         front = r .front;
         back = r .back;
-        first = limited-gives a (r .front) (r .first)
+        first = limited-gives act a (r .front) (r .first)
             (record {
               fits1 = fit-front (requoted a) (requoted b) l1;
               fits2 = fit-front (secondText a) (secondText b) l2;
@@ -262,7 +257,7 @@ module _ (a : List ℕ) (s : Continuable a) (b : List ℕ) where
               fits4 = fit-front (fourthText ma) (fourthText mb) l4;
               fits5 = fit-front (r .front) (r .back) l5;
             });
-        second = limited-gives b (r .back) (r .second)
+        second = limited-gives act b (r .back) (r .second)
             (record {
               fits1 = fit-back (requoted a) (requoted b) l1;
               fits2 = fit-back (secondText a) (secondText b) l2;
@@ -274,14 +269,14 @@ module _ (a : List ℕ) (s : Continuable a) (b : List ℕ) where
       }
 
   -- two accepted texts: the joined text is accepted with the two results joined, unless it is refusal 6
-  pub rewriting-both : (us vs : List ℕ) → rewriting a ≡ accepted us → rewriting b ≡ accepted vs
-      → (rewriting (a ++ b) ≡ resultTooLong → ⊥)
-      → rewriting (a ++ b) ≡ accepted (us ++ vs)
+  pub rewriting-both : (us vs : List ℕ) → rewriting act a ≡ accepted us → rewriting act b ≡ accepted vs
+      → (rewriting act (a ++ b) ≡ refused resultTooLong → ⊥)
+      → rewriting act (a ++ b) ≡ accepted (us ++ vs)
   rewriting-both us vs h k short =
-      run-limited (a ++ b) (us ++ vs) (run-both a s b us vs (limited-only a us h .0) (limited-only b vs k .0)) short
+      run-limited act (a ++ b) (us ++ vs) (run-both act a s b us vs (limited-only act a us h .0) (limited-only act b vs k .0)) short
 
   -- where the joined text is not refusal 6, it is accepted exactly if both are
-  pub rewriting-join : (zs : List ℕ) → (rewriting (a ++ b) ≡ resultTooLong → ⊥) → (rewriting (a ++ b) ≡ accepted zs) ↔ Both (rewriting a) (rewriting b) zs
+  pub rewriting-join : (zs : List ℕ) → (rewriting act (a ++ b) ≡ refused resultTooLong → ⊥) → (rewriting act (a ++ b) ≡ accepted zs) ↔ Both (rewriting act a) (rewriting act b) zs
   rewriting-join zs short = (
     rewriting-split zs,
     (λ w. rewriting-both (w .front) (w .back) (w .first) (w .second) short ∙ ap accepted (sym (w .whole))),

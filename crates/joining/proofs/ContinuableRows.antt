@@ -4,7 +4,8 @@ use mathlib.Core.Path.{_≡_, refl, subst}
 use mathlib.Core.List.{List}
 use Prim.Native.Nat.{ℕ}
 use Rattle.spec.specs.Bytes.{ascii}
-use Rattle.spec.specs.Body.{accepted, assignPass}
+use Rattle.spec.specs.Outcome.{accepted}
+use Rattle.spec.specs.Body.{assignPass}
 use Rattle.spec.specs.Computed.{computed}
 use Rattle.joining.specs.Safe.{endsLevelSafely, safeBehind, raisesSafe}
 use Rattle.joining.specs.Continuable.{secondText, ContinuableBehind, Continuable}

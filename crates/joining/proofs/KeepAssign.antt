@@ -15,7 +15,8 @@ use Rattle.spec.specs.Bytes.{ascii, within, isDigit, isLower, isUpper, isIdent,
 use Rattle.spec.specs.Lists.{isEmpty, takeWhile, dropWhile, dropEnd, all}
 use Rattle.spec.specs.Map.{Marked, live, quoted, byte, lives, frontLive, ofByte}
 use Rattle.spec.specs.Search.{first, starts, needleHere, byteHere, pieces}
-use Rattle.spec.specs.Assignments.{Outcome, done, qualified, clause, _⊕_, trimEnd, trim, Target, assignHere, statementTarget, rightSide, startsName, assignmentAt, assignment, checkedStatement, statement, joinStatements, assignments}
+use Rattle.spec.specs.Outcome.{Outcome, accepted, refused, _⊕_}
+use Rattle.spec.specs.Assignments.{trimEnd, trim, Target, assignHere, statementTarget, rightSide, startsName, assignmentAt, assignment, checkedStatement, statement, joinStatements, assignments}
 use Rattle.spec.specs.Closed.{endsLive}
 use Rattle.spec.specs.Computed.{computed}
 use Rattle.spec.specs.declared.Found.{Found}
@@ -208,16 +209,14 @@ module _ (k : Reading) where
 
   -- ---- all statements
 
-  abbrev Kept : Outcome → Type 0
-  Kept (done t) = Shut k (k .ok) t
-  Kept (qualified q n) = Unit {0}
-  Kept (clause c) = Unit {0}
+  abbrev Kept : Outcome (List Marked) → Type 0
+  Kept (accepted t) = Shut k (k .ok) t
+  Kept (refused f) = Unit {0}
 
   -- a statement's outcome, with a `;` behind it
-  abbrev KeptOne : Outcome → Type 0
-  KeptOne (done t) = Shut k (k .ok) (t ++ (live 59 ∷ []))
-  KeptOne (qualified q n) = Unit {0}
-  KeptOne (clause c) = Unit {0}
+  abbrev KeptOne : Outcome (List Marked) → Type 0
+  KeptOne (accepted t) = Shut k (k .ok) (t ++ (live 59 ∷ []))
+  KeptOne (refused f) = Unit {0}
 
   statement-kept : (t : List Marked) → Piece t → KeptOne (statement t)
   unfolding statement checkedStatement endsLive
@@ -227,34 +226,31 @@ module _ (k : Reading) where
       go none = record { reads = piece-assignment t p; ended = ends-append (assignment t) (live 59 ∷ []) refl }
       go (some r) = tt
 
-  join-last : (o : Outcome) → KeptOne o → Kept (o ⊕ (done (live 59 ∷ []) ⊕ done []))
+  join-last : (o : Outcome (List Marked)) → KeptOne o → Kept (o ⊕ (accepted (live 59 ∷ []) ⊕ accepted []))
   unfolding _⊕_
-  join-last (done t) h = h
-  join-last (qualified q n) h = tt
-  join-last (clause c) h = tt
+  join-last (accepted t) h = h
+  join-last (refused f) h = tt
 
-  join-more : (o r : Outcome) → KeptOne o → Kept r → Kept (o ⊕ (done (live 59 ∷ []) ⊕ r))
+  join-more : (o r : Outcome (List Marked)) → KeptOne o → Kept r → Kept (o ⊕ (accepted (live 59 ∷ []) ⊕ r))
   unfolding _⊕_
-  join-more (done t) (done u) h g =
+  join-more (accepted t) (accepted u) h g =
       subst (λ (z : List Marked). Shut k (k .ok) z) (append-assoc t (live 59 ∷ []) u) (shut-append k (k .ok) (t ++ (live 59 ∷ [])) u h g)
-  join-more (done t) (qualified q n) h g = tt
-  join-more (done t) (clause c) h g = tt
-  join-more (qualified q n) r h g = tt
-  join-more (clause c) r h g = tt
+  join-more (accepted t) (refused f) h g = tt
+  join-more (refused f) r h g = tt
 
-  nothing-done : statement [] ≡ done []
+  nothing-accepted : statement [] ≡ accepted []
   unfolding computed
-  nothing-done = refl
+  nothing-accepted = refl
 
   join-kept : (s r : List Marked) (ss : List (List Marked)) → Statements k (s ∷ r ∷ ss) → Kept (joinStatements (s ∷ r ∷ ss))
   unfolding joinStatements
   join-kept s r [] h =
-      subst (λ (z : List Marked). Kept (statement s ⊕ (done (live 59 ∷ []) ⊕ statement z))) (sym (h .1))
-      (rw nothing-done (join-last (statement s) (statement-kept s (h .0))))
+      subst (λ (z : List Marked). Kept (statement s ⊕ (accepted (live 59 ∷ []) ⊕ statement z))) (sym (h .1))
+      (rw nothing-accepted (join-last (statement s) (statement-kept s (h .0))))
   join-kept s r (q ∷ ss) h = join-more (statement s) (joinStatements (r ∷ q ∷ ss)) (statement-kept s (h .0)) (join-kept r q ss (h .1))
 
   -- pass 3 gives text that is read and ends in a live `;`, or a refusal
-  pub assign-kept : (t u : List Marked) → Shut k (k .ok) t → assignments t ≡ done u → Shut k (k .ok) u
+  pub assign-kept : (t u : List Marked) → Shut k (k .ok) t → assignments t ≡ accepted u → Shut k (k .ok) u
   unfolding assignments
   assign-kept t u h e = subst Kept e (go (pieces (byteHere 59) t) (statements k t h))
     where

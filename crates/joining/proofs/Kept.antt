@@ -10,9 +10,10 @@ use Rattle.spec.specs.Bytes.{within, isDigit, isLower, isUpper, isIdent}
 use Rattle.spec.specs.Map.{Marked, markedText, bytes}
 use Rattle.spec.specs.Requote.{requoted}
 use Rattle.spec.specs.Elsif.{elsif}
-use Rattle.spec.specs.Assignments.{Outcome, done, qualified, clause, assignments}
+use Rattle.spec.specs.Outcome.{Outcome, accepted, refused, forget}
+use Rattle.spec.specs.Assignments.{assignments}
 use Rattle.spec.specs.SelectInto.{quoteWalk, selectInto}
-use Rattle.spec.specs.Body.{accepted, forget, assignPass}
+use Rattle.spec.specs.Body.{assignPass}
 use Rattle.spec.specs.Closed.{endsLive, isClosed}
 use Rattle.joining.specs.Safe.{raisesSafe}
 use Rattle.joining.specs.Continuable.{ContinuableBehind, Continuable}
@@ -46,7 +47,7 @@ first-both a h =
 second-both : (t : List Marked) → Read t → Read (elsif t)
 second-both t b = record { well = elsif-kept well-formed-reading well-speller t (b .well); raise-read = elsif-kept raise-reading raise-read-speller t (b .raise-read) }
 
-third-both : (t u : List Marked) → Read t → assignments t ≡ done u → Read u
+third-both : (t u : List Marked) → Read t → assignments t ≡ accepted u → Read u
 third-both t u b e = record { well = assign-kept well-formed-reading t u (b .well) e; raise-read = assign-kept raise-reading t u (b .raise-read) e }
 
 -- behind pass 4
@@ -70,13 +71,12 @@ after-both t b =
       raises = rw (q, s) (fourth-safe t b);
     }
 
-after-pass : (t : List Marked) → Read t → (A3 : List ℕ) (o : Outcome) → assignments t ≡ o → forget o ≡ accepted A3 → ContinuableBehind A3
+after-pass : (t : List Marked) → Read t → (A3 : List ℕ) (o : Outcome (List Marked)) → assignments t ≡ o → forget o ≡ accepted A3 → ContinuableBehind A3
 unfolding forget
-after-pass t b A3 (done u) e h =
+after-pass t b A3 (accepted u) e h =
     let same : bytes u ≡ A3 = cc in
     subst ContinuableBehind same (after-both u (third-both t u b e))
-after-pass t b A3 (qualified q n) e h = absurd (apart (cc))
-after-pass t b A3 (clause c) e h = absurd (apart (cc))
+after-pass t b A3 (refused f) e h = absurd (apart (cc))
 
 pub continuable : (a : List ℕ) → isClosed a ≡ true → Continuable a
 unfolding isClosed assignPass

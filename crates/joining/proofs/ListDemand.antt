@@ -10,20 +10,22 @@ use lib.ListN.{length, length-append}
 use Rattle.spec.proofs.Apart.{apart}
 use Rattle.spec.proofs.Choice.{and-left, and-right}
 use Rattle.spec.proofs.RefusalLaws.{after2, after3, after4, after5, targetIn, clauseIn, Through2, Through4, Exceeds, in1, in2, in3, in4, in5, assign-done, assign-refused, raise-done, raise-refused, qualified-exactly, using-exactly, too-long-exactly}
-use Rattle.spec.proofs.SearchLaws.{NoHigh, check-only, check-always}
+use Rattle.spec.proofs.SearchLaws.{NoHigh, CheckRefuses, too-long, too-short, not-ascii, check-only, check-always}
 use Rattle.spec.specs.Lists.{all, concat}
 use Rattle.spec.specs.Map.{markedText}
 use Rattle.spec.specs.Requote.{requoted}
 use Rattle.spec.specs.Assignments.{assignments}
-use Rattle.spec.specs.Raise.{raise}
-use Rattle.spec.specs.Body.{bufferSize, Rewriting, accepted, qualifiedTarget, usingClause, resultTooLong, assignPass, raisePass, rewriting}
+use Rattle.spec.specs.Outcome.{qualifiedTarget, usingClause, resultTooLong, accepted, refused, Rewriting}
+use Rattle.spec.specs.Raise.{Level, Action, raise}
+use Rattle.spec.specs.Body.{bufferSize, assignPass, raisePass, rewriting}
 use Rattle.spec.specs.Closed.{isClosed}
-use Rattle.spec.specs.Answers.{textLimit, bodyCheck, resultOf, bodyResult}
+use Rattle.spec.specs.Answers.{textLimit, refusalNumbers, resultOf, areLent, bodyCheck}
 use Rattle.spec.specs.declared.Check.{Check}
 use Rattle.spec.specs.declared.Check.the-variants.{Passed, Refused}
+use Rattle.spec.specs.declared.Refusal.{Refusal}
 use Rattle.spec.specs.declared.Refusal.the-variants.{TextTooLong, BufferTooShort, NotAscii}
 use Rattle.joining.specs.Continuable.{secondText, fourthText, Continuable}
-use Rattle.joining.specs.Call.{Lent, numberOf, rewritten}
+use Rattle.joining.specs.Call.{Lent, checkBy, numberOf, rewritten}
 use Rattle.joining.proofs.Chain.{forget-both, assign-join, second-join, fourth-join, raised-join, rewriting-split, limited-exactly}
 use Rattle.joining.proofs.PassJoin.{requoted-join}
 use Rattle.joining.proofs.Kept.{continuable}
@@ -35,10 +37,10 @@ use Rattle.joining.proofs.Demand.{passes-check, number-passed, number-r
 back-fits : (a b c : List ℕ) → c ≡ a ++ b → length c ≤ bufferSize → bufferSize < length b → ⊥
 back-fits a b c e h k = omega (arith, ap length e, length-append a b)
 
-module _ (a : List ℕ) (s : Continuable a) (us : List ℕ) (r : rewriting a ≡ accepted us) (c : List ℕ) where
+module _ (act : Level → Action) (a : List ℕ) (s : Continuable a) (us : List ℕ) (r : rewriting act a ≡ accepted us) (c : List ℕ) where
   -- the text of a after pass 3
   third : List ℕ
-  third = limited-exactly a us .0 r .0 .middle
+  third = limited-exactly act a us .0 r .0 .middle
 
   -- pass 3 goes through both if it does so behind
   third-text : targetIn (after2 c) ≡ none → assignPass (after2 (a ++ c)) ≡ accepted (third ++ after3 c)
@@ -47,25 +49,25 @@ module _ (a : List ℕ) (s : Continuable a) (us : List ℕ) (r : rewriting a ≡
       ap assignPass (second-join a c (s .first) (s .second))
       ∙ (assign-join (secondText a) (secondText c) (s .third)
       ∙ forget-both (assignments (markedText (secondText a))) (assignments (markedText (secondText c))) _ _
-      (limited-exactly a us .0 r .0 .third) (assign-done (after2 c) e))
+      (limited-exactly act a us .0 r .0 .third) (assign-done (after2 c) e))
 
   -- and what pass 4 gives of both is what it gives of each, joined
   fourth-text : fourthText (third ++ after3 c) ≡ fourthText third ++ after4 c
   unfolding third
-  fourth-text = fourth-join third (after3 c) (s .behind third (limited-exactly a us .0 r .0 .third) .quotes)
+  fourth-text = fourth-join third (after3 c) (s .behind third (limited-exactly act a us .0 r .0 .third) .quotes)
 
   -- pass 5 goes through both if it does so behind
-  fifth-text : clauseIn (after4 c) ≡ none → raisePass (fourthText (third ++ after3 c)) ≡ accepted (us ++ after5 c)
+  fifth-text : clauseIn act (after4 c) ≡ none → raisePass act (fourthText (third ++ after3 c)) ≡ accepted (us ++ after5 act c)
   unfolding raisePass third
   fifth-text e =
-      let q = s .behind third (limited-exactly a us .0 r .0 .third) in
-      ap raisePass fourth-text
-      ∙ (raised-join (fourthText third) (after4 c) (q .marks) (q .raises)
-      ∙ forget-both (raise (markedText (fourthText third))) (raise (markedText (after4 c))) _ _
-      (limited-exactly a us .0 r .0 .fifth) (raise-done (after4 c) e))
+      let q = s .behind third (limited-exactly act a us .0 r .0 .third) in
+      ap (raisePass act) fourth-text
+      ∙ (raised-join act (fourthText third) (after4 c) (q .marks) (q .raises)
+      ∙ forget-both (raise act (markedText (fourthText third))) (raise act (markedText (after4 c))) _ _
+      (limited-exactly act a us .0 r .0 .fifth) (raise-done act (after4 c) e))
 
   -- where passes 1 and 2 keep both within the buffer size, pass 3 refuses nothing behind
-  no-target : Through2 (a ++ c) → Exceeds c → targetIn (after2 c) ≡ none
+  no-target : Through2 (a ++ c) → Exceeds act c → targetIn (after2 c) ≡ none
   no-target t (in1 h) = absurd (back-fits (requoted a) (requoted c) _ (requoted-join a c (s .first)) (t .fits1) h)
   no-target t (in2 f h) = absurd (back-fits (secondText a) (secondText c) _ (second-join a c (s .first) (s .second)) (t .fits2) h)
   no-target t (in3 u e h) = e
@@ -73,16 +75,16 @@ module _ (a : List ℕ) (s : Continuable a) (us : List ℕ) (r : rewriting a ≡
   no-target t (in5 u e h) = u .before .noTarget
 
   -- where passes 1 to 4 do, pass 5 refuses nothing behind
-  after-third : Through4 (a ++ c) → Exceeds c → after3 (a ++ c) ≡ third ++ after3 c
+  after-third : Through4 (a ++ c) → Exceeds act c → after3 (a ++ c) ≡ third ++ after3 c
   after-third t x =
       let f = assign-done (after2 (a ++ c)) (t .before .noTarget) in
       let g = third-text (no-target (t .before .before) x) in
       cc
 
-  no-clause : Through4 (a ++ c) → Exceeds c → clauseIn (after4 c) ≡ none
+  no-clause : Through4 (a ++ c) → Exceeds act c → clauseIn act (after4 c) ≡ none
   no-clause t x = go (after-third t x) x
     where
-      go : after3 (a ++ c) ≡ third ++ after3 c → Exceeds c → clauseIn (after4 c) ≡ none
+      go : after3 (a ++ c) ≡ third ++ after3 c → Exceeds act c → clauseIn act (after4 c) ≡ none
       go m (in1 h) = absurd (back-fits (requoted a) (requoted c) _ (requoted-join a c (s .first)) (t .before .before .fits1) h)
       go m (in2 f h) = absurd (back-fits (secondText a) (secondText c) _ (second-join a c (s .first) (s .second)) (t .before .before .fits2) h)
       go m (in3 u e h) = absurd (back-fits third (after3 c) _ m (t .before .fits3) h)
@@ -90,107 +92,112 @@ module _ (a : List ℕ) (s : Continuable a) (us : List ℕ) (r : rewriting a ≡
       go m (in5 u e h) = e
 
   -- so both joined are refusal 6
-  pub long-behind : rewriting c ≡ resultTooLong → rewriting (a ++ c) ≡ resultTooLong
-  long-behind k = go (too-long-exactly c .0 k) (rewriting (a ++ c)) refl
+  pub long-behind : rewriting act c ≡ refused resultTooLong → rewriting act (a ++ c) ≡ refused resultTooLong
+  long-behind k = go (too-long-exactly act c .0 k) (rewriting act (a ++ c)) refl
     where
-      go : Exceeds c → (w : Rewriting) → rewriting (a ++ c) ≡ w → rewriting (a ++ c) ≡ resultTooLong
+      go : Exceeds act c → (w : Rewriting) → rewriting act (a ++ c) ≡ w → rewriting act (a ++ c) ≡ refused resultTooLong
       go x (accepted zs) e =
-          let f = rewriting-split a s c zs e .second in
+          let f = rewriting-split act a s c zs e .second in
           absurd (apart (cc))
-      go x (qualifiedTarget q n) e =
-          let t = qualified-exactly (a ++ c) q n .0 e in
+      go x (refused (qualifiedTarget q n)) e =
+          let t = qualified-exactly act (a ++ c) q n .0 e in
           let f = assign-refused (after2 (a ++ c)) (t .target) (t .first) in
           let g = third-text (no-target (t .before) x) in
           absurd (apart (cc))
-      go x (usingClause d) e =
-          let t = using-exactly (a ++ c) d .0 e in
-          let f = raise-refused (after4 (a ++ c)) d (t .first) in
-          let m : raisePass (after4 (a ++ c)) ≡ accepted (us ++ after5 c) =
-          ap (λ (ys : List ℕ). raisePass (fourthText ys)) (after-third (t .before) x) ∙ fifth-text (no-clause (t .before) x) in
+      go x (refused (usingClause d)) e =
+          let t = using-exactly act (a ++ c) d .0 e in
+          let f = raise-refused act (after4 (a ++ c)) d (t .first) in
+          let m : raisePass act (after4 (a ++ c)) ≡ accepted (us ++ after5 act c) =
+          ap (λ (ys : List ℕ). raisePass act (fourthText ys)) (after-third (t .before) x) ∙ fifth-text (no-clause (t .before) x) in
           absurd (apart (cc))
-      go x resultTooLong e = e
+      go x (refused resultTooLong) e = e
 
 -- ---- the call
 
 -- the checks pass and the passes give refusal 6
-pub record TooLong (c : List ℕ) : Type 0 where
+pub record TooLong (act : Level → Action) (c : List ℕ) : Type 0 where
   pub fits : length c ≤ textLimit
   pub ascii : NoHigh c
-  pub exceeds : rewriting c ≡ resultTooLong
+  pub exceeds : rewriting act c ≡ refused resultTooLong
 
-module _ (l : Lent) (c : List ℕ) where
+module _ (act : Level → Action) (l : Lent) (c : List ℕ) where
   -- 1 is given past the limit, 6 where the result is too long, and another number else
-  by-limit : {P : Type 0} → (numberOf l c ≡ 1 → textLimit < length c → P) → (numberOf l c ≡ 6 → TooLong c → P)
-      → ((n : ℕ) → numberOf l c ≡ n → (n ≡ 1 → ⊥) → (n ≡ 6 → ⊥) → P)
+  by-limit : {P : Type 0} → (numberOf act l c ≡ 1 → textLimit < length c → P) → (numberOf act l c ≡ 6 → TooLong act c → P)
+      → ((n : ℕ) → numberOf act l c ≡ n → (n ≡ 1 → ⊥) → (n ≡ 6 → ⊥) → P)
       → P
-  unfolding bodyCheck bodyResult resultOf
-  by-limit {P} one six other = by-check (bodyCheck c (l .output) (l .workA) (l .workB)) refl
+  unfolding bodyCheck resultOf
+  by-limit {P} one six other = by-check (checkBy l c) refl
     where
-      by-result : bodyCheck c (l .output) (l .workA) (l .workB) ≡ Passed → (r : Rewriting) → rewriting c ≡ r → P
-      by-result e (accepted zs) q = other 0 (number-passed l c e ∙ rw q refl) (λ z. omega arith) (λ z. omega arith)
-      by-result e (qualifiedTarget a n) q = other 4 (number-passed l c e ∙ rw q refl) (λ z. omega arith) (λ z. omega arith)
-      by-result e (usingClause d) q = other 5 (number-passed l c e ∙ rw q refl) (λ z. omega arith) (λ z. omega arith)
-      by-result e resultTooLong q =
+      by-result : checkBy l c ≡ Passed → (r : Rewriting) → rewriting act c ≡ r → P
+      by-result e (accepted zs) q = other 0 (number-passed act l c e ∙ rw q refl) (λ z. omega arith) (λ z. omega arith)
+      by-result e (refused (qualifiedTarget a n)) q = other 4 (number-passed act l c e ∙ rw q refl) (λ z. omega arith) (λ z. omega arith)
+      by-result e (refused (usingClause d)) q = other 5 (number-passed act l c e ∙ rw q refl) (λ z. omega arith) (λ z. omega arith)
+      by-result e (refused resultTooLong) q =
           let k = check-only textLimit _ c [] Passed e in
-          six (number-passed l c e ∙ rw q refl) (record { fits = k .0; ascii = k .2; exceeds = q })
+          six (number-passed act l c e ∙ rw q refl) (record { fits = k .0; ascii = k .2; exceeds = q })
 
-      by-check : (k : Check) → bodyCheck c (l .output) (l .workA) (l .workB) ≡ k → P
-      by-check Passed e = by-result e (rewriting c) refl
-      by-check (Refused TextTooLong) e =
-          one (number-refused l c TextTooLong e) (check-only textLimit _ c [] (Refused TextTooLong) e)
-      by-check (Refused BufferTooShort) e = other 3 (number-refused l c BufferTooShort e) (λ z. omega arith) (λ z. omega arith)
-      by-check (Refused (NotAscii i)) e = other 2 (number-refused l c (NotAscii i) e) (λ z. omega arith) (λ z. omega arith)
+      by-check : (k : Check) → checkBy l c ≡ k → P
+      by-check Passed e = by-result e (rewriting act c) refl
+      by-check (Refused f) e = refuses (check-only textLimit _ c [] (Refused f) e)
+        where
+          number : (g : Refusal) → f ≡ g → numberOf act l c ≡ refusalNumbers g .number
+          number g q = number-refused act l c f e ∙ ap (λ (r : Refusal). refusalNumbers r .number) q
 
-  one-only : numberOf l c ≡ 1 → textLimit < length c
+          refuses : CheckRefuses textLimit (areLent (l .output) (l .work) (l .spare)) c [] f → P
+          refuses (too-long q h) = one (number TextTooLong q) h
+          refuses (too-short q h n) = other 3 (number BufferTooShort q) (λ z. omega arith) (λ z. omega arith)
+          refuses (not-ascii {i} q h y w) = other 2 (number (NotAscii i) q) (λ z. omega arith) (λ z. omega arith)
+
+  one-only : numberOf act l c ≡ 1 → textLimit < length c
   one-only h = by-limit (λ e q. q) (λ e q. absurd (omega arith)) (λ n e p q. absurd (p (sym e ∙ h)))
 
-  one-always : textLimit < length c → numberOf l c ≡ 1
+  one-always : textLimit < length c → numberOf act l c ≡ 1
   unfolding bodyCheck
-  one-always h = number-refused l c TextTooLong (check-always textLimit _ c [] (Refused TextTooLong) h)
+  one-always h = number-refused act l c TextTooLong (check-always textLimit _ c [] (Refused TextTooLong) (too-long refl h))
 
-  six-only : numberOf l c ≡ 6 → TooLong c
+  six-only : numberOf act l c ≡ 6 → TooLong act c
   six-only h = by-limit (λ e q. absurd (omega arith)) (λ e q. q) (λ n e p q. absurd (q (sym e ∙ h)))
 
-  six-always : TooLong c → numberOf l c ≡ 6
-  unfolding bodyResult resultOf
-  six-always t = number-passed l c (passes-check l c (t .fits) (t .ascii)) ∙ rw (t .exceeds) refl
+  six-always : TooLong act c → numberOf act l c ≡ 6
+  unfolding resultOf
+  six-always t = number-passed act l c (passes-check act l c (t .fits) (t .ascii)) ∙ rw (t .exceeds) refl
 
   -- where the call gives 1 it is past the limit, and where it gives 6 the result is too long, and only there
-  pub one-exactly : (numberOf l c ≡ 1) ↔ (textLimit < length c)
+  pub one-exactly : (numberOf act l c ≡ 1) ↔ (textLimit < length c)
   one-exactly = (one-only, one-always)
 
-  pub six-exactly : (numberOf l c ≡ 6) ↔ TooLong c
+  pub six-exactly : (numberOf act l c ≡ 6) ↔ TooLong act c
   six-exactly = (six-only, six-always)
 
 -- what meets a size limit meets one behind an accepted continuable body
-module _ (l : Lent) (a : List ℕ) (s : Continuable a) (z : numberOf l a ≡ 0) (c : List ℕ) where
-  pub one-behind : numberOf l c ≡ 1 → numberOf l (a ++ c) ≡ 1
-  one-behind h = one-always l (a ++ c) (omega (arith, one-only l c h, length-append a c))
+module _ (act : Level → Action) (l : Lent) (a : List ℕ) (s : Continuable a) (z : numberOf act l a ≡ 0) (c : List ℕ) where
+  pub one-behind : numberOf act l c ≡ 1 → numberOf act l (a ++ c) ≡ 1
+  one-behind h = one-always act l (a ++ c) (omega (arith, one-only act l c h, length-append a c))
 
-  pub six-behind : (numberOf l (a ++ c) ≡ 1 → ⊥) → numberOf l c ≡ 6 → numberOf l (a ++ c) ≡ 6
+  pub six-behind : (numberOf act l (a ++ c) ≡ 1 → ⊥) → numberOf act l c ≡ 6 → numberOf act l (a ++ c) ≡ 6
   six-behind one h =
-      let t = zero-taken l a z in
-      let k = six-only l c h in
-      six-always l (a ++ c)
+      let t = zero-taken act l a z in
+      let k = six-only act l c h in
+      six-always act l (a ++ c)
       (record {
-        fits = not-one l (a ++ c) one;
+        fits = not-one act l (a ++ c) one;
         ascii = high-both a c (t .1 .ascii) (k .ascii);
-        exceeds = long-behind a s (t .0) (t .1 .result) c (k .exceeds);
+        exceeds = long-behind act a s (t .0) (t .1 .result) c (k .exceeds);
       })
 
 -- ---- the list
 
-module _ (l : Lent) (b : List ℕ) where
+module _ (act : Level → Action) (l : Lent) (b : List ℕ) where
   -- every body of the list, and the one behind it, gives 0
   abbrev pub AllZero : List (List ℕ) → Type 0
-  AllZero bodies = ((a : List ℕ) → List·Memᴰ a bodies → numberOf l a ≡ 0) × (numberOf l b ≡ 0)
+  AllZero bodies = ((a : List ℕ) → List·Memᴰ a bodies → numberOf act l a ≡ 0) × (numberOf act l b ≡ 0)
 
   -- the list's theorem, of the whole text
   abbrev Joins : List (List ℕ) → List ℕ → Type 0
   Joins bodies whole =
-      (numberOf l whole ≡ 1 → ⊥) → (numberOf l whole ≡ 6 → ⊥)
-      → ((numberOf l whole ≡ 0) ↔ AllZero bodies)
-      × (numberOf l whole ≡ 0 → rewritten l whole ≡ concat (map (rewritten l) bodies) ++ rewritten l b)
+      (numberOf act l whole ≡ 1 → ⊥) → (numberOf act l whole ≡ 6 → ⊥)
+      → ((numberOf act l whole ≡ 0) ↔ AllZero bodies)
+      × (numberOf act l whole ≡ 0 → rewritten act l whole ≡ concat (map (rewritten act l) bodies) ++ rewritten act l b)
 
   -- one closed body more in front
   step : (a : List ℕ) (bodies : List (List ℕ)) (c : List ℕ) → isClosed a ≡ true → Joins bodies c → Joins (a ∷ bodies) (a ++ c)
@@ -200,39 +207,39 @@ module _ (l : Lent) (b : List ℕ) where
       s : Continuable a
       s = continuable a k
 
-      behind : numberOf l c ≡ 0 → ((numberOf l c ≡ 0) ↔ AllZero bodies) × (numberOf l c ≡ 0 → rewritten l c ≡ concat (map (rewritten l) bodies) ++ rewritten l b)
+      behind : numberOf act l c ≡ 0 → ((numberOf act l c ≡ 0) ↔ AllZero bodies) × (numberOf act l c ≡ 0 → rewritten act l c ≡ concat (map (rewritten act l) bodies) ++ rewritten act l b)
       behind h = more (λ e. omega arith) (λ e. omega arith)
 
-      only : numberOf l (a ++ c) ≡ 0 → AllZero (a ∷ bodies)
+      only : numberOf act l (a ++ c) ≡ 0 → AllZero (a ∷ bodies)
       only h =
-          let w = joined-zero l a s c h in
+          let w = joined-zero act l a s c h in
           let m = behind (w .1) .0 .0 (w .1) in
-          ((λ d i. ⊎-elim (λ e. ap (numberOf l) e ∙ w .0) (λ j. m .0 d j) (List·Memᴰ·cases-cons i)), m .1)
+          ((λ d i. ⊎-elim (λ e. ap (numberOf act l) e ∙ w .0) (λ j. m .0 d j) (List·Memᴰ·cases-cons i)), m .1)
 
-      always : AllZero (a ∷ bodies) → numberOf l (a ++ c) ≡ 0
+      always : AllZero (a ∷ bodies) → numberOf act l (a ++ c) ≡ 0
       always z =
           let front = z .0 a (List·Memᴰ·head refl) in
-          let m = more (λ e. one (one-behind l a s front c e)) (λ e. six (six-behind l a s front c one e)) in
-          both-zero l a s c one six front (m .0 .1 ((λ d i. z .0 d (List·Memᴰ·tail i)), z .1))
+          let m = more (λ e. one (one-behind act l a s front c e)) (λ e. six (six-behind act l a s front c one e)) in
+          both-zero act l a s c one six front (m .0 .1 ((λ d i. z .0 d (List·Memᴰ·tail i)), z .1))
 
-      text : numberOf l (a ++ c) ≡ 0 → rewritten l (a ++ c) ≡ concat (map (rewritten l) (a ∷ bodies)) ++ rewritten l b
+      text : numberOf act l (a ++ c) ≡ 0 → rewritten act l (a ++ c) ≡ concat (map (rewritten act l) (a ∷ bodies)) ++ rewritten act l b
       text h =
-          let w = joined-zero l a s c h in
-          joined-text l a s c h
-          ∙ (ap (λ (ys : List ℕ). rewritten l a ++ ys) (behind (w .1) .1 (w .1))
-          ∙ sym (append-assoc (rewritten l a) (concat (map (rewritten l) bodies)) (rewritten l b)))
+          let w = joined-zero act l a s c h in
+          joined-text act l a s c h
+          ∙ (ap (λ (ys : List ℕ). rewritten act l a ++ ys) (behind (w .1) .1 (w .1))
+          ∙ sym (append-assoc (rewritten act l a) (concat (map (rewritten act l) bodies)) (rewritten act l b)))
 
 -- Demand 3 for a list, in its own words: for closed bodies one after the other and any body b behind them, where the call on
 -- the whole meets no size limit, it gives 0 exactly if it gives 0 for each of the bodies and for b, and then the whole's
 -- rewriting is the rewritings one after the other.
-pub joined-list : (l : Lent) (bodies : List (List ℕ)) (b : List ℕ) → all isClosed bodies ≡ true
-    → (numberOf l (concat bodies ++ b) ≡ 1 → ⊥)
-    → (numberOf l (concat bodies ++ b) ≡ 6 → ⊥)
-    → ((numberOf l (concat bodies ++ b) ≡ 0) ↔ (((a : List ℕ) → List·Memᴰ a bodies → numberOf l a ≡ 0) × (numberOf l b ≡ 0)))
-    × (numberOf l (concat bodies ++ b) ≡ 0 → rewritten l (concat bodies ++ b) ≡ concat (map (rewritten l) bodies) ++ rewritten l b)
+pub joined-list : (act : Level → Action) (l : Lent) (bodies : List (List ℕ)) (b : List ℕ) → all isClosed bodies ≡ true
+    → (numberOf act l (concat bodies ++ b) ≡ 1 → ⊥)
+    → (numberOf act l (concat bodies ++ b) ≡ 6 → ⊥)
+    → ((numberOf act l (concat bodies ++ b) ≡ 0) ↔ (((a : List ℕ) → List·Memᴰ a bodies → numberOf act l a ≡ 0) × (numberOf act l b ≡ 0)))
+    × (numberOf act l (concat bodies ++ b) ≡ 0 → rewritten act l (concat bodies ++ b) ≡ concat (map (rewritten act l) bodies) ++ rewritten act l b)
 unfolding all concat
-joined-list l [] b k = λ one six. (((λ h. ((λ a i. absurd (List·Memᴰ·not-nil i)), h)), (λ z. z .1)), (λ h. refl))
-joined-list l (a ∷ bodies) b k =
+joined-list act l [] b k = λ one six. (((λ h. ((λ a i. absurd (List·Memᴰ·not-nil i)), h)), (λ z. z .1)), (λ h. refl))
+joined-list act l (a ∷ bodies) b k =
     rw (append-assoc a (concat bodies) b)
-    (step l b a bodies (concat bodies ++ b) (and-left (isClosed a) (all isClosed bodies) k)
-    (joined-list l bodies b (and-right (isClosed a) (all isClosed bodies) k)))
+    (step act l b a bodies (concat bodies ++ b) (and-left (isClosed a) (all isClosed bodies) k)
+    (joined-list act l bodies b (and-right (isClosed a) (all isClosed bodies) k)))

@@ -20,7 +20,8 @@ use Rattle.spec.specs.Map.{Marked, live, quoted, byte, lives, markedText, isLiv
 use Rattle.spec.specs.Search.{startsIgnoringCase, wordHere, byteHere, ontoFirst, piecesFrom, pieces, first, firstFrom}
 use Rattle.spec.specs.Requote.{requoteLexeme, requoted}
 use Rattle.spec.specs.Elsif.{elsifFrom, elsif}
-use Rattle.spec.specs.Assignments.{Outcome, done, qualified, clause, _⊕_, orElse, assignTarget, equalsTarget, markedTarget, statementTarget, assignment, assignmentAt, checkedStatement, statement, joinStatements, assignments}
+use Rattle.spec.specs.Outcome.{Outcome, accepted, refused, _⊕_}
+use Rattle.spec.specs.Assignments.{orElse, assignTarget, equalsTarget, markedTarget, statementTarget, assignment, assignmentAt, checkedStatement, statement, joinStatements, assignments}
 use Rattle.spec.specs.SelectInto.{quoteAfter, quoteWalk, selectStatement, joinSelects, selectInto}
 use Rattle.spec.specs.Closed.{endsLive}
 use Rattle.joining.proofs.SpanJoin.{lexemes-join, ends-split}
@@ -185,24 +186,20 @@ pieces-at back (x ∷ s) u =
 
 -- ---- pass 3
 
-pub outcome-nil : (o : Outcome) → o ⊕ done [] ≡ o
+pub outcome-nil : (o : Outcome (List Marked)) → o ⊕ accepted [] ≡ o
 unfolding _⊕_
-outcome-nil (done t) = ap done (append-nil t)
-outcome-nil (qualified q n) = refl
-outcome-nil (clause c) = refl
+outcome-nil (accepted t) = ap accepted (append-nil t)
+outcome-nil (refused r) = refl
 
-pub outcome-assoc : (o p q : Outcome) → (o ⊕ p) ⊕ q ≡ o ⊕ (p ⊕ q)
+pub outcome-assoc : (o p q : Outcome (List Marked)) → (o ⊕ p) ⊕ q ≡ o ⊕ (p ⊕ q)
 unfolding _⊕_
-outcome-assoc (done t) (done u) (done v) = ap done (append-assoc t u v)
-outcome-assoc (done t) (done u) (qualified q n) = refl
-outcome-assoc (done t) (done u) (clause c) = refl
-outcome-assoc (done t) (qualified q n) o = refl
-outcome-assoc (done t) (clause c) o = refl
-outcome-assoc (qualified q n) p o = refl
-outcome-assoc (clause c) p o = refl
+outcome-assoc (accepted t) (accepted u) (accepted v) = ap accepted (append-assoc t u v)
+outcome-assoc (accepted t) (accepted u) (refused r) = refl
+outcome-assoc (accepted t) (refused r) o = refl
+outcome-assoc (refused r) p o = refl
 
 -- the empty statement adds nothing
-statement-nil : statement [] ≡ done []
+statement-nil : statement [] ≡ accepted []
 unfolding statement checkedStatement statementTarget orElse assignTarget equalsTarget markedTarget assignment assignmentAt first firstFrom isEmpty takeWhile dropWhile
 statement-nil = refl
 

@@ -22,8 +22,8 @@ use Rattle.spec.specs.Lists.{takeWhile, dropWhile, all}
 use Rattle.spec.specs.Spans.{opensDollar, kindAt, spanOf, spanAt, spanLen}
 use Rattle.spec.specs.Map.{Marked, live, quoted, byte, bytes, mark, markedText, isLiveByte, frontByte, frontLive, ofByte}
 use Rattle.spec.specs.Search.{startsIgnoringCase, wordHere}
-use Rattle.spec.specs.Assignments.{Outcome, done, qualified, clause, _⊕_}
-use Rattle.spec.specs.Raise.{passed, Level, exception, notice, warning, debug, log, info, LevelWord, levelWords, levelIn, endsLevel, isException, levelLen, contentOf, raisedAt, Part, kept, raised, raisesFrom, partText, joinParts, raise}
+use Rattle.spec.specs.Outcome.{Outcome, accepted, refused, _⊕_}
+use Rattle.spec.specs.Raise.{passed, Level, exception, notice, warning, debug, log, info, LevelWord, levelWords, levelIn, endsLevel, isException, levelLen, contentOf, Action, raisedAt, Token, kept, raised, raisesFrom, tokenText, joinTokens, raise}
 use Rattle.spec.specs.Closed.{endsLive}
 use Rattle.spec.specs.declared.Span.the-variants.{Code}
 use Rattle.joining.specs.Safe.{endsLevelSafely, levelSafe, safeBehind, raisesSafe}
@@ -364,11 +364,11 @@ sep-level t h =
     and-right (leb 2 (length t)) more (and-right o (leb 2 (length t) && more) h)
 
 -- what becomes of the RAISE at the front of t is the same with u behind, and it ends within t
-record Kept (t u : List Marked) : Type 0 where
-  same : raisedAt (levelIn levelWords (drop 6 (t ++ u))) (t ++ u) ≡ raisedAt (levelIn levelWords (drop 6 t)) t
-  within : raisedAt (levelIn levelWords (drop 6 t)) t .length ≤ length t
+record Kept (act : Level → Action) (t u : List Marked) : Type 0 where
+  same : raisedAt act (levelIn levelWords (drop 6 (t ++ u))) (t ++ u) ≡ raisedAt act (levelIn levelWords (drop 6 t)) t
+  within : raisedAt act (levelIn levelWords (drop 6 t)) t .length ≤ length t
 
-module _ (xs : List ℕ) (u : List Marked) (ends : endsLive (marksFrom 0 xs) ≡ true) (six : 6 < length xs)
+module _ (act : Level → Action) (xs : List ℕ) (u : List Marked) (ends : endsLive (marksFrom 0 xs) ≡ true) (six : 6 < length xs)
     (visits : drop 6 (marksFrom 0 xs) ≡ marksFrom 0 (drop 6 xs)) where
   six-marks : 6 ≤ length (marksFrom 0 xs)
   six-marks = rw (marks-length 0 xs) (omega arith)
@@ -380,7 +380,7 @@ module _ (xs : List ℕ) (u : List Marked) (ends : endsLive (marksFrom 0 xs) ≡
   six-ends = ap endsLive (sym visits) ∙ ends-drop 6 (marksFrom 0 xs) ends (rw (marks-length 0 xs) six)
 
   level-known : (o : Option Level) → levelIn levelWords (marksFrom 0 (drop 6 xs)) ≡ o → levelSafe o (marksFrom 0 (drop 6 xs)) ≡ true
-      → (raisedAt o (marksFrom 0 xs ++ u) ≡ raisedAt o (marksFrom 0 xs)) × (raisedAt o (marksFrom 0 xs) .length ≤ length xs)
+      → (raisedAt act o (marksFrom 0 xs ++ u) ≡ raisedAt act o (marksFrom 0 xs)) × (raisedAt act o (marksFrom 0 xs) .length ≤ length xs)
   unfolding raisedAt
   level-known none e s =
       (ap (λ (l : List Marked). record { length = 6; fate = passed l }) (take-append-le 6 (marksFrom 0 xs) u six-marks), omega arith)
@@ -400,12 +400,12 @@ module _ (xs : List ℕ) (u : List Marked) (ends : endsLive (marksFrom 0 xs) ≡
         rw (n2, d2) (omega (arith, content-short ys here, length-drop n (drop 6 xs), length-drop 6 xs)),
       )
 
-found-kept : (xs : List ℕ) (u : List Marked) (p : ℕ) → endsLive (marksFrom 0 xs) ≡ true
+found-kept : (act : Level → Action) (xs : List ℕ) (u : List Marked) (p : ℕ) → endsLive (marksFrom 0 xs) ≡ true
     → wordHere isWord (ascii "RAISE") p (marksFrom 0 xs) ≡ true
     → safeBehind (drop 5 (marksFrom 0 xs)) ≡ true
-    → Kept (marksFrom 0 xs) u
+    → Kept act (marksFrom 0 xs) u
 unfolding all opensNone upper isLower within
-found-kept xs u p ends w s =
+found-kept act xs u p ends w s =
     let five : drop 5 (marksFrom 0 xs) ≡ marksFrom 0 (drop 5 xs) = starts-visits (ascii "RAISE") xs refl (word-in isWord (ascii "RAISE") p (marksFrom 0 xs) w) in
     let t = marksFrom 0 (drop 5 xs) in
     let safe : safeBehind t ≡ true = rw five at s in
@@ -415,9 +415,9 @@ found-kept xs u p ends w s =
     sym (drop-drop 1 5 (marksFrom 0 xs)) ∙ (ap (drop 1) five ∙ (one ∙ ap (marksFrom 0) (drop-drop 1 5 xs))) in
     let one6 : drop 1 t ≡ marksFrom 0 (drop 6 xs) = one ∙ ap (marksFrom 0) (drop-drop 1 5 xs) in
     let level : levelSafe (levelIn levelWords (marksFrom 0 (drop 6 xs))) (marksFrom 0 (drop 6 xs)) ≡ true = rw one6 at (sep-level t safe) in
-    let known = level-known xs u ends room visits (levelIn levelWords (marksFrom 0 (drop 6 xs))) refl level in
+    let known = level-known act xs u ends room visits (levelIn levelWords (marksFrom 0 (drop 6 xs))) refl level in
     let l1 : levelIn levelWords (drop 6 (marksFrom 0 xs ++ u)) ≡ levelIn levelWords (marksFrom 0 (drop 6 xs)) =
-    ap (levelIn levelWords) (six-more xs u ends room visits) ∙ level-keep (marksFrom 0 (drop 6 xs)) u (six-ends xs u ends room visits) in
+    ap (levelIn levelWords) (six-more act xs u ends room visits) ∙ level-keep (marksFrom 0 (drop 6 xs)) u (six-ends act xs u ends room visits) in
     let l2 : levelIn levelWords (drop 6 (marksFrom 0 xs)) ≡ levelIn levelWords (marksFrom 0 (drop 6 xs)) = ap (levelIn levelWords) visits in
     record { same = rw (l1, l2) (known .0); within = rw (l2, marks-length 0 xs) (known .1) }
 
@@ -443,21 +443,21 @@ raise-keep p t u =
     t
 
 -- one byte of the search, the search behind it being known for every number of bytes to pass
-turn : (k p : ℕ) (x : Marked) (t u : List Marked)
+turn : (act : Level → Action) (k p : ℕ) (x : Marked) (t u : List Marked)
     → wordHere isWord (ascii "RAISE") p (x ∷ (t ++ u)) ≡ wordHere isWord (ascii "RAISE") p (x ∷ t)
-    → (wordHere isWord (ascii "RAISE") p (x ∷ t) ≡ true → Kept (x ∷ t) u)
-    → ((j : ℕ) → j ≤ length t → raisesFrom j (byte x) (t ++ u) ≡ raisesFrom j (byte x) t ++ raisesFrom 0 59 u)
+    → (wordHere isWord (ascii "RAISE") p (x ∷ t) ≡ true → Kept act (x ∷ t) u)
+    → ((j : ℕ) → j ≤ length t → raisesFrom act j (byte x) (t ++ u) ≡ raisesFrom act j (byte x) t ++ raisesFrom act 0 59 u)
     → k ≤ suc (length t)
-    → raisesFrom k p (x ∷ (t ++ u)) ≡ raisesFrom k p (x ∷ t) ++ raisesFrom 0 59 u
+    → raisesFrom act k p (x ∷ (t ++ u)) ≡ raisesFrom act k p (x ∷ t) ++ raisesFrom act 0 59 u
 unfolding raisesFrom
-turn zero p x t u f firm ih h =
+turn act zero p x t u f keeps ih h =
     by (wordHere isWord (ascii "RAISE") p (x ∷ t))
     (λ e.
-    let k = firm e in
-    let n = raisedAt (levelIn levelWords (drop 5 t)) (x ∷ t) .length - 1 in
-    rw (f, e, k .same) (ap (λ (l : List Part). raised (raisedAt (levelIn levelWords (drop 5 t)) (x ∷ t)) ∷ l) (ih n (omega (arith, k .within)))))
-    (λ e. rw (f, e) (ap (λ (l : List Part). kept x ∷ l) (ih 0 zero-le)))
-turn (suc k) p x t u f firm ih h = ih k (le-of-suc-le-suc h)
+    let k = keeps e in
+    let n = raisedAt act (levelIn levelWords (drop 5 t)) (x ∷ t) .length - 1 in
+    rw (f, e, k .same) (ap (λ (l : List Token). raised (raisedAt act (levelIn levelWords (drop 5 t)) (x ∷ t)) ∷ l) (ih n (omega (arith, k .within)))))
+    (λ e. rw (f, e) (ap (λ (l : List Token). kept x ∷ l) (ih 0 zero-le)))
+turn act (suc k) p x t u f keeps ih h = ih k (le-of-suc-le-suc h)
 
 quoted-word : (set : ℕ → Bool) (w : List ℕ) (p c : ℕ) (t : List Marked) → wordHere set w p (quoted c ∷ t) ≡ false
 unfolding wordHere frontLive
@@ -468,10 +468,10 @@ unfolding endsLive
 last-byte (live c) h = eqb-true c 59 h
 last-byte (quoted c) h = absurd (false≢true h)
 
-module _ (u : List Marked) where
+module _ (act : Level → Action) (u : List Marked) where
   -- the search over t and u, however many bytes of a RAISE are still to pass, is that over t and then that over u
   abbrev Splits : ℕ → List Marked → Type 0
-  Splits p t = (k : ℕ) → k ≤ length t → raisesFrom k p (t ++ u) ≡ raisesFrom k p t ++ raisesFrom 0 59 u
+  Splits p t = (k : ℕ) → k ≤ length t → raisesFrom act k p (t ++ u) ≡ raisesFrom act k p t ++ raisesFrom act 0 59 u
 
   splits-end : (p : ℕ) → p ≡ 59 → Splits p []
   unfolding raisesFrom
@@ -497,42 +497,41 @@ module _ (u : List Marked) where
       let x = mark (spanFlag (spanAt (c ∷ cs))) c in
       let j = spanLen (spanAt (c ∷ cs)) - 1 in
       let t = marksFrom j cs in
-      turn k p x t u (raise-keep p (x ∷ t) u h)
-      (λ w. found-kept (c ∷ cs) u p h w (safe-here p x t s w))
+      turn act k p x t u (raise-keep p (x ∷ t) u h)
+      (λ w. found-kept act (c ∷ cs) u p h w (safe-here p x t s w))
       (splits-behind x j cs (λ q e f. splits-walk j cs q e f) h (safe-more p x t s))
       n
   splits-walk (suc j) (c ∷ cs) p h s k n =
       let t = marksFrom j cs in
-      turn k p (quoted c) t u (raise-keep p (quoted c ∷ t) u h)
+      turn act k p (quoted c) t u (raise-keep p (quoted c ∷ t) u h)
       (λ w. absurd (false≢true (sym (quoted-word isWord (ascii "RAISE") p c t) ∙ w)))
       (splits-behind (quoted c) j cs (λ q e f. splits-walk j cs q e f) h (safe-more p (quoted c) t s))
       n
 
-raises-fresh : (t : List Marked) → raisesFrom 0 59 t ≡ raisesFrom 0 0 t
+raises-fresh : (act : Level → Action) (t : List Marked) → raisesFrom act 0 59 t ≡ raisesFrom act 0 0 t
 unfolding raisesFrom
-raises-fresh [] = refl
-raises-fresh (x ∷ t) = rw (word-fresh (ascii "RAISE") (x ∷ t))
+raises-fresh act [] = refl
+raises-fresh act (x ∷ t) = rw (word-fresh (ascii "RAISE") (x ∷ t))
 
-outcome-none : (o : Outcome) → done [] ⊕ o ≡ o
+outcome-none : (o : Outcome (List Marked)) → accepted [] ⊕ o ≡ o
 unfolding _⊕_
-outcome-none (done t) = refl
-outcome-none (qualified q n) = refl
-outcome-none (clause c) = refl
+outcome-none (accepted t) = refl
+outcome-none (refused r) = refl
 
-parts-append : (ps qs : List Part) → joinParts (ps ++ qs) ≡ joinParts ps ⊕ joinParts qs
-unfolding joinParts
-parts-append [] qs = sym (outcome-none (joinParts qs))
-parts-append (p ∷ ps) qs = rw (parts-append ps qs) (sym (outcome-assoc (partText p) (joinParts ps) (joinParts qs)))
+tokens-append : (ps qs : List Token) → joinTokens (ps ++ qs) ≡ joinTokens ps ⊕ joinTokens qs
+unfolding joinTokens
+tokens-append [] qs = sym (outcome-none (joinTokens qs))
+tokens-append (p ∷ ps) qs = rw (tokens-append ps qs) (sym (outcome-assoc (tokenText p) (joinTokens ps) (joinTokens qs)))
 
 -- whatever marked text stands behind
-pub raise-at : (a : List ℕ) (u : List Marked) → endsLive (markedText a) ≡ true → raisesSafe 0 (markedText a) ≡ true
-    → raise (markedText a ++ u) ≡ raise (markedText a) ⊕ raise u
+pub raise-at : (act : Level → Action) (a : List ℕ) (u : List Marked) → endsLive (markedText a) ≡ true → raisesSafe 0 (markedText a) ≡ true
+    → raise act (markedText a ++ u) ≡ raise act (markedText a) ⊕ raise act u
 unfolding raise
-raise-at a u h s =
+raise-at act a u h s =
     let m = marks-text a in
-    let e = splits-walk u 0 a 0 (rw m at h) (rw m at s) 0 zero-le in
-    rw m (ap joinParts e ∙ (rw (raises-fresh u) (parts-append (raisesFrom 0 0 (marksFrom 0 a)) (raisesFrom 0 0 u))))
+    let e = splits-walk act u 0 a 0 (rw m at h) (rw m at s) 0 zero-le in
+    rw m (ap joinTokens e ∙ (rw (raises-fresh act u) (tokens-append (raisesFrom act 0 0 (marksFrom 0 a)) (raisesFrom act 0 0 u))))
 
-pub raise-join : (a b : List ℕ) → endsLive (markedText a) ≡ true → raisesSafe 0 (markedText a) ≡ true
-    → raise (markedText (a ++ b)) ≡ raise (markedText a) ⊕ raise (markedText b)
-raise-join a b h s = ap raise (marks-join a b h) ∙ raise-at a (markedText b) h s
+pub raise-join : (act : Level → Action) (a b : List ℕ) → endsLive (markedText a) ≡ true → raisesSafe 0 (markedText a) ≡ true
+    → raise act (markedText (a ++ b)) ≡ raise act (markedText a) ⊕ raise act (markedText b)
+raise-join act a b h s = ap (raise act) (marks-join a b h) ∙ raise-at act a (markedText b) h s

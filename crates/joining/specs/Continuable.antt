@@ -7,7 +7,8 @@ use Rattle.spec.specs.Map.{bytes, markedText}
 use Rattle.spec.specs.Requote.{requoted}
 use Rattle.spec.specs.Elsif.{elsif}
 use Rattle.spec.specs.SelectInto.{quoteWalk, selectInto}
-use Rattle.spec.specs.Body.{accepted, assignPass}
+use Rattle.spec.specs.Outcome.{accepted}
+use Rattle.spec.specs.Body.{assignPass}
 use Rattle.spec.specs.Closed.{endsLive}
 use Rattle.joining.specs.Safe.{raisesSafe}
 

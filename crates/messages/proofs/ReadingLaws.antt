@@ -18,8 +18,8 @@ use Rattle.spec.specs.Lists.{takeWhile}
 use Rattle.spec.specs.Map.{Marked, bytes, lives, ofByte}
 use Rattle.spec.specs.Search.{startsIgnoringCase}
 use Rattle.spec.specs.Assignments.{trim}
-use Rattle.spec.specs.Body.{accepted, forget}
-use Rattle.spec.specs.Raise.{Level, exception, notice, warning, debug, log, info, levelWords, levelIn, endsLevel, isException, levelLen, drops, actionOf, contentOf, actionFate, fateText, raisedAt}
+use Rattle.spec.specs.Outcome.{accepted, forget}
+use Rattle.spec.specs.Raise.{Level, exception, notice, warning, debug, log, info, levelWords, levelIn, endsLevel, isException, levelLen, actionOf, contentOf, actionFate, fateText, raisedAt}
 use Rattle.messages.specs.declared.RaiseLevel.the-variants as level
 use Rattle.messages.specs.declared.RaiseFate.the-variants.{Aborts, Dropped, Passed}
 use Rattle.messages.specs.Readings.{levelFound, trimmed, contentIn, abortOf, Reads}
@@ -117,17 +117,9 @@ module _ (t : List Marked) (xs : List ℕ) (e : bytes t ≡ xs) where
       ∙ ap length (bytes-while f (drop 6 t) ∙ ap (takeWhile f) (bytes-drop 6 t ∙ ap (drop 6) e)))
       ∙ sym p in
       record {
-        text = rw (drop-action l q) refl;
+        text = rw q refl;
         ends = rw (q, long, content-at k) h;
       }
-    where
-      drop-action : (l : Level) → isException l ≡ false → actionOf l ≡ drops
-      drop-action exception q = absurd (false≢true (sym q))
-      drop-action notice q = refl
-      drop-action warning q = refl
-      drop-action debug q = refl
-      drop-action log q = refl
-      drop-action info q = refl
 
   -- EXCEPTION: the content is taken
   pub reads-exception : (k n : ℕ)

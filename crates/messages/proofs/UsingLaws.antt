@@ -15,8 +15,8 @@ use Rattle.spec.specs.Bytes.{ascii, upper, isW}
 use Rattle.spec.specs.Lists.{isEmpty, dropWhile}
 use Rattle.spec.specs.Map.{Marked, bytes, lives, frontByte, ofByte}
 use Rattle.spec.specs.Search.{startsIgnoringCase}
-use Rattle.spec.specs.Body.{Rewriting, accepted, usingClause, forget}
-use Rattle.spec.specs.Raise.{message, rewritten, refused, usingFate, abortFate, fateText}
+use Rattle.spec.specs.Outcome.{usingClause, accepted, refused, Rewriting, forget}
+use Rattle.spec.specs.Raise.{message, rewritten, refusedClause, usingFate, abortFate, fateText}
 use Rattle.messages.specs.Readings.{aborting}
 use Rattle.messages.proofs.TextLaws.{runEnd, skip-to, empty-drop}
 use Rattle.messages.proofs.MessageLaws.{messageIn, message-is}
@@ -36,7 +36,7 @@ abbrev becomes : List Marked → Rewriting
 becomes t = forget (fateText (usingFate t (drop 5 t)))
 
 -- a choice of a message or a refused clause, as text
-chosen : (b : Bool) (m : List Marked) (c : List ℕ) → forget (fateText (cond b (rewritten m) (refused c))) ≡ cond b (accepted (aborting (bytes m))) (usingClause c)
+chosen : (b : Bool) (m : List Marked) (c : List ℕ) → forget (fateText (cond b (rewritten m) (refusedClause c))) ≡ cond b (accepted (aborting (bytes m))) (refused (usingClause c))
 unfolding forget fateText
 chosen true m c = rewritten-text m
 chosen false m c = refl
@@ -88,24 +88,24 @@ module _ (t : List Marked) (xs : List ℕ) (e : bytes t ≡ xs) where
     abbrev fits : Bool
     fits = prefixBy upper (ascii "MESSAGE") (drop a xs) && (eqb (getD xs b 0) 61 && (eqb (getD xs c 0) 39 && leb (length xs) (runEnd isW xs (c + length m))))
 
-    using-is : becomes t ≡ cond fits (accepted (aborting m)) (usingClause xs)
+    using-is : becomes t ≡ cond fits (accepted (aborting m)) (refused (usingClause xs))
     unfolding usingFate
     using-is =
         rw (at-a, at-b, at-c, starts-at (ascii "MESSAGE") a, front-at b, front-at c, rest-empty c (length (message (drop c t))), long, e)
         (chosen fits (message (drop c t)) xs ∙ rw found refl)
 
-    pub no-message : prefixBy upper (ascii "MESSAGE") (drop a xs) ≡ false → becomes t ≡ usingClause xs
+    pub no-message : prefixBy upper (ascii "MESSAGE") (drop a xs) ≡ false → becomes t ≡ refused (usingClause xs)
     no-message p = using-is ∙ simp p
 
     module _ (p : prefixBy upper (ascii "MESSAGE") (drop a xs) ≡ true) where
-      pub no-equals : eqb (getD xs b 0) 61 ≡ false → becomes t ≡ usingClause xs
+      pub no-equals : eqb (getD xs b 0) 61 ≡ false → becomes t ≡ refused (usingClause xs)
       no-equals q = using-is ∙ simp (p, q)
 
       module _ (q : eqb (getD xs b 0) 61 ≡ true) where
-        pub no-quote : eqb (getD xs c 0) 39 ≡ false → becomes t ≡ usingClause xs
+        pub no-quote : eqb (getD xs c 0) 39 ≡ false → becomes t ≡ refused (usingClause xs)
         no-quote r = using-is ∙ simp (p, q, r)
 
-        pub at-quote : eqb (getD xs c 0) 39 ≡ true → becomes t ≡ cond (leb (length xs) (runEnd isW xs (c + length m))) (accepted (aborting m)) (usingClause xs)
+        pub at-quote : eqb (getD xs c 0) 39 ≡ true → becomes t ≡ cond (leb (length xs) (runEnd isW xs (c + length m))) (accepted (aborting m)) (refused (usingClause xs))
         at-quote r = using-is ∙ simp (p, q, r)
 
   -- a content that starts with USING, and one that does not

@@ -10,8 +10,8 @@ use lib.ListN.{length, take, drop, getD}
 use Rattle.spec.specs.Bytes.{ascii, isW}
 use Rattle.spec.specs.Lists.{takeWhile, dropWhile, dropEnd}
 use Rattle.spec.specs.Map.{Marked, lives, markedText, isLiveByte}
-use Rattle.spec.specs.Body.{Rewriting, accepted, usingClause, forget}
-use Rattle.spec.specs.Raise.{closeLen, Level, exception, notice, warning, debug, log, info, abort, actionFate, fateText, raisedAt}
+use Rattle.spec.specs.Outcome.{usingClause, accepted, refused, Rewriting, forget}
+use Rattle.spec.specs.Raise.{closeLen, Level, exception, notice, warning, debug, log, info, abort, actionOf, actionFate, fateText, raisedAt}
 use Rattle.spec.specs.declared.Span.{Span}
 use Rattle.spec.specs.declared.Span.the-variants.{Verbatim, Dollar, Code}
 use Rattle.messages.specs.declared.RaiseLevel.{RaiseLevel}
@@ -66,7 +66,7 @@ abortOf xs = forget (fateText (actionFate abort (lives xs)))
 
 -- the same by a part of the content: the clause that is refused, or the message
 abbrev pub abortIn : Bool → List ℕ → Rewriting
-abortIn refused part = cond refused (usingClause part) (accepted (aborting part))
+abortIn stops part = cond stops (refused (usingClause part)) (accepted (aborting part))
 
 -- what a fate makes of xs, of which the statement takes the first n bytes
 abbrev pub fateIn : RaiseFate → ℕ → List ℕ → Rewriting
@@ -83,5 +83,5 @@ FateWithin Passed lo hi = Unit
 -- the reading r of xs agrees with the definition on t, which has the level l: the same text or refusal, and the same end, as
 -- far as xs goes
 pub record Reads (t : List Marked) (l : Option Level) (xs : List ℕ) (r : RaiseRead) : Type 0 where
-  pub text : forget (fateText (raisedAt l t .fate)) ≡ fateIn (r .fate) (r .end) xs
-  pub ends : r .end ≡ min (raisedAt l t .length) (length xs)
+  pub text : forget (fateText (raisedAt actionOf l t .fate)) ≡ fateIn (r .fate) (r .end) xs
+  pub ends : r .end ≡ min (raisedAt actionOf l t .length) (length xs)

@@ -1,21 +1,28 @@
 -- What a pass that may refuse answers, and what it leaves in the output. Assumes nothing.
 use mathlib.Core.Path.{_≡_}
-use mathlib.Core.List.{List, _∷_, _++_}
-use Prim.Native.Nat.{ℕ}
+use mathlib.Core.List.{List}
+use Prim.Native.Nat.{ℕ, _+_}
 use lib.ListN.{length, take}
 use lib.Seq.{sets}
-use Rattle.spec.specs.Map.{bytes}
-use Rattle.spec.specs.Assignments.{Outcome, done, qualified, clause}
+use Rattle.spec.specs.Map.{Marked, bytes}
+use Rattle.spec.specs.Outcome.{handedBack, Outcome, accepted, refused}
 use Rattle.output.specs.declared.Pass.{Pass}
-use Rattle.output.specs.declared.Pass.the-variants.{Done, Qualified, Clause}
+use Rattle.output.specs.declared.Pass.the-variants.{Done, Refused}
 
-abbrev pub passAnswer : Outcome → Pass
-passAnswer (done t) = Done (length t)
-passAnswer (qualified q n) = Qualified (length q) (length (q ++ (46 ∷ n)))
-passAnswer (clause c) = Clause (length c)
+abbrev pub passAnswer : Outcome (List Marked) → Pass
+passAnswer (accepted t) = Done (length t)
+passAnswer (refused r) = Refused (handedBack r .refusal)
 
--- an output that held `before` holds `after`: the result, as far as it fits and nothing else; or `q.n`, or the clause, in front
-abbrev pub Leaves : Outcome → List ℕ → List ℕ → Type 0
-Leaves (done t) before after = after ≡ sets before 0 (bytes t)
-Leaves (qualified q n) before after = take (length (q ++ (46 ∷ n))) after ≡ q ++ (46 ∷ n)
-Leaves (clause c) before after = take (length c) after ≡ c
+-- an output that held `before` holds `after`: the result, as far as it fits and nothing else; or in front what is handed back
+abbrev pub Leaves : Outcome (List Marked) → List ℕ → List ℕ → Type 0
+Leaves (accepted t) before after = after ≡ sets before 0 (bytes t)
+Leaves (refused r) before after = take (length (handedBack r .output)) after ≡ handedBack r .output
+
+-- the same of a pass that has written n bytes and has this outcome left
+abbrev pub answerFrom : ℕ → Outcome (List Marked) → Pass
+answerFrom n (accepted t) = Done (n + length t)
+answerFrom n (refused r) = passAnswer (refused r)
+
+abbrev pub LeavesFrom : ℕ → Outcome (List Marked) → List ℕ → List ℕ → Type 0
+LeavesFrom n (accepted t) before after = after ≡ sets before n (bytes t)
+LeavesFrom n (refused r) before after = Leaves (refused r) before after

@@ -1,5 +1,6 @@
 // Writing into a lent buffer. A writer stores at n where the buffer reaches and counts on where it does not, so that the
 // count is the length of the whole result and a later check can refuse it.
+use spec::Refusal;
 ghost use mathlib.Core.Path.{_≡_};
 ghost use Prim.Native.Nat.{_+_, _-_, _*_, _^_, _≤_, _<_};
 ghost use lib.ListN.{length, set, replicate};
@@ -10,10 +11,8 @@ ghost use Rattle.spec.specs.Requote.{doubled, singleQuoted};
 pub enum Pass {
     // The length of its result.
     Done(usize),
-    // Refusal 4: the lengths of q and of `q.n`, which the output holds.
-    Qualified(usize, usize),
-    // Refusal 5: the length of the clause from USING, which the output holds.
-    Clause(usize),
+    // The output then holds what is handed back with the refusal.
+    Refused(Refusal),
 }
 
 // One byte.

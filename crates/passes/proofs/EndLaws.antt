@@ -5,7 +5,7 @@ use Prim.Native.Nat.{ℕ, _+_, _-_, _≤_, _<_}
 use native.Mathlib.Omega.{arith}
 use lib.ListN.{length, take, drop, replicate, length-take, length-append, length-replicate}
 use lib.Seq.{sets, sets-eq, take-append-le, drop-at, length-take-le}
-use Rattle.spec.specs.Body.{Rewriting, accepted, qualifiedTarget, usingClause, resultTooLong}
+use Rattle.spec.specs.Outcome.{qualifiedTarget, usingClause, resultTooLong, accepted, refused, Rewriting}
 use Rattle.spec.specs.Answers.{resultOf, callNumbers, zeroedTo}
 use Rattle.spec.specs.Declarations.{Declared}
 
@@ -13,9 +13,9 @@ use Rattle.spec.specs.Declarations.{Declared}
 pub answer-length : (ds : List Declared) (w : Rewriting) → callNumbers (resultOf ds w .answer) .length ≡ length (resultOf ds w .output)
 unfolding resultOf
 answer-length ds (accepted ys) = refl
-answer-length ds (qualifiedTarget q n) = refl
-answer-length ds (usingClause c) = refl
-answer-length ds resultTooLong = refl
+answer-length ds (refused (qualifiedTarget q n)) = refl
+answer-length ds (refused (usingClause c)) = refl
+answer-length ds (refused resultTooLong) = refl
 
 -- zeros behind a result that stands in front of a buffer, and nothing beyond the size
 pub zeros-behind : (size n : ℕ) (d d′ ys : List ℕ) → size ≤ length d′ → n ≤ size → drop size d′ ≡ drop size d → take n d′ ≡ ys

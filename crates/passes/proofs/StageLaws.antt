@@ -1,101 +1,50 @@
--- What a stage of the call gives, from what its pass answers and leaves. Assumes nothing.
+-- The passes in a row: what a pass answers and leaves gives what the definition says of it, and one pass after the other gives
+-- the rewriting. Assumes nothing.
 use mathlib.Core.Path.{_≡_, refl, sym, ap, _∙_}
-use mathlib.Core.Bool.{Bool, true, false, cond}
-use mathlib.Core.List.{List, [], _∷_, _++_}
-use Prim.Native.Nat.{ℕ, _+_, _-_, _≤_, _<_}
+use mathlib.Core.List.{List, []}
+use Prim.Native.Nat.{ℕ, _≤_}
 use native.Mathlib.Omega.{arith}
-use borrow.Author.Tests.{ltb-true, ltb-false, leb-true, leb-false, lt-ltb, le-ltb}
+use borrow.Author.Tests.{ltb-false, leb-true, leb-false, lt-ltb, le-ltb}
 use lib.Dec.{leb, ltb}
-use lib.ListN.{length, take, drop, length-take, length-map}
+use lib.ListN.{length, take, length-take}
 use lib.Seq.{sets, take-at, take-all, take-length, length-take-le}
-use Rattle.spec.proofs.RefusalBounds.{bytes-length}
-use Rattle.spec.proofs.Choice.{by, cond-case}
 use Rattle.spec.proofs.Apart.{apart}
-use Rattle.spec.proofs.LengthLaws.{requoted-length, two-length, limited-same, three-fits, five-passes}
+use Rattle.spec.proofs.Choice.{by}
+use Rattle.spec.proofs.LengthLaws.{requoted-length, two-length, one-fits, two-fits, accepted-same}
 use Rattle.spec.proofs.MapLaws.{map-length, marked-length}
 use Rattle.spec.proofs.PartLaws.{marked-take}
+use Rattle.spec.proofs.RefusalBounds.{bytes-length}
+use Rattle.spec.proofs.RefusalLaws.{keeps-refused}
+use Rattle.spec.specs.Map.{Marked, mapOf, marked, markedText, bytes}
+use Rattle.spec.specs.Outcome.{PassRefusal, Outcome, accepted, refused, Rewriting, forget}
 use Rattle.spec.specs.Requote.{requoted}
 use Rattle.spec.specs.Elsif.{elsif}
 use Rattle.spec.specs.SelectInto.{quoteWalk, selectInto}
-use Rattle.spec.specs.Map.{Marked, byte, mapOf, marked, markedText, bytes}
-use Rattle.spec.specs.Assignments.{Outcome, done, qualified, clause}
-use Rattle.spec.specs.Body.{bufferSize, Rewriting, accepted, qualifiedTarget, usingClause, resultTooLong, forget, limited, andThen, assignPass, selectPass, raisePass, rewriting}
-use Rattle.spec.specs.Answers.{Result, textLimit, resultOf, keptBehind}
+use Rattle.spec.specs.Raise.{Level, Action}
+use Rattle.spec.specs.Body.{bufferSize, limited, andThen, requotePass, elsifPass, assignPass, selectPass, raisePass, rewriting}
+use Rattle.spec.specs.Answers.{textLimit, callNumbers, resultOf, keptBehind}
+use Rattle.spec.specs.declared.Refusal.{Refusal}
 use Rattle.spec.specs.declared.Rewritten.{Rewritten}
-use Rattle.spec.specs.declared.Rewritten.the-variants.{Accepted, QualifiedTarget, UsingClause, ResultTooLong}
+use Rattle.spec.specs.declared.Rewritten.the-variants as rewritten
 use Rattle.output.specs.Passes.{passAnswer, Leaves}
 use Rattle.output.specs.declared.Pass.{Pass}
-use Rattle.output.specs.declared.Pass.the-variants.{Done, Qualified, Clause}
+use Rattle.output.specs.declared.Pass.the-variants.{Done, Refused}
+use Rattle.output.proofs.StoreLaws.{front-stored}
 use Rattle.quotes.specs.QuoteMap.{quoteMap}
 use Rattle.quotes.proofs.QuoteLaws.{quote-marks}
-use Rattle.output.proofs.StoreLaws.{front-stored}
-use Rattle.passes.specs.Gives.{Gives, finished, heldBy}
 use Rattle.set_lines.specs.Writes.{counted}
+use Rattle.passes.specs.Gives.{Gives, finished, limitedAnswer}
+use Rattle.passes.proofs.EndLaws.{answer-length}
+
+-- ---- the map that a pass reads
 
 -- the map at the front of a buffer, read as long as the text is
 pub front-map : (xs m d : List ℕ) → m ≡ keptBehind (mapOf xs) d → marked xs (take (length xs) m) ≡ markedText xs
 unfolding keptBehind markedText
 front-map xs m d e = ap (marked xs) (ap (take (length xs)) e ∙ take-at (mapOf xs) _ (length xs) (map-length xs))
 
--- bytes copied to the front
-pub front-copied : (d d′ f : List ℕ) (k : ℕ) → k ≤ length d → k ≤ length f → d′ ≡ sets d 0 (take k f) → take k d′ ≡ take k f
-front-copied d d′ f k a b e = front-stored d d′ (take k f) k (length-take-le k f b) a e
-
--- an outcome's end: the answer, how many bytes it holds, and those bytes
-pub end-answer : (o : Outcome) → finished (passAnswer o) ≡ resultOf [] (limited (forget o)) .answer
-unfolding resultOf limited forget bufferSize
-end-answer (done t) =
-    let n = bytes-length t in
-    by (ltb 65536 (length t)) (λ e. rw (n, e) refl) (λ e. rw (n, e) (ap (λ (k : ℕ). Accepted k 0) (sym n)))
-end-answer (qualified q n) = refl
-end-answer (clause c) = refl
-
-pub end-length : (o : Outcome) → length (resultOf [] (limited (forget o)) .output) ≡ heldBy (passAnswer o)
-unfolding resultOf limited forget bufferSize
-end-length (done t) =
-    let n = bytes-length t in
-    by (ltb 65536 (length t)) (λ e. rw (n, e) refl) (λ e. rw (n, e) n)
-end-length (qualified q n) = refl
-end-length (clause c) = refl
-
-pub end-fits : (o : Outcome) (d e : List ℕ) → Leaves o d e → length e ≡ 65536 → heldBy (passAnswer o) ≤ 65536
-end-fits (done t) d e l h = cond-case (λ (k : ℕ). k ≤ 65536) (ltb 65536 (length t)) _ _ (λ _. omega arith) (λ q. ltb-false 65536 (length t) q)
-end-fits (qualified q n) d e l h =
-    omega (arith, ap length l, length-take (length (q ++ (46 ∷ n))) e)
-end-fits (clause c) d e l h = omega (arith, ap length l, length-take (length c) e)
-
-pub end-held : (o : Outcome) (d e : List ℕ) → Leaves o d e → length d ≡ 65536
-    → take (heldBy (passAnswer o)) e ≡ resultOf [] (limited (forget o)) .output
-unfolding resultOf limited forget bufferSize
-end-held (done t) d e l h =
-    let n = bytes-length t in
-    by (ltb 65536 (length t))
-    (λ q. rw (n, q) refl)
-    (λ q. rw (n, q) (front-stored d e (bytes t) (length t) n (omega (arith, ltb-false 65536 (length t) q)) l))
-end-held (qualified q n) d e l h = l
-end-held (clause c) d e l h = l
-
--- the passes end in a pass with this outcome, whose bytes were copied to the output
-pub ended : (o : Outcome) (p : Pass) (d e out : List ℕ) (r : Rewritten) → p ≡ passAnswer o → Leaves o d e → length d ≡ 65536
-    → r ≡ finished p → take (heldBy p) out ≡ take (heldBy p) e → Gives (resultOf [] (limited (forget o))) r out
-ended o p d e out r a l h x y = record {
-  answered = x ∙ (ap finished a ∙ end-answer o);
-  held =
-      ap (λ (k : ℕ). take k out) (end-length o ∙ sym (ap heldBy a))
-      ∙ (y ∙ (ap (λ (k : ℕ). take k e) (ap heldBy a) ∙ end-held o d e l h));
-}
-
--- how far pass 4 counts
-pub counted-long : (m : ℕ) → 65536 < counted m → 65536 < m
-unfolding counted
-counted-long m h = by (leb m 65536) (λ e. absurd (omega (arith, rw e at h, leb-true m 65536 e))) (λ e. leb-false m 65536 e)
-
-pub counted-fits : (m : ℕ) → counted m ≤ 65536 → (m ≤ 65536) × (counted m ≡ m)
-unfolding counted
-counted-fits m h = by (leb m 65536) (λ e. (leb-true m 65536 e, rw e refl)) (λ e. absurd (omega (arith, rw e at h)))
-
 -- a map of any kind, read as long as the text is
-pub front-marks : (xs ms : List ℕ) → marked xs (take (length xs) ms) ≡ marked xs ms
+front-marks : (xs ms : List ℕ) → marked xs (take (length xs) ms) ≡ marked xs ms
 front-marks xs ms =
     ap (λ (l : List ℕ). marked l (take (length xs) ms)) (sym (take-length xs))
     ∙ (marked-take (length xs) xs ms ∙ take-all (length xs) (marked xs ms) (omega (arith, marked-length xs ms)))
@@ -103,92 +52,150 @@ front-marks xs ms =
 pub front-quotes : (xs m d : List ℕ) → m ≡ keptBehind (quoteMap xs) d → marked xs (take (length xs) m) ≡ quoteWalk 0 xs
 front-quotes xs m d e = front-marks xs m ∙ (ap (marked xs) e ∙ quote-marks xs d)
 
--- pass 4 gives too much, or its result stands in front and pass 5 follows
-pub select-long : (ys out : List ℕ) → 65536 < length (bytes (selectInto (quoteWalk 0 ys))) → Gives (resultOf [] (andThen (limited (selectPass ys)) raisePass)) ResultTooLong out
-unfolding resultOf andThen limited selectPass bufferSize
-select-long ys out h = record { answered = rw (lt-ltb 65536 _ h) refl; held = rw (lt-ltb 65536 _ h) refl }
+-- bytes copied to the front
+pub front-copied : (d d′ f : List ℕ) (k : ℕ) → k ≤ length d → k ≤ length f → d′ ≡ sets d 0 (take k f) → take k d′ ≡ take k f
+front-copied d d′ f k a b e = front-stored d d′ (take k f) k (length-take-le k f b) a e
 
-pub select-then : (ys out : List ℕ) (r : Rewritten) → length (bytes (selectInto (quoteWalk 0 ys))) ≤ 65536
-    → Gives (resultOf [] (limited (raisePass (bytes (selectInto (quoteWalk 0 ys)))))) r out → Gives (resultOf [] (andThen (limited (selectPass ys)) raisePass)) r out
-unfolding andThen limited selectPass bufferSize
-select-then ys out r h g = rw (le-ltb 65536 _ h) g
+-- ---- one pass, within the buffer size or refusal 6
 
--- pass 3 refuses, and the passes behind it do nothing
-module _ (f g : List ℕ → Rewriting) (d e out : List ℕ) (r : Rewritten) where
-  pub assign-qualified : (o : Outcome) (q k : ℕ) → passAnswer o ≡ Qualified q k → Leaves o d e → r ≡ QualifiedTarget q k → take k out ≡ take k e
-      → Gives (resultOf [] (andThen (andThen (limited (forget o)) f) g)) r out
-  unfolding resultOf andThen limited forget
-  assign-qualified (done t) q k a l x y = absurd (apart (cc))
-  assign-qualified (qualified p n) q k a l x y =
-      let i : length p ≡ q = cc in
-      let j : length (p ++ (46 ∷ n)) ≡ k = cc in
-      record { answered = x ∙ rw (i, j) refl; held = rw j (y ∙ rw (← j) l) }
-  assign-qualified (clause c) q k a l x y = absurd (apart (cc))
-
-  pub assign-clause : (o : Outcome) (k : ℕ) → passAnswer o ≡ Clause k → Leaves o d e → r ≡ UsingClause k → take k out ≡ take k e
-      → Gives (resultOf [] (andThen (andThen (limited (forget o)) f) g)) r out
-  unfolding resultOf andThen limited forget
-  assign-clause (done t) k a l x y = absurd (apart (cc))
-  assign-clause (qualified p n) k a l x y = absurd (apart (cc))
-  assign-clause (clause c) k a l x y =
-      let j : length c ≡ k = cc in
-      record { answered = x ∙ rw j refl; held = rw j (y ∙ rw (← j) l) }
-
--- the length of an answer that pass 3 or 5 leaves in front of a buffer
-pub qualified-fits : (o : Outcome) (d e : List ℕ) (q k : ℕ) → Leaves o d e → length e ≡ 65536 → passAnswer o ≡ Qualified q k → k ≤ 65536
-qualified-fits o d e q k l h a = rw a at (end-fits o d e l h)
-
-pub clause-fits : (o : Outcome) (d e : List ℕ) (k : ℕ) → Leaves o d e → length e ≡ 65536 → passAnswer o ≡ Clause k → k ≤ 65536
-clause-fits o d e k l h a = rw a at (end-fits o d e l h)
-
--- pass 3 accepts: too much, or its result stands in front and pass 4 follows
-pub assign-done : (g : List ℕ → Rewriting) (d e out : List ℕ) (r : Rewritten) (o : Outcome) (k : ℕ) → passAnswer o ≡ Done k → Leaves o d e → length d ≡ 65536
-    → (65536 < k → r ≡ ResultTooLong)
-    → (k ≤ 65536 → Gives (resultOf [] (andThen (limited (selectPass (take k e))) g)) r out)
-    → Gives (resultOf [] (andThen (andThen (limited (forget o)) selectPass) g)) r out
-unfolding resultOf andThen limited forget bufferSize
-assign-done g d e out r (done t) k a l h long fits =
-    let j : length t ≡ k = cc in
+pub limited-gives : (o : Outcome (List Marked)) (p : Pass) (d e : List ℕ) → p ≡ passAnswer o → Leaves o d e → length d ≡ 65536
+    → Gives (resultOf [] (limited (forget o))) (finished (limitedAnswer p)) e
+unfolding resultOf limited forget bufferSize
+limited-gives (accepted t) p d e a l h =
     let n = bytes-length t in
     by (ltb 65536 (length t))
-    (λ q. record { answered = long (omega (arith, ltb-true 65536 (length t) q)) ∙ rw (n, q) refl; held = rw (n, q) refl })
+    (λ q. record { answered = rw (a, n, q) refl; held = rw (n, q) refl })
     (λ q.
-    let m : length t ≤ 65536 = ltb-false 65536 (length t) q in
-    let w : take k e ≡ bytes t = front-stored d e (bytes t) k (n ∙ j) (omega arith) l in
-    rw (n, q) (rw w at (fits (omega arith))))
-assign-done g d e out r (qualified p n) k a l h long fits = absurd (apart (cc))
-assign-done g d e out r (clause c) k a l h long fits = absurd (apart (cc))
+    let fits = ltb-false 65536 (length t) q in
+    record {
+      answered = rw (a, n, q) (ap (λ (k : ℕ). rewritten.Accepted k 0) (sym n));
+      held = rw (n, q) (front-stored d e (bytes t) (length (bytes t)) refl (omega arith) l);
+    })
+limited-gives (refused f) p d e a l h = record { answered = rw a refl; held = l }
 
--- the first two passes never exceed the buffer, nor does the third
-pub rewriting-from-three : (xs out : List ℕ) (r : Rewritten) → length xs ≤ 16384
-    → Gives (resultOf [] (andThen (andThen (limited (assignPass (bytes (elsif (markedText (requoted xs)))))) selectPass) raisePass)) r out
-    → Gives (resultOf [] (rewriting xs)) r out
-unfolding textLimit
-rewriting-from-three xs out r h g =
-    let a = assignPass (bytes (elsif (markedText (requoted xs)))) in
-    let s : limited a ≡ a = limited-same a (λ zs e. three-fits xs zs h e) in
-    rw (five-passes xs h, ← s) g
+-- the same of pass 4, which counts no further than one past the buffer size
+pub counted-gives : (ys d e : List ℕ) (k : ℕ)
+    → k ≡ counted (length ys)
+    → (length ys ≤ 65536 → e ≡ sets d 0 ys)
+    → length d ≡ 65536
+    → Gives (resultOf [] (limited (accepted ys))) (finished (limitedAnswer (Done k))) e
+unfolding resultOf limited bufferSize counted
+counted-gives ys d e k a s h =
+    by (leb (length ys) 65536)
+    (λ q.
+    let fits = leb-true (length ys) 65536 q in
+    let n : k ≡ length ys = a ∙ rw q refl in
+    let t = le-ltb 65536 (length ys) fits in
+    record { answered = rw (n, t) refl; held = rw t (front-stored d e ys (length ys) refl (omega arith) (s fits)) })
+    (λ q.
+    let n : k ≡ 65537 = a ∙ rw q refl in
+    let t = lt-ltb 65536 (length ys) (leb-false (length ys) 65536 q) in
+    record { answered = rw (n, t) refl; held = rw t refl })
 
--- pass 4's result fits, stands in front, and pass 5 follows
-pub select-counted : (ys d e out : List ℕ) (k : ℕ) (r : Rewritten)
-    → k ≡ counted (length (bytes (selectInto (quoteWalk 0 ys)))) → k ≤ 65536
-    → (length (bytes (selectInto (quoteWalk 0 ys))) ≤ 65536 → e ≡ sets d 0 (bytes (selectInto (quoteWalk 0 ys)))) → length d ≡ 65536
-    → Gives (resultOf [] (limited (raisePass (take k e)))) r out
-    → Gives (resultOf [] (andThen (limited (selectPass ys)) raisePass)) r out
-select-counted ys d e out k r a b s h g =
-    let m = length (bytes (selectInto (quoteWalk 0 ys))) in
-    let f = counted-fits m (rw (← a) b) in
-    select-then ys out r (f .0) (rw (front-stored d e (bytes (selectInto (quoteWalk 0 ys))) k (sym (a ∙ f .1)) (omega (arith, b)) (s (f .0))) at g)
+-- ---- from one pass to the next
 
--- the first two passes' results fit, and stand where the third reads
-pub requoted-front : (xs d e : List ℕ) (k : ℕ) → length xs ≤ 16384 → k ≡ length (requoted xs) → length d ≡ 65536 → e ≡ sets d 0 (requoted xs) → (k ≤ 65536) × (take k e ≡ requoted xs)
+-- what is given within a buffer has at most its length
+pub given-fits : (w : Rewriting) (r : Rewritten) (d : List ℕ) → Gives (resultOf [] w) r d → length d ≡ 65536
+    → callNumbers r .length ≤ 65536
+given-fits w r d g h =
+    let out = resultOf [] w .output in
+    let n = ap (λ (a : Rewritten). callNumbers a .length) (g .answered) ∙ answer-length [] w in
+    omega (arith, n, ap length (g .held), length-take (length out) d)
+
+-- given an answer that is equal
+pub given-as : (w : Rewriting) (p q : Pass) (d : List ℕ) → Gives (resultOf [] w) (finished p) d → p ≡ q → Gives (resultOf [] w) (finished q) d
+given-as w p q d g e = rw e at g
+
+-- a pass that is done was accepted, and its text stands in front
+pub done-accepted : (w : Rewriting) (k : ℕ) (d : List ℕ) → Gives (resultOf [] w) (finished (Done k)) d → w ≡ accepted (take k d)
+unfolding resultOf
+done-accepted (accepted ys) k d g =
+    let a = g .answered in
+    let n : k ≡ length ys = cc in
+    ap accepted (sym (g .held) ∙ ap (λ (i : ℕ). take i d) (sym n))
+done-accepted (refused f) k d g = let a = g .answered in absurd (apart (cc))
+
+-- a pass that refuses is what all the passes come to
+pub stopped : (w : Rewriting) (q : Refusal) (d : List ℕ) → Gives (resultOf [] w) (finished (Refused q)) d
+    → (pass : List ℕ → Rewriting) → andThen w pass ≡ w
+unfolding resultOf andThen
+stopped (accepted ys) q d g pass = let a = g .answered in absurd (apart (cc))
+stopped (refused f) q d g pass = refl
+
+-- what a pass gives in one buffer is given in another that has its bytes in front
+pub gives-copied : (w : Rewriting) (p : Pass) (r : Rewritten) (d out : List ℕ) → Gives (resultOf [] w) (finished p) d
+    → r ≡ finished p
+    → take (callNumbers (finished p) .length) out ≡ take (callNumbers (finished p) .length) d
+    → Gives (resultOf [] w) r out
+gives-copied w p r d out g a s =
+    let n : callNumbers (finished p) .length ≡ length (resultOf [] w .output) =
+    ap (λ (b : Rewritten). callNumbers b .length) (g .answered) ∙ answer-length [] w in
+    record {
+      answered = a ∙ g .answered;
+      held = ap (λ (i : ℕ). take i out) (sym n) ∙ (s ∙ (ap (λ (i : ℕ). take i d) n ∙ g .held));
+    }
+
+-- pass 4 refuses by 6 alone, which hands no bytes back
+pub too-long-gives : (ys : List ℕ) (q : Refusal) (d out : List ℕ) (r : Rewritten)
+    → Gives (resultOf [] (limited (selectPass ys))) (finished (Refused q)) d
+    → r ≡ finished (Refused q)
+    → Gives (resultOf [] (limited (selectPass ys))) r out
+unfolding resultOf limited selectPass
+too-long-gives ys q d out r g a =
+    by (ltb bufferSize (length (bytes (selectInto (quoteWalk 0 ys)))))
+    (λ e. record { answered = a ∙ g .answered; held = rw e refl })
+    (λ e. let b = rw e at (g .answered) in absurd (apart (cc)))
+
+-- ---- the first two passes, which never exceed the buffer size
+
+pub requoted-front : (xs d e : List ℕ) (k : ℕ) → length xs ≤ 16384 → k ≡ length (requoted xs) → length d ≡ 65536
+    → e ≡ sets d 0 (requoted xs)
+    → (k ≤ 65536) × (take k e ≡ requoted xs)
 requoted-front xs d e k h a l s =
     let m = requoted-length xs in
     (omega (arith, m, a), front-stored d e (requoted xs) k (sym a) (omega (arith, m, a)) s)
 
-pub elsif-then : (xs d e ys out : List ℕ) (n : ℕ) (r : Rewritten) → length xs ≤ 16384 → ys ≡ requoted xs → n ≡ length (bytes (elsif (markedText ys))) → length d ≡ 65536
+pub spelled-front : (xs ys d e : List ℕ) (n : ℕ) → length xs ≤ 16384 → ys ≡ requoted xs → n ≡ length (bytes (elsif (markedText ys)))
+    → length d ≡ 65536
     → e ≡ sets d 0 (bytes (elsif (markedText ys)))
-    → Gives (resultOf [] (andThen (andThen (limited (assignPass (take n e))) selectPass) raisePass)) r out → Gives (resultOf [] (rewriting xs)) r out
-elsif-then xs d e ys out n r h y a l s g =
-    let q : take n e ≡ bytes (elsif (markedText (requoted xs))) = rw (← y) (front-stored d e (bytes (elsif (markedText ys))) n (sym a) (omega (arith, a, rw (← y) at (two-length xs))) s) in
-    rewriting-from-three xs out r h (rw q at g)
+    → (n ≤ 65536) × (take n e ≡ bytes (elsif (markedText (requoted xs))))
+spelled-front xs ys d e n h y a l s =
+    let m : length (bytes (elsif (markedText ys))) ≤ 65536 = rw y (omega (arith, two-length xs)) in
+    (omega (arith, m, a), rw (← y) (front-stored d e (bytes (elsif (markedText ys))) n (sym a) (omega (arith, m, a)) s))
+
+-- ---- all five
+
+-- from what pass 3 reads on
+pub from-third : (act : Level → Action) (xs zs : List ℕ) → length xs ≤ 16384 → zs ≡ bytes (elsif (markedText (requoted xs)))
+    → rewriting act xs ≡ andThen (andThen (limited (assignPass zs)) selectPass) (raisePass act)
+unfolding rewriting andThen requotePass elsifPass textLimit
+from-third act xs zs h e = rw (accepted-same (requoted xs) (one-fits xs h), accepted-same _ (two-fits xs h), e) refl
+
+module _ (act : Level → Action) (xs zs : List ℕ) (h : length xs ≤ 16384) (e : zs ≡ bytes (elsif (markedText (requoted xs))))
+    (d : List ℕ) where
+  -- pass 3 refuses
+  pub third-stops : (q : Refusal) → Gives (resultOf [] (limited (assignPass zs))) (finished (Refused q)) d
+      → rewriting act xs ≡ limited (assignPass zs)
+  third-stops q g =
+      let w = limited (assignPass zs) in
+      let s = stopped w q d g in
+      from-third act xs zs h e ∙ (ap (λ (v : Rewriting). andThen v (raisePass act)) (s selectPass) ∙ s (raisePass act))
+
+  module _ (n : ℕ) (g : Gives (resultOf [] (limited (assignPass zs))) (finished (Done n)) d) where
+    from-fourth : rewriting act xs ≡ andThen (limited (selectPass (take n d))) (raisePass act)
+    unfolding andThen
+    from-fourth =
+        from-third act xs zs h e
+        ∙ ap (λ (v : Rewriting). andThen (andThen v selectPass) (raisePass act)) (done-accepted (limited (assignPass zs)) n d g)
+
+    -- pass 4 gives too much
+    pub fourth-stops : (d′ : List ℕ) (q : Refusal) → Gives (resultOf [] (limited (selectPass (take n d)))) (finished (Refused q)) d′
+        → rewriting act xs ≡ limited (selectPass (take n d))
+    fourth-stops d′ q f = from-fourth ∙ stopped (limited (selectPass (take n d))) q d′ f (raisePass act)
+
+    -- pass 5 is reached
+    pub fifth-gives : (d′ : List ℕ) (k : ℕ) → Gives (resultOf [] (limited (selectPass (take n d)))) (finished (Done k)) d′
+        → rewriting act xs ≡ limited (raisePass act (take k d′))
+    unfolding andThen
+    fifth-gives d′ k f =
+        from-fourth ∙ ap (λ (v : Rewriting). andThen v (raisePass act)) (done-accepted (limited (selectPass (take n d))) k d′ f)

@@ -1,6 +1,7 @@
 // The C interface. A slice is a pointer and a length. Each function's last parameter takes four numbers: for a search its
 // number, the found flag, the place, and the length of what was found or written; for a call its number, the place, the
 // output length and the number of records.
+use checks::refusal_numbers;
 use spec::Filled;
 use spec::Refusal;
 use spec::Rewritten;
@@ -8,7 +9,7 @@ use spec::Search;
 ghost use mathlib.Core.Path.{_≡_};
 ghost use mathlib.Core.List.{[], _∷_};
 ghost use lib.ListN.{length, getD};
-ghost use Rattle.spec.specs.Answers.{mapExit, regionsAnswer, keywordAnswer, byteAnswer, needleAnswer, wordAnswer, wordPart, searchNumbers, handlerAnswer, unterminatedAnswer, splitAnswer, splitMapExit, splitExit, requoteAnswer, requoteExit, refusalNumber, refusalPlace, bodyCheck, bodyAnswer, bodyOutput, workExit, functionCheck, functionAnswer, functionOutput, functionText, functionRecords};
+ghost use Rattle.spec.specs.Answers.{mapExit, regionsAnswer, keywordAnswer, byteAnswer, needleAnswer, wordAnswer, wordPart, searchNumbers, handlerAnswer, unterminatedAnswer, splitAnswer, splitMapExit, splitExit, requoteAnswer, requoteExit, refusalNumbers, bodyCheck, bodyAnswer, bodyOutput, workExit, functionCheck, functionAnswer, functionOutput, functionText, functionRecords};
 ghost use Rattle.closed.specs.Answer.{closedAnswer};
 ghost use Rattle.plpgsql_rewriter.specs.Four.{narrow, four, fourFound, fourFilled, fourCalled};
 
@@ -20,23 +21,21 @@ fn narrowed(n: usize) -> u32
 }
 
 // The four numbers.
-fn put_four(answer: &mut [u32; 4], number: u32, found: u32, place: usize, len: usize)
-    ensures { λ _. ⌜ now (answer .exit) ≡ number ∷ found ∷ narrow place ∷ narrow len ∷ [] ⌝ }
+fn put_four(answer: &mut [u32; 4], number: u32, second: usize, third: usize, fourth: usize)
+    ensures { λ _. ⌜ now (answer .exit) ≡ number ∷ narrow second ∷ narrow third ∷ narrow fourth ∷ [] ⌝ }
 {
-    let p = narrowed(place);
-    let l = narrowed(len);
-    *answer = [number, found, p, l];
+    let a = narrowed(second);
+    let b = narrowed(third);
+    let c = narrowed(fourth);
+    *answer = [number, a, b, c];
 }
 
 // The four numbers of a refused search.
 fn put_refusal(answer: &mut [u32; 4], r: Refusal)
-    ensures { λ _. ⌜ now (answer .exit) ≡ refusalNumber r ∷ 0 ∷ narrow (refusalPlace r) ∷ 0 ∷ [] ⌝ }
+    ensures { λ _. ⌜ now (answer .exit) ≡ refusalNumbers r .number ∷ 0 ∷ narrow (refusalNumbers r .place) ∷ 0 ∷ [] ⌝ }
 {
-    match r {
-        Refusal::TextTooLong => put_four(answer, 1, 0, 0, 0),
-        Refusal::BufferTooShort => put_four(answer, 3, 0, 0, 0),
-        Refusal::NotAscii(i) => put_four(answer, 2, 0, i, 0),
-    }
+    let n = refusal_numbers(r);
+    put_four(answer, n.number, 0, n.place, 0);
 }
 
 // The four numbers of a search that seeks something.
@@ -60,25 +59,12 @@ fn put_filled(answer: &mut [u32; 4], f: Filled)
     }
 }
 
-// The four numbers of a call, in this order.
-fn put_numbers(answer: &mut [u32; 4], number: u32, place: usize, len: usize, records: usize)
-    ensures { λ _. ⌜ now (answer .exit) ≡ number ∷ narrow place ∷ narrow len ∷ narrow records ∷ [] ⌝ }
-{
-    let p = narrowed(place);
-    let l = narrowed(len);
-    let c = narrowed(records);
-    *answer = [number, p, l, c];
-}
-
-// The four numbers of a call whose checks refused the text.
+// The four numbers of a refused call.
 fn put_refused(answer: &mut [u32; 4], r: Refusal)
-    ensures { λ _. ⌜ now (answer .exit) ≡ refusalNumber r ∷ narrow (refusalPlace r) ∷ narrow 0 ∷ narrow 0 ∷ [] ⌝ }
+    ensures { λ _. ⌜ now (answer .exit) ≡ refusalNumbers r .number ∷ narrow (refusalNumbers r .place) ∷ narrow (refusalNumbers r .length) ∷ narrow 0 ∷ [] ⌝ }
 {
-    match r {
-        Refusal::TextTooLong => put_numbers(answer, 1, 0, 0, 0),
-        Refusal::BufferTooShort => put_numbers(answer, 3, 0, 0, 0),
-        Refusal::NotAscii(i) => put_numbers(answer, 2, i, 0, 0),
-    }
+    let n = refusal_numbers(r);
+    put_four(answer, n.number, n.place, n.length, 0);
 }
 
 // The four numbers of a call.
@@ -86,18 +72,8 @@ fn put_called(answer: &mut [u32; 4], r: Rewritten)
     ensures { λ _. ⌜ now (answer .exit) ≡ fourCalled r ⌝ }
 {
     match r {
-        Rewritten::Accepted { length, records } => put_numbers(answer, 0, 0, length, records),
+        Rewritten::Accepted { length, records } => put_four(answer, 0, 0, length, records),
         Rewritten::Refused(f) => put_refused(answer, f),
-        Rewritten::TooManyNames => put_numbers(answer, 7, 0, 0, 0),
-        Rewritten::QualifiedTarget { qualifier, length } => put_numbers(
-            answer,
-            4,
-            qualifier,
-            length,
-            0,
-        ),
-        Rewritten::UsingClause { length } => put_numbers(answer, 5, 0, length, 0),
-        Rewritten::ResultTooLong => put_numbers(answer, 6, 0, 0, 0),
     }
 }
 

@@ -17,7 +17,9 @@ use Rattle.spec.proofs.WalkLaws.{marked-kept}
 use Rattle.spec.specs.Bytes.{ascii}
 use Rattle.spec.specs.Search.{first, keywordHere}
 use Rattle.spec.specs.Map.{mapOf, marked, markedText}
-use Rattle.spec.specs.Body.{Rewriting, accepted, qualifiedTarget, usingClause, resultTooLong, rewriting}
+use Rattle.spec.specs.Outcome.{accepted, refused, Rewriting}
+use Rattle.spec.specs.Raise.{actionOf}
+use Rattle.spec.specs.Body.{rewriting}
 use Rattle.spec.specs.Declarations.{Declared, recordLimit, recordWidth, recordsOf, bodyFrom, bodyOf, packed, numbersOf}
 use Rattle.spec.specs.Answers.{Result, resultOf, bodyResult, functionResult, withoutRecords, keptBehind, zeroedTo}
 use Rattle.spec.specs.declared.Rewritten.{Rewritten}
@@ -29,6 +31,7 @@ use Rattle.declarations.proofs.SectionLaws.{records-in, section-in}
 use Rattle.declarations.proofs.PackedLaws.{packed-small}
 use Rattle.declarations.specs.Records.{recordsOfSection, recordsIn, sectionOf, parsedOf, Packed, Holds}
 use Rattle.declarations.specs.declared.Parsed.the-variants.{Count, TooManyNames}
+use Rattle.spec.specs.declared.Refusal.the-variants as refusal
 use Rattle.preprocessor.specs.Records.{withRecords, ifAccepted}
 
 -- what the declarations' answer tells
@@ -44,7 +47,7 @@ unfolding parsedOf
 parsed-names ds e = by (ltb 512 (length ds)) (λ p. ltb-true 512 (length ds) p) (λ p. let q : Count (length ds) (length (packed ds)) ≡ TooManyNames = rw p at e in absurd (apart (cc)))
 
 -- the call's result with too many names
-pub function-refused : (xs : List ℕ) → 512 < length (recordsOf xs) → functionResult xs ≡ withoutRecords rewritten.TooManyNames []
+pub function-refused : (xs : List ℕ) → 512 < length (recordsOf xs) → functionResult xs ≡ withoutRecords refusal.TooManyNames []
 unfolding functionResult recordLimit
 function-refused xs h = rw (lt-ltb 512 (length (recordsOf xs)) h) refl
 
@@ -52,25 +55,19 @@ function-refused xs h = rw (lt-ltb 512 (length (recordsOf xs)) h) refl
 pub records-answer : (ds : List Declared) (w : Rewriting) → withRecords (length ds) (resultOf [] w .answer) ≡ resultOf ds w .answer
 unfolding resultOf
 records-answer ds (accepted ys) = refl
-records-answer ds (qualifiedTarget q n) = refl
-records-answer ds (usingClause c) = refl
-records-answer ds resultTooLong = refl
+records-answer ds (refused f) = refl
 
 pub records-output : (ds : List Declared) (w : Rewriting) → resultOf [] w .output ≡ resultOf ds w .output
 unfolding resultOf
 records-output ds (accepted ys) = refl
-records-output ds (qualifiedTarget q n) = refl
-records-output ds (usingClause c) = refl
-records-output ds resultTooLong = refl
+records-output ds (refused f) = refl
 
 -- with an accepted answer the texts and numbers stay, with a refusal nothing does
 pub texts-held : (ds : List Declared) (w : Rewriting) (d : List ℕ) → take (length (packed ds)) d ≡ packed ds
     → take (ifAccepted (resultOf [] w .answer) (length (packed ds))) d ≡ resultOf ds w .declared
 unfolding resultOf
 texts-held ds (accepted ys) d h = h
-texts-held ds (qualifiedTarget q n) d h = refl
-texts-held ds (usingClause c) d h = refl
-texts-held ds resultTooLong d h = refl
+texts-held ds (refused f) d h = refl
 
 pub numbers-held : (ds : List Declared) (w : Rewriting) (rs : List ℕ) → take (length (numbersOf ds)) rs ≡ numbersOf ds
     → take (ifAccepted (resultOf [] w .answer) (8 * length ds + 8)) rs ≡ resultOf ds w .records
@@ -78,17 +75,11 @@ unfolding resultOf recordWidth
 numbers-held ds (accepted ys) rs h =
     let n : 8 * length ds + 8 ≡ length (numbersOf ds) = omega (arith, numbers-length ds) in
     rw n h
-numbers-held ds (qualifiedTarget q n) rs h = refl
-numbers-held ds (usingClause c) rs h = refl
-numbers-held ds resultTooLong rs h = refl
+numbers-held ds (refused f) rs h = refl
 
 pub at-most : (r : Rewritten) (n m : ℕ) → n ≤ m → ifAccepted r n ≤ m
 at-most (rewritten.Accepted l k) n m h = h
 at-most (rewritten.Refused f) n m h = omega arith
-at-most rewritten.TooManyNames n m h = omega arith
-at-most (rewritten.QualifiedTarget q l) n m h = omega arith
-at-most (rewritten.UsingClause l) n m h = omega arith
-at-most rewritten.ResultTooLong n m h = omega arith
 
 -- what is behind the size stays
 pub kept-drop : (ms d : List ℕ) (n : ℕ) → length ms ≤ n → drop n (keptBehind ms d) ≡ drop n d
@@ -135,9 +126,9 @@ module _ (xs work work′ : List ℕ) (m : work′ ≡ keptBehind (mapOf xs) wor
     unfolding bodyOf
     the-body = sym (b ∙ ap (λ t. bodyFrom (first (keywordHere (ascii "BEGIN")) 0 t) xs) mapped)
 
-    result : functionResult xs ≡ resultOf (recordsOf xs) (rewriting (drop start xs))
+    result : functionResult xs ≡ resultOf (recordsOf xs) (rewriting actionOf (drop start xs))
     unfolding recordLimit
-    result = function-passes xs (told .0) ∙ ap (λ ys. resultOf (recordsOf xs) (rewriting ys)) the-body
+    result = function-passes xs (told .0) ∙ ap (λ ys. resultOf (recordsOf xs) (rewriting actionOf ys)) the-body
 
     pub count-small : c ≤ 512
     count-small = omega (arith, told .0, told .1)
@@ -150,13 +141,13 @@ module _ (xs work work′ : List ℕ) (m : work′ ≡ keptBehind (mapOf xs) wor
 
     pub output-is : bodyResult (drop start xs) .output ≡ functionResult xs .output
     unfolding bodyResult
-    output-is = records-output (recordsOf xs) (rewriting (drop start xs)) ∙ sym (ap (λ (f : Result). f .output) result)
+    output-is = records-output (recordsOf xs) (rewriting actionOf (drop start xs)) ∙ sym (ap (λ (f : Result). f .output) result)
 
     module _ (r : Rewritten) (a : r ≡ bodyResult (drop start xs) .answer) where
       pub answer-is : withRecords c r ≡ functionResult xs .answer
       unfolding bodyResult
       answer-is =
-          rw (← told .1, a) (records-answer (recordsOf xs) (rewriting (drop start xs)) ∙ sym (ap (λ (f : Result). f .answer) result))
+          rw (← told .1, a) (records-answer (recordsOf xs) (rewriting actionOf (drop start xs)) ∙ sym (ap (λ (f : Result). f .answer) result))
 
       module _ (d d′ rs rs′ : List ℕ) (held : Holds (recordsIn (marked xs work′)) d d′ rs rs′) where
         packed-as : Packed (recordsOf xs) d d′ rs′
@@ -166,13 +157,13 @@ module _ (xs work work′ : List ℕ) (m : work′ ≡ keptBehind (mapOf xs) wor
         unfolding bodyResult
         texts-are =
             rw (← told .2, a)
-            (texts-held (recordsOf xs) (rewriting (drop start xs)) d′ (packed-as .front) ∙ sym (ap (λ (f : Result). f .declared) result))
+            (texts-held (recordsOf xs) (rewriting actionOf (drop start xs)) d′ (packed-as .front) ∙ sym (ap (λ (f : Result). f .declared) result))
 
         pub numbers-are : take (ifAccepted r (8 * c + 8)) rs′ ≡ functionResult xs .records
         unfolding bodyResult
         numbers-are =
             rw (← told .1, a)
-            (numbers-held (recordsOf xs) (rewriting (drop start xs)) rs′ (packed-as .numbers) ∙ sym (ap (λ (f : Result). f .records) result))
+            (numbers-held (recordsOf xs) (rewriting actionOf (drop start xs)) rs′ (packed-as .numbers) ∙ sym (ap (λ (f : Result). f .records) result))
 
         pub texts-kept : length xs ≤ 16384 → drop 65536 d′ ≡ drop 65536 d
         texts-kept h = ap (drop 65536) (packed-as .texts) ∙ sets-drop (packed (recordsOf xs)) d 0 65536 (omega (arith, packed-fits xs, h))
@@ -182,7 +173,7 @@ module _ (xs work work′ : List ℕ) (m : work′ ≡ keptBehind (mapOf xs) wor
     many : 512 < length (recordsOf xs)
     many = parsed-names (recordsOf xs) (ap parsedOf (sym the-records) ∙ q)
 
-    pub refused-is : functionResult xs ≡ withoutRecords rewritten.TooManyNames []
+    pub refused-is : functionResult xs ≡ withoutRecords refusal.TooManyNames []
     refused-is = function-refused xs many
 
     pub texts-same : (d d′ rs rs′ : List ℕ) → Holds (recordsIn (marked xs work′)) d d′ rs rs′ → d′ ≡ d

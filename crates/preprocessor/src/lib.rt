@@ -3,11 +3,14 @@ use checks::check_texts;
 use declarations::Parsed;
 use declarations::body_start;
 use declarations::parse_declarations;
+use declared_records::RECORD_NUMBERS;
+use declared_records::RECORD_WIDTH;
 use declared_records::clear;
 use output::fill;
 use passes::run_body;
 use scanner::map_text;
 use spec::Check;
+use spec::Refusal;
 use spec::Rewritten;
 ghost use mathlib.Core.Path.{_≡_};
 ghost use mathlib.Core.Bool.{_&&_};
@@ -16,7 +19,8 @@ ghost use Prim.Native.Nat.{_≤_};
 ghost use lib.Dec.{leb};
 ghost use lib.ListN.{length};
 ghost use Rattle.spec.specs.Answers.{zeroedTo, functionResult, bodyCheck, bodyAnswer, bodyOutput, workExit, functionCheck, functionAnswer, functionOutput, functionText, functionRecords};
-ghost use Rattle.spec.specs.declared.Rewritten.the-variants.{TooManyNames};
+ghost use Rattle.spec.specs.declared.Refusal.the-variants.{TooManyNames};
+ghost use Rattle.spec.specs.declared.Rewritten.the-variants.{Refused};
 ghost use Rattle.preprocessor.specs.Records.{withRecords, ifAccepted};
 
 // The most bytes that a call's text may have.
@@ -25,20 +29,17 @@ const TEXT_LIMIT: usize = 16384;
 // What is lent for the output, for each work buffer and for the declarations' text.
 const BUFFER_SIZE: usize = 65536;
 
-// What is lent for the numbers of the records.
-const RECORD_NUMBERS: usize = 4104;
-
 // Whether output and work buffers are long enough.
 fn are_lent(output: usize, work: usize, spare: usize) -> bool
     ensures { λ r. ⌜ r ≡ (leb 65536 output && (leb 65536 work && leb 65536 spare)) ⌝ }
 {
-    if output < 65536 {
+    if output < BUFFER_SIZE {
         return false;
     }
-    if work < 65536 {
+    if work < BUFFER_SIZE {
         return false;
     }
-    65536 <= spare
+    BUFFER_SIZE <= spare
 }
 
 // The body call: the five passes over a trigger's body. The output holds the result and then zeros; the work buffers
@@ -67,10 +68,10 @@ fn all_lent(output: usize, work: usize, spare: usize, declared: usize, records: 
     ensures { λ r. ⌜ r ≡ ((leb 65536 output && (leb 65536 work && leb 65536 spare)) && (leb 65536 declared && leb 4104 records)) ⌝ }
 {
     if are_lent(output, work, spare) {
-        if declared < 65536 {
+        if declared < BUFFER_SIZE {
             return false;
         }
-        4104 <= records
+        RECORD_NUMBERS <= records
     } else {
         false
     }
@@ -85,11 +86,7 @@ fn with_records(r: Rewritten, count: usize) -> Rewritten
             length,
             records: count,
         },
-        Rewritten::QualifiedTarget { qualifier, length } => r,
-        Rewritten::UsingClause { length } => r,
         Rewritten::Refused(f) => r,
-        Rewritten::TooManyNames => r,
-        Rewritten::ResultTooLong => r,
     }
 }
 
@@ -99,11 +96,7 @@ fn if_accepted(r: Rewritten, n: usize) -> usize
 {
     match r {
         Rewritten::Accepted { length, records } => n,
-        Rewritten::QualifiedTarget { qualifier, length } => 0,
-        Rewritten::UsingClause { length } => 0,
         Rewritten::Refused(f) => 0,
-        Rewritten::TooManyNames => 0,
-        Rewritten::ResultTooLong => 0,
     }
 }
 
@@ -122,7 +115,7 @@ fn refuse_names(
     requires { ⌜ size ≤ length (now spare) ⌝ }
     requires { ⌜ size ≤ length (now declared) ⌝ }
     requires { ⌜ numbers ≤ length (now records) ⌝ }
-    ensures { λ r. ⌜ r ≡ TooManyNames ⌝ }
+    ensures { λ r. ⌜ r ≡ Refused TooManyNames ⌝ }
     ensures { λ _. ⌜ now (output .exit) ≡ zeroedTo size [] (now (output .entry)) ⌝ }
     ensures { λ _. ⌜ now (work .exit) ≡ zeroedTo size [] (now (work .entry)) ⌝ }
     ensures { λ _. ⌜ now (spare .exit) ≡ zeroedTo size [] (now (spare .entry)) ⌝ }
@@ -134,7 +127,7 @@ fn refuse_names(
     fill(spare, 0, size, 0);
     fill(declared, 0, size, 0);
     clear(records, 0, numbers);
-    Rewritten::TooManyNames
+    Rewritten::Refused(Refusal::TooManyNames)
 }
 
 // The records, then the passes over the body, and zeros behind what the buffers hold; `work` takes the text's map first.
@@ -171,7 +164,7 @@ fn run_function(
     };
     let r = run_body(&text[start..], output, work, spare, size);
     let n = if_accepted(r, packed);
-    let k = if_accepted(r, 8 * count + 8);
+    let k = if_accepted(r, RECORD_WIDTH * count + RECORD_WIDTH);
     fill(declared, n, size, 0);
     clear(records, k, numbers);
     with_records(r, count)

@@ -1,4 +1,3 @@
-pub mod OutcomeLaws
 pub mod RaiseLaws
 pub mod WrittenLaws
 pub mod PassLaws

@@ -12,16 +12,17 @@ use Rattle.spec.proofs.PartLaws.{bytes-part}
 use Rattle.spec.proofs.WalkLaws.{bytes-drop}
 use Rattle.spec.specs.Map.{Marked, marked, bytes}
 use Rattle.spec.specs.Search.{first}
-use Rattle.spec.specs.Assignments.{Outcome, done}
+use Rattle.spec.specs.Outcome.{usingClause, Outcome, accepted}
 use Rattle.spec.specs.Raise.{levelWords, levelIn, fateText}
 use Rattle.spec.specs.declared.Found.the-variants.{At, Nothing}
 use Rattle.messages.specs.Readings.{fateIn, Reads}
 use Rattle.messages.specs.declared.RaiseRead.{RaiseRead}
 use Rattle.output.proofs.StoreLaws.{front-stored}
 use Rattle.output.specs.Passes.{passAnswer, Leaves}
-use Rattle.output.specs.declared.Pass.the-variants.{Clause}
+use Rattle.output.specs.declared.Pass.the-variants.{Refused}
+use Rattle.spec.specs.declared.Refusal.the-variants.{UsingClause}
 use Rattle.raise.specs.Texts.{Put}
-use Rattle.raise.proofs.OutcomeLaws.{Turn, turn-both, turn-front, turn-text, turn-clause, clause-first}
+use Rattle.output.proofs.OutcomeLaws.{Turn, turn-both, turn-front, turn-text, turn-stopped, refusal-first}
 use Rattle.raise.proofs.RaiseLaws.{leftAt, raise-step, raise-last, left-min}
 use Rattle.spec.proofs.RaisePlaces.{raiseOf}
 use Rattle.spec.proofs.RaiseWalk.{raised-pos, raiseHere}
@@ -29,9 +30,9 @@ use Rattle.spec.proofs.RaiseWalk.{raised-pos, raiseHere}
 module _ (xs ms : List ℕ) (from : ℕ) where
   -- no RAISE is left
   pub last-turn : (d d′ : List ℕ) (n n′ : ℕ) → first raiseHere from (marked xs ms) ≡ Nothing
-      → d′ ≡ sets d n (drop from xs) → n′ ≡ n + length (drop from xs) → Turn d n (leftAt (marked xs ms) from) d′ n′ (done [])
+      → d′ ≡ sets d n (drop from xs) → n′ ≡ n + length (drop from xs) → Turn d n (leftAt (marked xs ms) from) d′ n′ (accepted [])
   last-turn d d′ n n′ e p q =
-      rw (raise-last (marked xs ms) from e) (turn-front (drop from (marked xs ms)) (drop from xs) d d′ n n′ (done []) (bytes-drop xs ms from) p q)
+      rw (raise-last (marked xs ms) from e) (turn-front (drop from (marked xs ms)) (drop from xs) d d′ n n′ (accepted []) (bytes-drop xs ms from) p q)
 
   module _ (at : ℕ) (e : first raiseHere from (marked xs ms) ≡ At at) where
     -- the RAISE stands within the text
@@ -79,12 +80,12 @@ module _ (xs ms : List ℕ) (from : ℕ) where
           (turn-text (fateText (raiseOf (drop at (marked xs ms)) .fate)) (s .text) d₁ d₂ n₁ n₂ _ (here .text ∙ s .becomes) (s .stored) (s .counted)))
 
       -- it is refused: its clause stands in front
-      pub raise-clause : (d₀ d d₁ d₂ : List ℕ) (n n₁ n₂ : ℕ) (o : Outcome) → Turn d₀ 0 o d n (leftAt (marked xs ms) from)
+      pub raise-clause : (d₀ d d₁ d₂ : List ℕ) (n n₁ n₂ : ℕ) (o : Outcome (List Marked)) → Turn d₀ 0 o d n (leftAt (marked xs ms) from)
           → Put (fateIn (r .fate) (r .end) (drop at xs)) d₁ n₁ true d₂ n₂ → n₂ ≤ length d₁
-          → (Clause n₂ ≡ passAnswer o) × Leaves o d₀ d₂
+          → (Refused (UsingClause n₂) ≡ passAnswer o) × Leaves o d₀ d₂
       raise-clause d₀ d d₁ d₂ n n₁ n₂ o t s h =
           let c = s .text in
           let k : n₂ ≡ length c = omega (arith, s .counted) in
-          let left = raise-step (marked xs ms) from at e ∙ clause-first (take (at - from) (drop from (marked xs ms))) _ _ c (here .text ∙ s .becomes) in
-          let w = turn-clause d₀ d d₂ n o _ c t left (front-stored d₁ d₂ c (length c) refl (omega arith) (s .stored)) in
-          (ap Clause k ∙ w .0, w .1)
+          let left = raise-step (marked xs ms) from at e ∙ refusal-first (take (at - from) (drop from (marked xs ms))) _ _ (usingClause c) (here .text ∙ s .becomes) in
+          let w = turn-stopped d₀ d d₂ n o _ (usingClause c) t left (front-stored d₁ d₂ c (length c) refl (omega arith) (s .stored)) in
+          (ap (λ (l : ℕ). Refused (UsingClause l)) k ∙ w .0, w .1)

@@ -16,46 +16,44 @@ use Rattle.spec.proofs.RaiseWalk.{raiseHere, raisesAt, raises-end, raise-kept, 
 use Rattle.spec.proofs.WalkLaws.{passesAt}
 use Rattle.spec.specs.Map.{Marked, live, frontByte}
 use Rattle.spec.specs.Search.{first}
-use Rattle.spec.specs.Assignments.{Outcome, done, qualified, clause, _⊕_}
-use Rattle.spec.specs.Raise.{Part, fateText, partText, joinParts, raise}
+use Rattle.spec.specs.Outcome.{Outcome, accepted, refused, _⊕_}
+use Rattle.spec.specs.Raise.{actionOf, Token, fateText, tokenText, joinTokens, raise}
 use Rattle.spec.specs.declared.Found.the-variants.{At, Nothing}
 
 module _ (t : List Marked) where
-  done-nothing : (o : Outcome) → done [] ⊕ o ≡ o
+  accepted-nothing : (o : Outcome (List Marked)) → accepted [] ⊕ o ≡ o
   unfolding _⊕_
-  done-nothing (done t) = refl
-  done-nothing (qualified q n) = refl
-  done-nothing (clause c) = refl
+  accepted-nothing (accepted t) = refl
+  accepted-nothing (refused r) = refl
 
-  done-more : (x : Marked) (u : List Marked) (o : Outcome) → done (x ∷ u) ⊕ o ≡ done (x ∷ []) ⊕ (done u ⊕ o)
+  accepted-more : (x : Marked) (u : List Marked) (o : Outcome (List Marked)) → accepted (x ∷ u) ⊕ o ≡ accepted (x ∷ []) ⊕ (accepted u ⊕ o)
   unfolding _⊕_
-  done-more x u (done t) = refl
-  done-more x u (qualified q n) = refl
-  done-more x u (clause c) = refl
+  accepted-more x u (accepted t) = refl
+  accepted-more x u (refused r) = refl
 
   -- what is left from i on
-  abbrev pub leftAt : ℕ → Outcome
-  leftAt i = joinParts (raisesAt t i)
+  abbrev pub leftAt : ℕ → Outcome (List Marked)
+  leftAt i = joinTokens (raisesAt t i)
 
-  left-kept : (i : ℕ) → i < length t → passesAt raiseHere t i ≡ false → leftAt i ≡ done (getD t i (live 0) ∷ []) ⊕ leftAt (i + 1)
-  unfolding joinParts partText
-  left-kept i h e = ap joinParts (raise-kept t i h e)
+  left-kept : (i : ℕ) → i < length t → passesAt raiseHere t i ≡ false → leftAt i ≡ accepted (getD t i (live 0) ∷ []) ⊕ leftAt (i + 1)
+  unfolding joinTokens tokenText
+  left-kept i h e = ap joinTokens (raise-kept t i h e)
 
-  left-end : (i : ℕ) → length t ≤ i → leftAt i ≡ done []
-  unfolding joinParts
-  left-end i h = ap joinParts (raises-end t i h)
+  left-end : (i : ℕ) → length t ≤ i → leftAt i ≡ accepted []
+  unfolding joinTokens
+  left-end i h = ap joinTokens (raises-end t i h)
 
   pub raise-step : (i j : ℕ) → first raiseHere i t ≡ At j
-      → leftAt i ≡ done (take (j - i) (drop i t)) ⊕ (fateText (raiseOf (drop j t) .fate) ⊕ leftAt (j + raiseOf (drop j t) .length))
-  unfolding joinParts partText
+      → leftAt i ≡ accepted (take (j - i) (drop i t)) ⊕ (fateText (raiseOf (drop j t) .fate) ⊕ leftAt (j + raiseOf (drop j t) .length))
+  unfolding joinTokens tokenText
   raise-step i j e =
       let b = first-least raiseHere t i j e in
-      copied (λ (l : List Marked) (o : Outcome). done l ⊕ o) done-nothing done-more raiseHere t leftAt left-kept i j e
-      ∙ ap (λ (ps : List Part). done (take (j - i) (drop i t)) ⊕ joinParts ps) (raise-goes t j (b .inside) (b .passes))
+      copied (λ (l : List Marked) (o : Outcome (List Marked)). accepted l ⊕ o) accepted-nothing accepted-more raiseHere t leftAt left-kept i j e
+      ∙ ap (λ (ps : List Token). accepted (take (j - i) (drop i t)) ⊕ joinTokens ps) (raise-goes t j (b .inside) (b .passes))
 
-  pub raise-last : (i : ℕ) → first raiseHere i t ≡ Nothing → leftAt i ≡ done (drop i t) ⊕ done []
+  pub raise-last : (i : ℕ) → first raiseHere i t ≡ Nothing → leftAt i ≡ accepted (drop i t) ⊕ accepted []
   raise-last =
-      copied-all (λ (l : List Marked) (o : Outcome). done l ⊕ o) done-nothing done-more raiseHere t leftAt left-kept (done []) left-end
+      copied-all (λ (l : List Marked) (o : Outcome (List Marked)). accepted l ⊕ o) accepted-nothing accepted-more raiseHere t leftAt left-kept (accepted []) left-end
 
   -- past the end it does not matter how far
   pub left-min : (j n k : ℕ) → n ≡ min k (length t - j) → j ≤ length t → leftAt (j + k) ≡ leftAt (j + n)
@@ -64,9 +62,9 @@ module _ (t : List Marked) where
       (λ q. let r = leb-true k (length t - j) q in let z : j + k ≡ j + n = omega arith in ap leftAt z)
       (λ q.
       let r = leb-false k (length t - j) q in
-      ap joinParts (raises-end t (j + k) (omega arith) ∙ sym (raises-end t (j + n) (omega arith))))
+      ap joinTokens (raises-end t (j + k) (omega arith) ∙ sym (raises-end t (j + n) (omega arith))))
 
 -- from the start on it is the pass
-pub raise-start : (t : List Marked) → raise t ≡ leftAt t 0
+pub raise-start : (t : List Marked) → raise actionOf t ≡ leftAt t 0
 unfolding raise frontByte
 raise-start t = refl

@@ -7,7 +7,7 @@ use native.Mathlib.Omega.{arith}
 use lib.ListN.{length, length-append}
 use lib.Seq.{sets}
 use Rattle.spec.specs.Bytes.{ascii}
-use Rattle.spec.specs.Body.{Rewriting}
+use Rattle.spec.specs.Outcome.{Rewriting}
 use Rattle.messages.specs.Readings.{aborting, abortIn}
 use Rattle.output.proofs.StoreLaws.{sets-append}
 use Rattle.raise.specs.Texts.{Put}

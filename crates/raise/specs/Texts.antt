@@ -5,12 +5,12 @@ use mathlib.Core.List.{List}
 use Prim.Native.Nat.{ℕ, _+_}
 use lib.ListN.{length}
 use lib.Seq.{sets}
-use Rattle.spec.specs.Body.{Rewriting, accepted, usingClause}
+use Rattle.spec.specs.Outcome.{usingClause, accepted, refused, Rewriting}
 
 -- a RAISE that becomes w is put into d, of which n bytes are written, and makes it e with r bytes: its text from n on, or where
 -- it is refused its clause from the front on
-pub record Put (w : Rewriting) (d : List ℕ) (n : ℕ) (refused : Bool) (e : List ℕ) (r : ℕ) : Type 0 where
+pub record Put (w : Rewriting) (d : List ℕ) (n : ℕ) (stops : Bool) (e : List ℕ) (r : ℕ) : Type 0 where
   pub text : List ℕ
-  pub becomes : w ≡ cond refused (usingClause text) (accepted text)
-  pub stored : e ≡ sets d (cond refused 0 n) text
-  pub counted : r ≡ cond refused 0 n + length text
+  pub becomes : w ≡ cond stops (refused (usingClause text)) (accepted text)
+  pub stored : e ≡ sets d (cond stops 0 n) text
+  pub counted : r ≡ cond stops 0 n + length text

@@ -7,13 +7,14 @@ use output::Pass;
 use output::put_all;
 use scanner::find_keyword_in;
 use spec::Found;
+use spec::Refusal;
 ghost use mathlib.Core.Path.{_≡_};
 ghost use mathlib.Core.Bool.{cond};
 ghost use Prim.Native.Nat.{_+_, _^_, _≤_, _<_};
 ghost use lib.ListN.{length};
 ghost use lib.Seq.{sets};
 ghost use Rattle.spec.specs.Map.{marked};
-ghost use Rattle.spec.specs.Raise.{raise};
+ghost use Rattle.spec.specs.Raise.{actionOf, raise};
 ghost use Rattle.output.specs.Passes.{passAnswer, Leaves};
 ghost use Rattle.messages.specs.Readings.{aborting, abortOf, fateIn, FateWithin};
 ghost use Rattle.raise.specs.Texts.{Put};
@@ -68,8 +69,8 @@ pub fn transform_raise_statements(text: &[u8], map: &[u8], out: &mut [u8]) -> Pa
     requires { ⌜ length (now text) ≤ 65536 ⌝ }
     requires { ⌜ length (now text) ≤ length (now map) ⌝ }
     requires { ⌜ length (now text) ≤ length (now out) ⌝ }
-    ensures { λ r. ⌜ r ≡ passAnswer (raise (marked (now (text .entry)) (now (map .entry)))) ⌝ }
-    ensures { λ _. ⌜ Leaves (raise (marked (now (text .entry)) (now (map .entry)))) (now (out .entry)) (now (out .exit)) ⌝ }
+    ensures { λ r. ⌜ r ≡ passAnswer (raise actionOf (marked (now (text .entry)) (now (map .entry)))) ⌝ }
+    ensures { λ _. ⌜ Leaves (raise actionOf (marked (now (text .entry)) (now (map .entry)))) (now (out .entry)) (now (out .exit)) ⌝ }
 {
     let mut n: usize = 0;
     let mut from: usize = 0;
@@ -85,7 +86,7 @@ pub fn transform_raise_statements(text: &[u8], map: &[u8], out: &mut [u8]) -> Pa
         n = put_all(out, n, &text[from..at]);
         n = put_raise(out, n, rest, read, &mut refused);
         if refused {
-            return Pass::Clause(n);
+            return Pass::Refused(Refusal::UsingClause { length: n });
         }
         from = at + end;
     }

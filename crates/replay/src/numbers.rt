@@ -1,4 +1,5 @@
 // The numbers that an answer stands for: number, found, place, and the length of what was found or written.
+use checks::refusal_numbers;
 use spec::Filled;
 use spec::Refusal;
 use spec::Search;
@@ -20,11 +21,8 @@ pub fn four(number: usize, found: usize, place: usize, length: usize) -> Numbers
 }
 
 pub fn of_refusal(r: Refusal) -> Numbers {
-    match r {
-        Refusal::TextTooLong => four(1, 0, 0, 0),
-        Refusal::BufferTooShort => four(3, 0, 0, 0),
-        Refusal::NotAscii(i) => four(2, 0, i, 0),
-    }
+    let n = refusal_numbers(r);
+    four(n.number as usize, 0, n.place, 0)
 }
 
 pub fn of_search(s: Search) -> Numbers {

@@ -1,4 +1,5 @@
 // The two rewriting calls, with the first bytes and numbers of the buffers lent, and the numbers of their answers.
+use checks::refusal_numbers;
 use preprocessor::preprocess;
 use preprocessor::transform_body;
 use spec::Refusal;
@@ -25,21 +26,14 @@ fn four(number: usize, place: usize, length: usize, records: usize) -> CallNumbe
 }
 
 fn of_refusal(r: Refusal) -> CallNumbers {
-    match r {
-        Refusal::TextTooLong => four(1, 0, 0, 0),
-        Refusal::BufferTooShort => four(3, 0, 0, 0),
-        Refusal::NotAscii(i) => four(2, i, 0, 0),
-    }
+    let n = refusal_numbers(r);
+    four(n.number as usize, n.place, n.length, 0)
 }
 
 fn of_rewritten(r: Rewritten) -> CallNumbers {
     match r {
         Rewritten::Accepted { length, records } => four(0, 0, length, records),
         Rewritten::Refused(r) => of_refusal(r),
-        Rewritten::TooManyNames => four(7, 0, 0, 0),
-        Rewritten::QualifiedTarget { qualifier, length } => four(4, qualifier, length, 0),
-        Rewritten::UsingClause { length } => four(5, 0, length, 0),
-        Rewritten::ResultTooLong => four(6, 0, 0, 0),
     }
 }
 

@@ -13,13 +13,13 @@ use lib.Seq.{sets, sets-eq}
 use Rattle.spec.proofs.Choice.{by}
 use Rattle.spec.proofs.MapLaws.{map-length}
 use Rattle.spec.proofs.WalkLaws.{marked-kept}
-use Rattle.spec.proofs.SearchLaws.{check-only}
+use Rattle.spec.proofs.SearchLaws.{CheckRefuses, too-long, too-short, not-ascii, check-only}
 use Rattle.spec.specs.Map.{mapOf, marked, markedText}
-use Rattle.spec.specs.Answers.{searchLimit, checkOf, exitOf, keptBehind, filledAnswer, mapCheck, mapExit, splitCheck, requoteCheck, refusalPlace}
+use Rattle.spec.specs.Answers.{searchLimit, checkOf, exitOf, keptBehind, filledAnswer, mapCheck, mapExit, splitCheck, requoteCheck, refusalNumbers}
 use Rattle.spec.specs.declared.Check.{Check}
 use Rattle.spec.specs.declared.Check.the-variants.{Passed, Refused}
 use Rattle.spec.specs.declared.Refusal.{Refusal}
-use Rattle.spec.specs.declared.Refusal.the-variants.{TextTooLong, BufferTooShort, NotAscii}
+use Rattle.spec.specs.declared.Refusal.the-variants.{TextTooLong, BufferTooShort}
 
 -- the check by the length of the lent map
 pub map-fits : (xs lent needle : List ℕ) → length xs ≤ length lent → mapCheck xs lent needle ≡ checkOf 65536 true xs needle
@@ -98,10 +98,12 @@ unfolding mapCheck searchLimit
 passed-length xs lent needle e = passed-fits 65536 _ xs needle e
 
 -- the place of a refusal without a needle is an offset of the text
-pub refused-place : (xs lent : List ℕ) (r : Refusal) → mapCheck xs lent [] ≡ Refused r → refusalPlace r ≤ 65536
+pub refused-place : (xs lent : List ℕ) (r : Refusal) → mapCheck xs lent [] ≡ Refused r → refusalNumbers r .place ≤ 65536
 unfolding mapCheck searchLimit
-refused-place xs lent TextTooLong e = omega arith
-refused-place xs lent BufferTooShort e = omega arith
-refused-place xs lent (NotAscii i) e =
-    let k = check-only 65536 (leb (length xs) (length lent)) xs [] (Refused (NotAscii i)) e in
-    ⊎-elim (λ h. omega (arith, h .inside, k .0)) (λ h. absurd (not-suc-le-zero (h .1 .inside))) (k .2)
+refused-place xs lent r e = go (check-only 65536 (leb (length xs) (length lent)) xs [] (Refused r) e)
+  where
+    go : CheckRefuses 65536 (leb (length xs) (length lent)) xs [] r → refusalNumbers r .place ≤ 65536
+    go (too-long q h) = rw q (omega arith)
+    go (too-short q h n) = rw q (omega arith)
+    go (not-ascii {i} q h y w) =
+        rw q (⊎-elim (λ k. omega (arith, k .inside)) (λ k. absurd (not-suc-le-zero (k .1 .inside))) w)

@@ -1,6 +1,7 @@
 // The public searches. Each checks the text and the lent buffers first, and a refused one writes nothing. An accepted one
 // leaves the text's map at the front of the lent map.
 use checks::check_texts;
+use checks::refusal_numbers;
 use requote::requote;
 use scanner::find_byte_in;
 use scanner::find_keyword_in;
@@ -20,7 +21,7 @@ ghost use mathlib.Core.Path.{_≡_};
 ghost use mathlib.Core.List.{[], _∷_};
 ghost use Prim.Native.Nat.{_≤_};
 ghost use lib.ListN.{length};
-ghost use Rattle.spec.specs.Answers.{mapCheck, mapExit, searchAnswer, filledAnswer, yesNo, regionsAnswer, keywordAnswer, byteAnswer, needleAnswer, wordAnswer, wordPart, searchNumbers, searchList, refusalNumber, refusalPlace, handlerAnswer, unterminatedAnswer, splitAnswer, splitMapExit, splitExit, requoteAnswer, requoteExit};
+ghost use Rattle.spec.specs.Answers.{mapCheck, mapExit, searchAnswer, filledAnswer, yesNo, regionsAnswer, keywordAnswer, byteAnswer, needleAnswer, wordAnswer, wordPart, searchNumbers, searchList, refusalNumbers, handlerAnswer, unterminatedAnswer, splitAnswer, splitMapExit, splitExit, requoteAnswer, requoteExit};
 ghost use Rattle.spec.specs.declared.Check.the-variants.{Passed};
 
 // The most bytes that a search's text may have.
@@ -127,14 +128,11 @@ fn put_answer(answer: &mut [u32; 3], number: u32, found: u32, place: u32)
 
 // The numbers of a refused search.
 fn put_refusal(answer: &mut [u32; 3], r: Refusal)
-    requires { ⌜ refusalPlace r ≤ 65536 ⌝ }
-    ensures { λ _. ⌜ now (answer .exit) ≡ refusalNumber r ∷ 0 ∷ refusalPlace r ∷ [] ⌝ }
+    requires { ⌜ refusalNumbers r .place ≤ 65536 ⌝ }
+    ensures { λ _. ⌜ now (answer .exit) ≡ refusalNumbers r .number ∷ 0 ∷ refusalNumbers r .place ∷ [] ⌝ }
 {
-    match r {
-        Refusal::TextTooLong => put_answer(answer, 1, 0, 0),
-        Refusal::BufferTooShort => put_answer(answer, 3, 0, 0),
-        Refusal::NotAscii(i) => put_answer(answer, 2, 0, i as u32),
-    }
+    let n = refusal_numbers(r);
+    put_answer(answer, n.number, 0, n.place as u32);
 }
 
 // The next word of live text at or after `from`: that part of the caller's text, empty if there is none. The answer's

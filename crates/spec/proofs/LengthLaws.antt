@@ -15,6 +15,8 @@ use Rattle.spec.proofs.Choice.{by, cond-case, cond-le, and-left, and-ri
 use Rattle.spec.proofs.ListLaws.{while-all, total, total-append, total-reverse, total-cut, total-while, total-le, total-map, total-const, drop-end-le, drop-while-le}
 use Rattle.spec.proofs.SpanLaws.{by-kind, span-pos, dollar-le, opens-in}
 use Rattle.spec.proofs.MapLaws.{text-bytes, text-length}
+use Rattle.spec.proofs.Apart.{apart}
+use Rattle.spec.proofs.RefusalLaws.{targetIn, assign-done, assign-refused}
 use Rattle.spec.specs.Bytes.{ascii, within, upper, isIdent, isWord, isW, isDigit, isLower, isUpper}
 use Rattle.spec.specs.Lists.{isEmpty, takeWhile, dropWhile, dropEnd, any, all, keep, concat}
 use Rattle.spec.specs.Spans.{tagLen, dollarOf, Kind, line, block, single, double, dollar, code, spanOf, spanAt, spanLen, lexemeAt, lexemesFrom, lexemes}
@@ -22,8 +24,10 @@ use Rattle.spec.specs.Map.{Marked, live, quoted, byte, bytes, lives, mar
 use Rattle.spec.specs.Search.{Test, firstFrom, first, startsIgnoringCase, starts, wordHere, needleHere, byteHere, ontoFirst, piecesFrom, pieces, startsFrom, splitInCode}
 use Rattle.spec.specs.Requote.{doubled, singleQuoted, requoteSpan, requoteLexeme, requoted}
 use Rattle.spec.specs.Elsif.{elsifFrom, elsif}
-use Rattle.spec.specs.Assignments.{Outcome, done, qualified, clause, _⊕_, trimEnd, trim, Target, assignHere, rightSide, startsName, assignmentAt, assignment, checkedStatement, statement, statementTarget, joinStatements, assignments}
-use Rattle.spec.specs.Body.{bufferSize, Rewriting, accepted, qualifiedTarget, usingClause, resultTooLong, forget, requotePass, elsifPass, assignPass, selectPass, raisePass, limited, andThen, rewriting}
+use Rattle.spec.specs.Outcome.{resultTooLong, Outcome, accepted, refused, _⊕_, Rewriting, forget}
+use Rattle.spec.specs.Raise.{Level, Action}
+use Rattle.spec.specs.Assignments.{trimEnd, trim, Target, assignHere, rightSide, startsName, assignmentAt, assignment, checkedStatement, statement, statementTarget, joinStatements, assignments}
+use Rattle.spec.specs.Body.{bufferSize, requotePass, elsifPass, assignPass, selectPass, raisePass, limited, andThen, rewriting}
 use Rattle.spec.specs.Answers.{textLimit}
 use Rattle.spec.specs.declared.Found.{Found}
 use Rattle.spec.specs.declared.Found.the-variants.{At, Nothing}
@@ -404,18 +408,15 @@ assignment-weight t =
     (omega (arith, weight-length t))
 
 -- the text of an outcome, none for a refusal
-abbrev pub textOf : Outcome → List Marked
-textOf (done t) = t
-textOf (qualified q n) = []
-textOf (clause c) = []
+abbrev pub textOf : Outcome (List Marked) → List Marked
+textOf (accepted t) = t
+textOf (refused r) = []
 
-both-length : (a b : Outcome) → length (textOf (a ⊕ b)) ≤ length (textOf a) + length (textOf b)
+both-length : (a b : Outcome (List Marked)) → length (textOf (a ⊕ b)) ≤ length (textOf a) + length (textOf b)
 unfolding _⊕_
-both-length (done t) (done u) = omega (arith, length-append t u)
-both-length (done t) (qualified q n) = zero-le
-both-length (done t) (clause c) = zero-le
-both-length (qualified q n) o = zero-le
-both-length (clause c) o = zero-le
+both-length (accepted t) (accepted u) = omega (arith, length-append t u)
+both-length (accepted t) (refused r) = zero-le
+both-length (refused r) o = zero-le
 
 statement-weight : (t : List Marked) → 2 * length (textOf (statement t)) ≤ total (markWeight 5) t + 1
 unfolding statement checkedStatement
@@ -431,7 +432,7 @@ join-weight : (s : List Marked) (ss : List (List Marked))
 unfolding joinStatements total
 join-weight s [] = omega (arith, statement-weight s)
 join-weight s (r ∷ ss) =
-    let semicolon = done (live 59 ∷ []) in
+    let semicolon = accepted (live 59 ∷ []) in
     let rest = joinStatements (r ∷ ss) in
     omega (arith, statement-weight s, both-length (statement s) (semicolon ⊕ rest), both-length semicolon rest, join-weight r ss)
 
@@ -475,11 +476,10 @@ two-length xs =
     let t = elsif (markedText (requoted xs)) in
     omega (arith, two-weight xs, weight-length t, length-map t byte)
 
-forget-length : (o : Outcome) (zs : List ℕ) → forget o ≡ accepted zs → length zs ≡ length (textOf o)
+forget-length : (o : Outcome (List Marked)) (zs : List ℕ) → forget o ≡ accepted zs → length zs ≡ length (textOf o)
 unfolding forget bytes
-forget-length (done t) zs h = let e : map byte t ≡ zs = cc in sym (ap length e) ∙ length-map t byte
-forget-length (qualified q n) zs h = let z : _≡_ {A = ℕ} 0 1 = cc in absurd (omega arith)
-forget-length (clause c) zs h = let z : _≡_ {A = ℕ} 0 1 = cc in absurd (omega arith)
+forget-length (accepted t) zs h = let e : map byte t ≡ zs = cc in sym (ap length e) ∙ length-map t byte
+forget-length (refused r) zs h = let z : _≡_ {A = ℕ} 0 1 = cc in absurd (omega arith)
 
 -- and behind pass 3
 pub three-length : (xs zs : List ℕ) → assignPass (bytes (elsif (markedText (requoted xs)))) ≡ accepted zs → length zs ≤ 3 * length xs
@@ -517,9 +517,7 @@ accepted-same zs h = simp (le-ltb bufferSize (length zs) h)
 pub limited-same : (r : Rewriting) → ((zs : List ℕ) → r ≡ accepted zs → length zs ≤ bufferSize) → limited r ≡ r
 unfolding limited
 limited-same (accepted zs) h = accepted-same zs (h zs refl)
-limited-same (qualifiedTarget q n) h = refl
-limited-same (usingClause c) h = refl
-limited-same resultTooLong h = refl
+limited-same (refused r) h = refl
 
 -- so on a text within the limit passes 1 to 3 give what pass 3 gives
 pub three-passes : (xs : List ℕ) → length xs ≤ textLimit
@@ -534,22 +532,21 @@ three-passes xs h =
     )
 
 -- pass 3 by itself never gives refusal 6
-pub assign-not-long : (xs : List ℕ) → assignPass xs ≡ resultTooLong → ⊥
-unfolding assignPass forget
-assign-not-long xs h = go (assignments (markedText xs)) h
+pub assign-not-long : (xs : List ℕ) → assignPass xs ≡ refused resultTooLong → ⊥
+assign-not-long xs h = go (targetIn xs) refl
   where
-    go : (o : Outcome) → forget o ≡ resultTooLong → ⊥
-    go (done t) h = let z : _≡_ {A = ℕ} 0 1 = cc in omega arith
-    go (qualified q n) h = let z : _≡_ {A = ℕ} 0 1 = cc in omega arith
-    go (clause c) h = let z : _≡_ {A = ℕ} 0 1 = cc in omega arith
+    go : (o : Option Target) → targetIn xs ≡ o → ⊥
+    go none e = let f = assign-done xs e in apart (cc)
+    go (some r) e = let f = assign-refused xs r e in apart (cc)
 
 -- on a text within the limit passes 1 to 3 never give refusal 6
 pub three-not-long : (xs : List ℕ) → length xs ≤ textLimit
-    → andThen (andThen (andThen (accepted xs) requotePass) elsifPass) assignPass ≡ resultTooLong → ⊥
+    → andThen (andThen (andThen (accepted xs) requotePass) elsifPass) assignPass ≡ refused resultTooLong → ⊥
 three-not-long xs h e = assign-not-long (bytes (elsif (markedText (requoted xs)))) (sym (three-passes xs h) ∙ e)
 
 -- and the five passes are passes 4 and 5 over what pass 3 gives
-pub five-passes : (xs : List ℕ) → length xs ≤ textLimit
-    → rewriting xs ≡ andThen (andThen (assignPass (bytes (elsif (markedText (requoted xs))))) selectPass) raisePass
+pub five-passes : (act : Level → Action) (xs : List ℕ) → length xs ≤ textLimit
+    → rewriting act xs
+    ≡ andThen (andThen (assignPass (bytes (elsif (markedText (requoted xs))))) selectPass) (raisePass act)
 unfolding rewriting
-five-passes xs h = ap (λ r. andThen (andThen r selectPass) raisePass) (three-passes xs h)
+five-passes act xs h = ap (λ r. andThen (andThen r selectPass) (raisePass act)) (three-passes xs h)

@@ -9,7 +9,9 @@ use Rattle.spec.proofs.StatementTargets.{target-in-exactly, target-in-n
 use Rattle.spec.proofs.TargetPlaces.{part, IsStatement, HasNoTarget, IsFirstTarget}
 use Rattle.spec.specs.Map.{bytes, markedText}
 use Rattle.spec.specs.Assignments.{Target}
-use Rattle.spec.specs.Body.{accepted, qualifiedTarget, rewriting}
+use Rattle.spec.specs.Outcome.{qualifiedTarget, accepted, refused}
+use Rattle.spec.specs.Raise.{Level, Action}
+use Rattle.spec.specs.Body.{rewriting}
 
 -- 4: passes 1 and 2 accept, and in the text after pass 2 the first statement with a qualified target has `q.n`
 pub record HasQualifiedTarget (xs q n : List ℕ) : Type 0 where
@@ -19,19 +21,19 @@ pub record HasQualifiedTarget (xs q n : List ℕ) : Type 0 where
   pub qualifier : bytes (target .qualifier) ≡ q
   pub name : bytes (target .name) ≡ n
 
-pub qualified-in-words : (xs q n : List ℕ) → (rewriting xs ≡ qualifiedTarget q n) ↔ HasQualifiedTarget xs q n
-qualified-in-words xs q n = (
+pub qualified-in-words : (act : Level → Action) (xs q n : List ℕ) → (rewriting act xs ≡ refused (qualifiedTarget q n)) ↔ HasQualifiedTarget xs q n
+qualified-in-words act xs q n = (
   (λ h.
-      let w = qualified-exactly xs q n .0 h in
+      let w = qualified-exactly act xs q n .0 h in
       let f = target-in-exactly (after2 xs) (w .target) .0 (w .first) in
       record { before = w .before; target = w .target; first = f; qualifier = w .qualifier; name = w .name }),
   (λ w.
       let f = target-in-exactly (after2 xs) (w .target) .1 (w .first) in
-      qualified-exactly xs q n .1
+      qualified-exactly act xs q n .1
       (record { before = w .before; target = w .target; first = f; qualifier = w .qualifier; name = w .name })),
 )
 
 -- where a text is accepted, no statement of the text after pass 2 has a qualified target
-pub accepted-no-target : (xs zs : List ℕ) → rewriting xs ≡ accepted zs
+pub accepted-no-target : (act : Level → Action) (xs zs : List ℕ) → rewriting act xs ≡ accepted zs
     → (a e : ℕ) → IsStatement (after2 xs) a e → HasNoTarget (part (markedText (after2 xs)) a e)
-accepted-no-target xs zs h = target-in-none (after2 xs) .0 (accepted-exactly xs zs .0 h .before .before .noTarget)
+accepted-no-target act xs zs h = target-in-none (after2 xs) .0 (accepted-exactly act xs zs .0 h .before .before .noTarget)

@@ -25,7 +25,7 @@ use Rattle.spec.specs.Lists.{takeWhile}
 use Rattle.spec.specs.Map.{Marked, live, bytes, markedText, ofByte, isLiveByte}
 use Rattle.spec.specs.Search.{startsIgnoringCase, byteHere}
 use Rattle.spec.specs.Assignments.{trim}
-use Rattle.spec.specs.Raise.{dropped, passed, refused, abortFate, Level, exception, notice, warning, debug, log, info, levelWords, levelIn, endsLevel, isException, levelLen, drops, actionOf, contentOf, actionFate, Raised, raisedAt}
+use Rattle.spec.specs.Raise.{dropped, passed, refusedClause, abortFate, Level, exception, notice, warning, debug, log, info, levelWords, levelIn, endsLevel, isException, levelLen, actionOf, contentOf, actionFate, Raised, raisedAt}
 
 -- ---- the words
 
@@ -178,12 +178,12 @@ module _ (v : List Marked) (e : ℕ) (w : EndsAt (bytes v) e) where
 
 -- the RAISE at the front of u
 abbrev pub raiseOf : List Marked → Raised
-raiseOf u = raisedAt (levelIn levelWords (drop 6 u)) u
+raiseOf u = raisedAt actionOf (levelIn levelWords (drop 6 u)) u
 
 -- what the definition reads at p, and what stands there
 data Reads (t : List Marked) (p : ℕ) : Type 0 where
   reads-exception : levelIn levelWords (drop p t) ≡ some exception → MatchesAt (ascii "EXCEPTION") (bytes t) p → Reads t p
-  reads-other : (l : Level) → levelIn levelWords (drop p t) ≡ some l → isException l ≡ false → actionOf l ≡ drops
+  reads-other : (l : Level) → levelIn levelWords (drop p t) ≡ some l → isException l ≡ false
       → (MatchesAt (ascii "EXCEPTION") (bytes t) p → ⊥)
       → IsOtherLevel (bytes t) p
       → Reads t p
@@ -202,19 +202,19 @@ module _ (t : List Marked) (p : ℕ) where
 
   -- where EXCEPTION does not stand, the words of the other levels are tried in turn
   reads-on : here (ascii "EXCEPTION") ≡ false → Reads t p
-  unfolding levelWords levelIn actionOf
+  unfolding levelWords levelIn
   reads-on x =
       let no = fails (ascii "EXCEPTION") x in
-      by (here (ascii "NOTICE")) (λ e. reads-other notice (rw (x, e)) refl refl no (stood _ is-notice (omega arith) e)) (λ a.
-      by (here (ascii "WARNING")) (λ e. reads-other warning (rw (x, a, e)) refl refl no (stood _ is-warning (omega arith) e)) (λ b.
-      by (here (ascii "DEBUG")) (λ e. reads-other debug (rw (x, a, b, e)) refl refl no (stood _ is-debug (omega arith) e)) (λ c.
-      by (here (ascii "LOG")) (λ e. reads-other log (rw (x, a, b, c, e)) refl refl no (stood _ is-log (omega arith) e)) (λ d.
+      by (here (ascii "NOTICE")) (λ e. reads-other notice (rw (x, e)) refl no (stood _ is-notice (omega arith) e)) (λ a.
+      by (here (ascii "WARNING")) (λ e. reads-other warning (rw (x, a, e)) refl no (stood _ is-warning (omega arith) e)) (λ b.
+      by (here (ascii "DEBUG")) (λ e. reads-other debug (rw (x, a, b, e)) refl no (stood _ is-debug (omega arith) e)) (λ c.
+      by (here (ascii "LOG")) (λ e. reads-other log (rw (x, a, b, c, e)) refl no (stood _ is-log (omega arith) e)) (λ d.
       by (here (ascii "INFO "))
-      (λ e. reads-other info (rw (x, a, b, c, d, e)) refl refl no (stood _ info-space (omega arith) e)) (λ f.
+      (λ e. reads-other info (rw (x, a, b, c, d, e)) refl no (stood _ info-space (omega arith) e)) (λ f.
       by (here (ascii "INFO\n"))
-      (λ e. reads-other info (rw (x, a, b, c, d, f, e)) refl refl no (stood _ info-newline (omega arith) e)) (λ g.
+      (λ e. reads-other info (rw (x, a, b, c, d, f, e)) refl no (stood _ info-newline (omega arith) e)) (λ g.
       by (here (ascii "INFO;"))
-      (λ e. reads-other info (rw (x, a, b, c, d, f, g, e)) refl refl no (stood _ info-semicolon (omega arith) e)) (λ h.
+      (λ e. reads-other info (rw (x, a, b, c, d, f, g, e)) refl no (stood _ info-semicolon (omega arith) e)) (λ h.
       reads-none (rw (x, a, b, c, d, f, g, h)) no
       (λ o. fails (o .word) (each a b c d f g h (o .word) (o .is-word)) (o .stands)))))))))
     where
@@ -299,10 +299,10 @@ module _ (u : List Marked) where
   abbrev otherLen : ℕ
   otherLen = length (takeWhile (ofByte staysLevel) (drop 6 u))
 
-  other-is : (l : Level) → levelIn levelWords (drop 6 u) ≡ some l → isException l ≡ false → actionOf l ≡ drops
+  other-is : (l : Level) → levelIn levelWords (drop 6 u) ≡ some l → isException l ≡ false
       → raiseOf u ≡ record { length = 6 + otherLen + length (contentOf (drop (6 + otherLen) u)) + 1; fate = dropped }
-  unfolding raisedAt levelLen actionFate
-  other-is l e f g = rw (e, f, g)
+  unfolding raisedAt levelLen actionFate actionOf
+  other-is l e f = rw (e, f)
 
 -- ---- the RAISE at k
 
@@ -326,10 +326,10 @@ module _ (t : List Marked) (k : ℕ) where
       ∙ ap (take (j - i)) (ap (drop i) same ∙ drop-drop i (k + 15) (bytes t))
 
   -- it is refused with c exactly if it is, in the words above
-  pub raise-refused-exactly : (c : List ℕ) → (raiseOf (drop k t) .fate ≡ refused c) ↔ IsRefusedRaise (bytes t) k c
+  pub raise-refused-exactly : (c : List ℕ) → (raiseOf (drop k t) .fate ≡ refusedClause c) ↔ IsRefusedRaise (bytes t) k c
   raise-refused-exactly c = (to (reads t (k + 6)), from (reads t (k + 6)))
     where
-      to : Reads t (k + 6) → raiseOf (drop k t) .fate ≡ refused c → IsRefusedRaise (bytes t) k c
+      to : Reads t (k + 6) → raiseOf (drop k t) .fate ≡ refusedClause c → IsRefusedRaise (bytes t) k c
       to (reads-exception e s) h =
           let w = abort-refused-exactly (trim (contentOf behind)) c .0 (sym (ap (λ (r : Raised). r .fate) (exception-at e)) ∙ h) in
           let n = ends-some (drop (k + 15) (bytes t)) in
@@ -344,20 +344,20 @@ module _ (t : List Marked) (k : ℕ) where
             clause = w .1 ∙ clause-at (n .0) (m .0) (m .1) (n .1) (m .2);
             refuses = rw (w .1) (w .0);
           }
-      to (reads-other l e a b n o) h =
-          let f = ap (λ (r : Raised). r .fate) (other-is (drop k t) l (level-at (some l) e) a b) in
+      to (reads-other l e a n o) h =
+          let f = ap (λ (r : Raised). r .fate) (other-is (drop k t) l (level-at (some l) e) a) in
           absurd (apart (cc))
       to (reads-none e n o) h =
           let f = ap (λ (r : Raised). r .fate) (none-is (drop k t) (level-at none e)) in
           absurd (apart (cc))
 
-      from : Reads t (k + 6) → IsRefusedRaise (bytes t) k c → raiseOf (drop k t) .fate ≡ refused c
+      from : Reads t (k + 6) → IsRefusedRaise (bytes t) k c → raiseOf (drop k t) .fate ≡ refusedClause c
       from (reads-exception e s) w =
           let same : c ≡ bytes (trim (contentOf behind)) =
           w .clause ∙ sym (clause-at (w .end) (w .i) (w .j) (w .ends) (w .trimmed)) in
           let r : IsRefusedContent (bytes (trim (contentOf behind))) = rw same at (w .refuses) in
           ap (λ (r : Raised). r .fate) (exception-at e) ∙ abort-refused-exactly (trim (contentOf behind)) c .1 (r, same)
-      from (reads-other l e a b n o) w = absurd (n (w .level))
+      from (reads-other l e a n o) w = absurd (n (w .level))
       from (reads-none e n o) w = absurd (n (w .level))
 
   -- ---- where the search goes on
@@ -369,11 +369,11 @@ module _ (t : List Marked) (k : ℕ) where
       let v : EndsAt (bytes behind) e = rw same w in
       omega (arith, content-long behind e v, ap (λ (r : Raised). r .length) (exception-at h))
 
-  other-goes : (o : Level) (l e : ℕ) → levelIn levelWords (drop (k + 6) t) ≡ some o → isException o ≡ false → actionOf o ≡ drops
+  other-goes : (o : Level) (l e : ℕ) → levelIn levelWords (drop (k + 6) t) ≡ some o → isException o ≡ false
       → IsLevelEnd (bytes t) (k + 6) l
       → EndsAt (drop l (bytes t)) e
       → l + e + 1 ≡ k + raiseOf (drop k t) .length
-  other-goes o l e h a b m w =
+  other-goes o l e h a m w =
       let u = drop k t in
       let n = otherLen u in
       let long : n ≡ length (takeWhile staysLevel (drop (k + 6) (bytes t))) =
@@ -385,31 +385,31 @@ module _ (t : List Marked) (k : ℕ) where
       let v : EndsAt (bytes (drop l t)) e = rw same w in
       let c : length (contentOf (drop (6 + n) u)) ≡ e =
       ap (λ (i : List Marked). length (contentOf i)) at ∙ content-long (drop l t) e v in
-      omega (arith, ap (λ (r : Raised). r .length) (other-is u o (level-at (some o) h) a b))
+      omega (arith, ap (λ (r : Raised). r .length) (other-is u o (level-at (some o) h) a))
 
   pub goes-exactly : (n : ℕ) → GoesOn (bytes t) k n ↔ (n ≡ k + raiseOf (drop k t) .length)
   goes-exactly n = ((λ g. to g (reads t (k + 6))), (λ e. subst (GoesOn (bytes t) k) (sym e) (some-on (reads t (k + 6)))))
     where
       to : {n : ℕ} → GoesOn (bytes t) k n → Reads t (k + 6) → n ≡ k + raiseOf (drop k t) .length
       to (no-level x y) (reads-exception e s) = absurd (x s)
-      to (no-level x y) (reads-other l e a b i o) = absurd (y o)
+      to (no-level x y) (reads-other l e a i o) = absurd (y o)
       to (no-level x y) (reads-none e i o) = omega (arith, ap (λ (r : Raised). r .length) (none-is (drop k t) (level-at none e)))
       to (behind-exception {e} s w) (reads-exception h i) = exception-goes e h w
-      to (behind-exception s w) (reads-other l e a b i o) = absurd (i s)
+      to (behind-exception s w) (reads-other l e a i o) = absurd (i s)
       to (behind-exception s w) (reads-none e i o) = absurd (i s)
       to (behind-other o m w) (reads-exception e s) = absurd (not-both (bytes t) (k + 6) s o)
-      to (behind-other {l} {e} o m w) (reads-other v h a b i j) = other-goes v l e h a b m w
+      to (behind-other {l} {e} o m w) (reads-other v h a i j) = other-goes v l e h a m w
       to (behind-other o m w) (reads-none e i j) = absurd (j o)
 
       some-on : Reads t (k + 6) → GoesOn (bytes t) k (k + raiseOf (drop k t) .length)
       some-on (reads-exception e s) =
           let n = ends-some (drop (k + 15) (bytes t)) in
           subst (GoesOn (bytes t) k) (exception-goes (n .0) e (n .1)) (behind-exception s (n .1))
-      some-on (reads-other l e a b i o) =
+      some-on (reads-other l e a i o) =
           let h : k + 6 ≤ length (bytes t) = omega (arith, o .stands .fits) in
           let m = level-some (bytes t) (k + 6) h in
           let n = ends-some (drop (k + 6 + length (takeWhile staysLevel (drop (k + 6) (bytes t)))) (bytes t)) in
-          subst (GoesOn (bytes t) k) (other-goes l _ (n .0) e a b m (n .1)) (behind-other o m (n .1))
+          subst (GoesOn (bytes t) k) (other-goes l _ (n .0) e a m (n .1)) (behind-other o m (n .1))
       some-on (reads-none e i o) =
           let n = ap (λ (r : Raised). k + r .length) (none-is (drop k t) (level-at none e)) in
           subst (GoesOn (bytes t) k) (sym n) (no-level i o)

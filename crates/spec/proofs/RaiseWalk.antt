@@ -1,4 +1,4 @@
--- The parts of pass 5 from an offset on: bytes are kept up to the next RAISE, then comes that RAISE, then what is behind it;
+-- The tokens of pass 5 from an offset on: bytes are kept up to the next RAISE, then comes that RAISE, then what is behind it;
 -- and the clause of the first one that is refused. Assumes nothing.
 use mathlib.Core.Path.{_≡_, refl, sym, ap, _∙_}
 use mathlib.Core.Bool.{true, false}
@@ -19,39 +19,39 @@ use Rattle.spec.proofs.WalkLaws.{drop-step, back-step, passesAt}
 use Rattle.spec.specs.Bytes.{ascii, isWord}
 use Rattle.spec.specs.Map.{Marked, live, byte, frontByte}
 use Rattle.spec.specs.Search.{Test, first, wordHere, keywordHere}
-use Rattle.spec.specs.Raise.{Level, levelWords, levelIn, raisedAt, Part, kept, raised, raisesFrom}
+use Rattle.spec.specs.Raise.{Level, actionOf, levelWords, levelIn, raisedAt, Token, kept, raised, raisesFrom}
 use Rattle.spec.specs.declared.Found.the-variants.{At, Nothing}
 
 -- a live RAISE stands here
 abbrev pub raiseHere : Test
 raiseHere = keywordHere (ascii "RAISE")
 
--- the parts from i on
-abbrev pub raisesAt : List Marked → ℕ → List Part
-raisesAt t i = raisesFrom 0 (frontByte (reverse (take i t))) (drop i t)
+-- the tokens from i on
+abbrev pub raisesAt : List Marked → ℕ → List Token
+raisesAt t i = raisesFrom actionOf 0 (frontByte (reverse (take i t))) (drop i t)
 
-raises-none : (k p : ℕ) → raisesFrom k p [] ≡ []
+raises-none : (k p : ℕ) → raisesFrom actionOf k p [] ≡ []
 unfolding raisesFrom
 raises-none zero p = refl
 raises-none (suc k) p = refl
 
 -- a RAISE takes some bytes
-pub raised-pos : (l : Option Level) (u : List Marked) → 0 < raisedAt l u .length
+pub raised-pos : (l : Option Level) (u : List Marked) → 0 < raisedAt actionOf l u .length
 unfolding raisedAt
 raised-pos none u = omega arith
 raised-pos (some l) u = omega arith
 
 module _ (p : ℕ) (u v : List Marked) (x : Marked) (q : u ≡ x ∷ v) where
-  front-stays : wordHere isWord (ascii "RAISE") p u ≡ false → raisesFrom 0 p u ≡ kept x ∷ raisesFrom 0 (byte x) v
+  front-stays : wordHere isWord (ascii "RAISE") p u ≡ false → raisesFrom actionOf 0 p u ≡ kept x ∷ raisesFrom actionOf 0 (byte x) v
   unfolding raisesFrom
   front-stays e = rw q (simp (rw q at e))
 
   front-goes : wordHere isWord (ascii "RAISE") p u ≡ true
-      → raisesFrom 0 p u ≡ raised (raiseOf u) ∷ raisesFrom (raiseOf u .length - 1) (byte x) v
+      → raisesFrom actionOf 0 p u ≡ raised (raiseOf u) ∷ raisesFrom actionOf (raiseOf u .length - 1) (byte x) v
   unfolding raisesFrom
   front-goes e = rw q (simp (rw q at e))
 
-  front-passed : (k : ℕ) → raisesFrom (suc k) p u ≡ raisesFrom k (byte x) v
+  front-passed : (k : ℕ) → raisesFrom actionOf (suc k) p u ≡ raisesFrom actionOf k (byte x) v
   unfolding raisesFrom
   front-passed k = rw q
 
@@ -65,7 +65,7 @@ module _ (t : List Marked) where
   before-next i h = rw (back-step t i (live 0) h)
 
   -- k bytes to pass from i on
-  raises-past : (k i : ℕ) → raisesFrom k (frontByte (reverse (take i t))) (drop i t) ≡ raisesAt t (i + k)
+  raises-past : (k i : ℕ) → raisesFrom actionOf k (frontByte (reverse (take i t))) (drop i t) ≡ raisesAt t (i + k)
   raises-past zero i = let z : i ≡ i + 0 = omega arith in ap (raisesAt t) z
   raises-past (suc k) i =
       let z : i + 1 + k ≡ i + suc k = omega arith in
@@ -73,7 +73,7 @@ module _ (t : List Marked) where
       (λ q.
       let h = ltb-true i (length t) q in
       front-passed (frontByte (reverse (take i t))) (drop i t) (drop (i + 1) t) (getD t i (live 0)) (drop-step t i (live 0) h) k
-      ∙ (ap (λ (p : ℕ). raisesFrom k p (drop (i + 1) t)) (before-next i h) ∙ (raises-past k (i + 1) ∙ ap (raisesAt t) z)))
+      ∙ (ap (λ (p : ℕ). raisesFrom actionOf k p (drop (i + 1) t)) (before-next i h) ∙ (raises-past k (i + 1) ∙ ap (raisesAt t) z)))
       (λ q.
       let h = ltb-false i (length t) q in
       rw (drop-of-length-le t h) (raises-none (suc k) _ ∙ sym (raises-end (i + suc k) (omega arith))))
@@ -83,7 +83,7 @@ module _ (t : List Marked) where
   unfolding keywordHere
   raise-kept i h e =
       front-stays (frontByte (reverse (take i t))) (drop i t) (drop (i + 1) t) (getD t i (live 0)) (drop-step t i (live 0) h) e
-      ∙ ap (λ (p : ℕ). kept (getD t i (live 0)) ∷ raisesFrom 0 p (drop (i + 1) t)) (before-next i h)
+      ∙ ap (λ (p : ℕ). kept (getD t i (live 0)) ∷ raisesFrom actionOf 0 p (drop (i + 1) t)) (before-next i h)
 
   pub raise-goes : (i : ℕ) → i < length t → passesAt raiseHere t i ≡ true
       → raisesAt t i ≡ raised (raiseOf (drop i t)) ∷ raisesAt t (i + raiseOf (drop i t) .length)
@@ -93,8 +93,8 @@ module _ (t : List Marked) where
       let z : i + 1 + (r .length - 1) ≡ i + r .length =
       omega (arith, raised-pos (levelIn levelWords (drop 6 (drop i t))) (drop i t)) in
       front-goes (frontByte (reverse (take i t))) (drop i t) (drop (i + 1) t) (getD t i (live 0)) (drop-step t i (live 0) h) e
-      ∙ ap (λ (ps : List Part). raised r ∷ ps)
-      (ap (λ (p : ℕ). raisesFrom (r .length - 1) p (drop (i + 1) t)) (before-next i h)
+      ∙ ap (λ (ps : List Token). raised r ∷ ps)
+      (ap (λ (p : ℕ). raisesFrom actionOf (r .length - 1) p (drop (i + 1) t)) (before-next i h)
       ∙ (raises-past (r .length - 1) (i + 1) ∙ ap (raisesAt t) z))
 
   -- ---- the first clause

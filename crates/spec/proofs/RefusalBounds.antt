@@ -23,8 +23,9 @@ use Rattle.spec.specs.Lists.{isEmpty, takeWhile, dropWhile, dropEnd}
 use Rattle.spec.specs.Map.{Marked, live, byte, bytes, markedText, frontByte, ofByte, isLiveByte}
 use Rattle.spec.specs.Search.{byteHere, piecesFrom, pieces, startsIgnoringCase, wordHere}
 use Rattle.spec.specs.Assignments.{Target, orElse, trimEnd, trim, assignHere, targetBefore, assignTarget, loneEquals, equalsTarget, Mark, opensCase, closesCase, opensStatement, Marking, markings, markingHere, casesBehind, targetPast, targetBehind, markedTarget, statementTarget}
-use Rattle.spec.specs.Raise.{Fate, rewritten, refused, message, usingFate, abortFate, Level, levelIn, levelWords, levelLen, actionOf, Action, abort, drops, contentOf, actionFate, raisedAt, Part, raisesFrom}
-use Rattle.spec.specs.Body.{bufferSize, Rewriting, accepted, qualifiedTarget, usingClause, resultTooLong, rewriting}
+use Rattle.spec.specs.Raise.{Fate, rewritten, refusedClause, message, usingFate, abortFate, Level, levelIn, levelWords, levelLen, actionOf, Action, abort, drops, contentOf, actionFate, raisedAt, Token, raisesFrom}
+use Rattle.spec.specs.Outcome.{qualifiedTarget, usingClause, resultTooLong, accepted, refused, Rewriting}
+use Rattle.spec.specs.Body.{bufferSize, rewriting}
 use Rattle.spec.specs.Declarations.{recordLimit, Declared, recordsOf, bodyOf}
 use Rattle.spec.specs.Answers.{Result, resultOf, bodyResult, functionResult}
 
@@ -166,9 +167,9 @@ target-within ys =
     rw (pieces-joined 59 [] (markedText ys), text-length ys) at w
 
 -- `q.n` of refusal 4 is within the buffer size
-pub qualified-fits : (xs q n : List ℕ) → rewriting xs ≡ qualifiedTarget q n → length (q ++ (46 ∷ n)) ≤ bufferSize
-qualified-fits xs q n h =
-    let t = qualified-exactly xs q n .0 h in
+pub qualified-fits : (act : Level → Action) (xs q n : List ℕ) → rewriting act xs ≡ refused (qualifiedTarget q n) → length (q ++ (46 ∷ n)) ≤ bufferSize
+qualified-fits act xs q n h =
+    let t = qualified-exactly act xs q n .0 h in
     let w : targetSize (t .target) ≤ length (after2 xs) =
     subst (λ (o : Option Target). Within targetSize o (length (after2 xs))) (t .first) (target-within (after2 xs)) in
     omega (
@@ -194,7 +195,7 @@ using-within content behind =
     startsIgnoringCase (ascii "MESSAGE") a
     && (eqb (frontByte b) 61
     && (eqb (frontByte c) 39 && isEmpty (dropWhile (ofByte isW) (drop (length m) c)))) in
-    cond-case (λ (f : Fate). Within length (fateClause f) (length content)) fits (rewritten m) (refused (bytes content))
+    cond-case (λ (f : Fate). Within length (fateClause f) (length content)) fits (rewritten m) (refusedClause (bytes content))
     (λ _. tt)
     (λ _. omega (arith, bytes-length content))
 
@@ -220,56 +221,56 @@ content-le t =
       bytes-length t,
     )
 
-raised-within : (l : Option Level) (t : List Marked) → Within length (fateClause (raisedAt l t .fate)) (length t)
+raised-within : (act : Level → Action) (l : Option Level) (t : List Marked) → Within length (fateClause (raisedAt act l t .fate)) (length t)
 unfolding raisedAt
-raised-within none t = tt
-raised-within (some l) t =
+raised-within act none t = tt
+raised-within act (some l) t =
     let n = 6 + levelLen l (drop 6 t) in
     let content = contentOf (drop n t) in
-    within-le length (fateClause (actionFate (actionOf l) content)) _ _
+    within-le length (fateClause (actionFate (act l) content)) _ _
     (omega (arith, content-le (drop n t), length-drop n t))
-    (action-within (actionOf l) content)
+    (action-within (act l) content)
 
-parts-within : (k p : ℕ) (t : List Marked) → Within length (firstClause (raisesFrom k p t)) (length t)
+tokens-within : (act : Level → Action) (k p : ℕ) (t : List Marked) → Within length (firstClause (raisesFrom act k p t)) (length t)
 unfolding firstSome raisesFrom
-parts-within k p [] = tt
-parts-within zero p (x ∷ t) =
-    let r = raisedAt (levelIn levelWords (drop 5 t)) (x ∷ t) in
+tokens-within act k p [] = tt
+tokens-within act zero p (x ∷ t) =
+    let r = raisedAt act (levelIn levelWords (drop 5 t)) (x ∷ t) in
     let n = suc (length t) in
-    let later : (k : ℕ) → Within length (firstClause (raisesFrom k (byte x) t)) n =
-    λ k. within-le length (firstClause (raisesFrom k (byte x) t)) _ n (omega arith) (parts-within k (byte x) t) in
-    cond-case (λ (ps : List Part). Within length (firstClause ps) n) (wordHere isWord (ascii "RAISE") p (x ∷ t)) _ _
-    (λ _. either-within length (fateClause (r .fate)) _ n (raised-within (levelIn levelWords (drop 5 t)) (x ∷ t)) (later (r .length - 1)))
+    let later : (k : ℕ) → Within length (firstClause (raisesFrom act k (byte x) t)) n =
+    λ k. within-le length (firstClause (raisesFrom act k (byte x) t)) _ n (omega arith) (tokens-within act k (byte x) t) in
+    cond-case (λ (ps : List Token). Within length (firstClause ps) n) (wordHere isWord (ascii "RAISE") p (x ∷ t)) _ _
+    (λ _. either-within length (fateClause (r .fate)) _ n (raised-within act (levelIn levelWords (drop 5 t)) (x ∷ t)) (later (r .length - 1)))
     (λ _. later 0)
-parts-within (suc k) p (x ∷ t) =
-    within-le length (firstClause (raisesFrom k (byte x) t)) _ _ (omega arith) (parts-within k (byte x) t)
+tokens-within act (suc k) p (x ∷ t) =
+    within-le length (firstClause (raisesFrom act k (byte x) t)) _ _ (omega arith) (tokens-within act k (byte x) t)
 
 -- a clause of pass 5 is no longer than the text that pass 5 reads
-pub clause-within : (ys : List ℕ) → Within length (clauseIn ys) (length ys)
+pub clause-within : (act : Level → Action) (ys : List ℕ) → Within length (clauseIn act ys) (length ys)
 unfolding clauseIn
-clause-within ys =
-    let w = parts-within 0 0 (markedText ys) in
+clause-within act ys =
+    let w = tokens-within act 0 0 (markedText ys) in
     rw (text-length ys) at w
 
 -- the clause of refusal 5 is within the buffer size
-pub using-fits : (xs c : List ℕ) → rewriting xs ≡ usingClause c → length c ≤ bufferSize
-using-fits xs c h =
-    let t = using-exactly xs c .0 h in
+pub using-fits : (act : Level → Action) (xs c : List ℕ) → rewriting act xs ≡ refused (usingClause c) → length c ≤ bufferSize
+using-fits act xs c h =
+    let t = using-exactly act xs c .0 h in
     let w : length c ≤ length (after4 xs) =
-    subst (λ (o : Option (List ℕ)). Within length o (length (after4 xs))) (t .first) (clause-within (after4 xs)) in
+    subst (λ (o : Option (List ℕ)). Within length o (length (after4 xs))) (t .first) (clause-within act (after4 xs)) in
     omega (arith, t .before .fits4)
 
 -- ---- the calls
 
-result-fits : (ds : List Declared) (xs : List ℕ) → length (resultOf ds (rewriting xs) .output) ≤ bufferSize
+result-fits : (ds : List Declared) (xs : List ℕ) → length (resultOf ds (rewriting actionOf xs) .output) ≤ bufferSize
 unfolding resultOf
-result-fits ds xs = go (rewriting xs) refl
+result-fits ds xs = go (rewriting actionOf xs) refl
   where
-    go : (r : Rewriting) → rewriting xs ≡ r → length (resultOf ds r .output) ≤ bufferSize
-    go (accepted zs) e = accepted-fits xs zs e
-    go (qualifiedTarget q n) e = qualified-fits xs q n e
-    go (usingClause c) e = using-fits xs c e
-    go resultTooLong e = zero-le
+    go : (r : Rewriting) → rewriting actionOf xs ≡ r → length (resultOf ds r .output) ≤ bufferSize
+    go (accepted zs) e = accepted-fits actionOf xs zs e
+    go (refused (qualifiedTarget q n)) e = qualified-fits actionOf xs q n e
+    go (refused (usingClause c)) e = using-fits actionOf xs c e
+    go (refused resultTooLong) e = zero-le
 
 -- the output of the body call, and of the function call, is within the buffer size, refusals included
 pub body-output-fits : (xs : List ℕ) → length (bodyResult xs .output) ≤ bufferSize

@@ -26,6 +26,7 @@ use Rattle.spec.specs.declared.Found.the-variants.{At, Nothing}
 use Rattle.spec.specs.declared.DollarQuoted.{DollarQuoted}
 use Rattle.spec.specs.declared.Span.{Span}
 use Rattle.spec.specs.declared.Span.the-variants.{Verbatim, Dollar, Code}
+use Rattle.spec.specs.declared.Refusal.{Refusal}
 use Rattle.spec.specs.declared.Refusal.the-variants.{TextTooLong, BufferTooShort, NotAscii}
 use Rattle.spec.specs.declared.Check.{Check}
 use Rattle.spec.specs.declared.Check.the-variants.{Passed, Refused}
@@ -804,30 +805,35 @@ module _ (xs : List ℕ) where
 
 -- ---- the checks
 
+-- the condition of each refusal: no other is given
+pub data CheckRefuses (limit : ℕ) (enough : Bool) (xs needle : List ℕ) (r : Refusal) : Type 0 where
+  too-long : r ≡ TextTooLong → limit < length xs → CheckRefuses limit enough xs needle r
+  too-short : r ≡ BufferTooShort → length xs ≤ limit → enough ≡ false → CheckRefuses limit enough xs needle r
+  not-ascii : {i : ℕ} → r ≡ NotAscii i → length xs ≤ limit → enough ≡ true
+      → IsFirstHigh xs i ⊎ (NoHigh xs × IsFirstHigh needle i)
+      → CheckRefuses limit enough xs needle r
+
 -- the condition of each answer
 abbrev pub CheckCondition : ℕ → Bool → List ℕ → List ℕ → Check → Type 0
 CheckCondition limit enough xs needle Passed = (length xs ≤ limit) × (enough ≡ true) × NoHigh xs × NoHigh needle
-CheckCondition limit enough xs needle (Refused TextTooLong) = limit < length xs
-CheckCondition limit enough xs needle (Refused BufferTooShort) = (length xs ≤ limit) × (enough ≡ false)
-CheckCondition limit enough xs needle (Refused (NotAscii i)) =
-    (length xs ≤ limit) × (enough ≡ true) × (IsFirstHigh xs i ⊎ (NoHigh xs × IsFirstHigh needle i))
+CheckCondition limit enough xs needle (Refused r) = CheckRefuses limit enough xs needle r
 
 module _ (limit : ℕ) (enough : Bool) (xs needle : List ℕ) where
   holds : CheckCondition limit enough xs needle (checkOf limit enough xs needle)
   unfolding checkOf
   holds =
       cond-case (CheckCondition limit enough xs needle) (ltb limit (length xs)) _ _
-      (λ e. ltb-true limit (length xs) e)
+      (λ e. too-long refl (ltb-true limit (length xs) e))
       (λ e.
       let fits = ltb-false limit (length xs) e in
-      cond-case (CheckCondition limit enough xs needle) enough _ _ (λ y. text fits y (firstHigh xs) refl) (λ n. (fits, n)))
+      cond-case (CheckCondition limit enough xs needle) enough _ _ (λ y. text fits y (firstHigh xs) refl) (λ n. too-short refl fits n))
     where
       inner : length xs ≤ limit → enough ≡ true → NoHigh xs → (f : Found) → firstHigh needle ≡ f → CheckCondition limit enough xs needle (asciiCheck f Passed)
-      inner fits y n (At i) e = (fits, y, inr (n, high-found needle i e))
+      inner fits y n (At i) e = not-ascii refl fits y (inr (n, high-found needle i e))
       inner fits y n Nothing e = (fits, y, n, high-none needle e)
 
       text : length xs ≤ limit → enough ≡ true → (f : Found) → firstHigh xs ≡ f → CheckCondition limit enough xs needle (asciiCheck f (asciiCheck (firstHigh needle) Passed))
-      text fits y (At i) e = (fits, y, inl (high-found xs i e))
+      text fits y (At i) e = not-ascii refl fits y (inl (high-found xs i e))
       text fits y Nothing e = inner fits y (high-none xs e) (firstHigh needle) refl
 
   -- each answer is given only on its condition
@@ -838,10 +844,10 @@ module _ (limit : ℕ) (enough : Bool) (xs needle : List ℕ) where
   pub check-always : (c : Check) → CheckCondition limit enough xs needle c → checkOf limit enough xs needle ≡ c
   unfolding checkOf
   check-always Passed h = rw (le-ltb limit (length xs) (h .0), h .1, none-high xs (h .2), none-high needle (h .3)) refl
-  check-always (Refused TextTooLong) h = rw (lt-ltb limit (length xs) h) refl
-  check-always (Refused BufferTooShort) h = rw (le-ltb limit (length xs) (h .0), h .1) refl
-  check-always (Refused (NotAscii i)) h =
+  check-always (Refused r) (too-long e h) = rw (e, lt-ltb limit (length xs) h) refl
+  check-always (Refused r) (too-short e h n) = rw (e, le-ltb limit (length xs) h, n) refl
+  check-always (Refused r) (not-ascii {i} e h y w) =
       ⊎-elim
-      (λ f. rw (le-ltb limit (length xs) (h .0), h .1, found-high xs i f) refl)
-      (λ g. rw (le-ltb limit (length xs) (h .0), h .1, none-high xs (g .0), found-high needle i (g .1)) refl)
-      (h .2)
+      (λ f. rw (e, le-ltb limit (length xs) h, y, found-high xs i f) refl)
+      (λ f. rw (e, le-ltb limit (length xs) h, y, none-high xs (f .0), found-high needle i (f .1)) refl)
+      w

@@ -15,9 +15,9 @@ use Rattle.spec.specs.Map.{Marked, bytes, markedText, frontByte}
 use Rattle.spec.specs.Search.{Test, firstFrom, first, keywordHere, findKeyword}
 use Rattle.spec.specs.Requote.{requoteSpan, requoteLexeme, requoted}
 use Rattle.spec.specs.Elsif.{elsifFrom, elsif}
-use Rattle.spec.specs.Assignments.{done, _⊕_}
-use Rattle.spec.specs.Raise.{raisesFrom, partText, joinParts, raise}
-use Rattle.spec.specs.Body.{accepted, forget, requotePass, elsifPass, raisePass}
+use Rattle.spec.specs.Outcome.{accepted, _⊕_, forget}
+use Rattle.spec.specs.Raise.{Level, Action, raisesFrom, tokenText, joinTokens, raise}
+use Rattle.spec.specs.Body.{requotePass, elsifPass, raisePass}
 use Rattle.spec.specs.declared.Found.the-variants.{At, Nothing}
 use Rattle.spec.specs.declared.Span.{Span}
 use Rattle.spec.specs.declared.Span.the-variants.{Verbatim, Dollar, Code}
@@ -102,17 +102,17 @@ pub elsif-unchanged : (xs : List ℕ) → findKeyword xs (ascii "ELSIF") 0 ≡ N
 unfolding elsifPass
 elsif-unchanged xs h = ap accepted (elsif-kept xs h)
 
-raise-from : (back t : List Marked)
+raise-from : (act : Level → Action) (back t : List Marked)
     → firstFrom (keywordHere (ascii "RAISE")) back t ≡ Nothing
-    → joinParts (raisesFrom 0 (frontByte back) t) ≡ done t
-unfolding raisesFrom keywordHere frontByte joinParts partText _⊕_
-raise-from back [] h = refl
-raise-from back (x ∷ t) h =
+    → joinTokens (raisesFrom act 0 (frontByte back) t) ≡ accepted t
+unfolding raisesFrom keywordHere frontByte joinTokens tokenText _⊕_
+raise-from act back [] h = refl
+raise-from act back (x ∷ t) h =
     let e = none-here (keywordHere (ascii "RAISE")) back x t h in
-    rw (e, raise-from (x ∷ back) t (none-behind (keywordHere (ascii "RAISE")) back x t h))
+    rw (e, raise-from act (x ∷ back) t (none-behind (keywordHere (ascii "RAISE")) back x t h))
 
 -- pass 5: no live RAISE, no byte changed
-pub raise-unchanged : (xs : List ℕ) → findKeyword xs (ascii "RAISE") 0 ≡ Nothing → raisePass xs ≡ accepted xs
+pub raise-unchanged : (act : Level → Action) (xs : List ℕ) → findKeyword xs (ascii "RAISE") 0 ≡ Nothing → raisePass act xs ≡ accepted xs
 unfolding raisePass raise forget frontByte
-raise-unchanged xs h =
-    rw (raise-from [] (markedText xs) (keyword-nowhere xs 82 (ascii "AISE") h)) (ap accepted (text-bytes xs))
+raise-unchanged act xs h =
+    rw (raise-from act [] (markedText xs) (keyword-nowhere xs 82 (ascii "AISE") h)) (ap accepted (text-bytes xs))

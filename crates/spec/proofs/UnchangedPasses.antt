@@ -21,7 +21,9 @@ use Rattle.spec.specs.Map.{Marked, live, quoted, byte, bytes, markedText
 use Rattle.spec.specs.Search.{Test, firstFrom, first, isFound, starts, needleHere, findKeyword, findStrInCode, byteHere, piecesFrom, pieces}
 use Rattle.spec.specs.Assignments.{assignHere, assignmentAt, assignment}
 use Rattle.spec.specs.SelectInto.{quoteAfter, quoteWalk, topWordHere, intoAt, selectAt, selectStatement, joinSelects, selectInto}
-use Rattle.spec.specs.Body.{bufferSize, accepted, requotePass, elsifPass, assignPass, selectPass, raisePass, rewriting}
+use Rattle.spec.specs.Outcome.{accepted}
+use Rattle.spec.specs.Raise.{Level, Action, actionOf}
+use Rattle.spec.specs.Body.{bufferSize, requotePass, elsifPass, assignPass, selectPass, raisePass, rewriting}
 use Rattle.spec.specs.Answers.{resultOf, bodyResult}
 use Rattle.spec.specs.Computed.{computed}
 use Rattle.spec.specs.declared.Found.{Found}
@@ -166,11 +168,11 @@ pub record Plain (xs : List ℕ) : Type 0 where
   pub noRaise : findKeyword xs (ascii "RAISE") 0 ≡ Nothing
 
 -- not one byte more
-pub plain-unchanged : (xs : List ℕ) → Plain xs → rewriting xs ≡ accepted xs
+pub plain-unchanged : (act : Level → Action) (xs : List ℕ) → Plain xs → rewriting act xs ≡ accepted xs
 unfolding rewriting
-plain-unchanged xs p =
+plain-unchanged act xs p =
     let h = p .fits in
-    then-accepted _ raisePass xs xs
+    then-accepted _ (raisePass act) xs xs
     (then-accepted _ selectPass xs xs
     (then-accepted _ assignPass xs xs
     (then-accepted _ elsifPass xs xs
@@ -178,16 +180,16 @@ plain-unchanged xs p =
     (elsif-unchanged xs (p .noElsif)) h)
     (assign-unchanged xs (p .noAssignment) (p .noTarget)) h)
     (select-unchanged xs (p .noSelectInto)) h)
-    (raise-unchanged xs (p .noRaise)) h
+    (raise-unchanged act xs (p .noRaise)) h
 
 -- the body call accepts it, with the text as the output
 pub plain-answer : (xs : List ℕ) → Plain xs → bodyResult xs .answer ≡ rewritten.Accepted (length xs) 0
 unfolding bodyResult resultOf
-plain-answer xs p = rw (plain-unchanged xs p)
+plain-answer xs p = rw (plain-unchanged actionOf xs p)
 
 pub plain-output : (xs : List ℕ) → Plain xs → bodyResult xs .output ≡ xs
 unfolding bodyResult resultOf
-plain-output xs p = rw (plain-unchanged xs p)
+plain-output xs p = rw (plain-unchanged actionOf xs p)
 
 -- such texts exist
 plain-row : Plain (ascii "UPDATE t SET a = 'x;$$' WHERE b = (SELECT 1);")

@@ -22,8 +22,9 @@ use Rattle.spec.proofs.SearchLaws.{IsKeywordAt, keyword-says}
 use Rattle.spec.specs.Bytes.{ascii}
 use Rattle.spec.specs.Map.{bytes, markedText, frontByte}
 use Rattle.spec.specs.Search.{first}
-use Rattle.spec.specs.Raise.{Fate, rewritten, dropped, passed, refused}
-use Rattle.spec.specs.Body.{accepted, usingClause, rewriting}
+use Rattle.spec.specs.Raise.{Fate, rewritten, dropped, passed, refusedClause, actionOf}
+use Rattle.spec.specs.Outcome.{usingClause, accepted, refused}
+use Rattle.spec.specs.Body.{rewriting}
 use Rattle.spec.specs.declared.Found.{Found}
 use Rattle.spec.specs.declared.Found.the-variants.{At, Nothing}
 
@@ -57,11 +58,11 @@ NoneRefused xs = (k : ℕ) (d : List ℕ) → IsReadAt xs k → IsRefusedRaise x
 
 -- ---- the definition, in these words
 
-fate-refused : (f : Fate) (c : List ℕ) → fateClause f ≡ some c → f ≡ refused c
+fate-refused : (f : Fate) (c : List ℕ) → fateClause f ≡ some c → f ≡ refusedClause c
 fate-refused (rewritten m) c e = absurd (apart (cc))
 fate-refused dropped c e = absurd (apart (cc))
 fate-refused (passed u) c e = absurd (apart (cc))
-fate-refused (refused d) c e = let q : d ≡ c = cc in ap refused q
+fate-refused (refusedClause d) c e = let q : d ≡ c = cc in ap refusedClause q
 
 module _ (xs : List ℕ) where
   -- the clause of the RAISE at k, and where the search goes on behind it
@@ -246,16 +247,16 @@ module _ (xs : List ℕ) where
   refused-none h none e = e
   refused-none h (some d) e = let w = some-first d e in absurd (h (w .at) d (w .is-read) (w .is-refused))
 
-  clause-from : clauseIn xs ≡ from 0
+  clause-from : clauseIn actionOf xs ≡ from 0
   unfolding clauseIn frontByte
   clause-from = refl
 
   -- the definition finds the clause of the first RAISE that is read and refused, and none exactly if there is no such RAISE
-  pub clause-exactly : (c : List ℕ) → (clauseIn xs ≡ some c) ↔ FirstRefused xs c
+  pub clause-exactly : (c : List ℕ) → (clauseIn actionOf xs ≡ some c) ↔ FirstRefused xs c
   clause-exactly c =
       ((λ h. some-first c (sym clause-from ∙ h)), (λ w. clause-from ∙ first-some c w (from 0) refl))
 
-  pub no-clause-exactly : (clauseIn xs ≡ none) ↔ NoneRefused xs
+  pub no-clause-exactly : (clauseIn actionOf xs ≡ none) ↔ NoneRefused xs
   no-clause-exactly = ((λ h. none-refused (sym clause-from ∙ h)), (λ h. clause-from ∙ refused-none h (from 0) refl))
 
 -- ---- the answers
@@ -265,12 +266,12 @@ pub record HasUsingClause (xs c : List ℕ) : Type 0 where
   pub before : Through4 xs
   pub first : FirstRefused (after4 xs) c
 
-pub using-in-words : (xs c : List ℕ) → (rewriting xs ≡ usingClause c) ↔ HasUsingClause xs c
+pub using-in-words : (xs c : List ℕ) → (rewriting actionOf xs ≡ refused (usingClause c)) ↔ HasUsingClause xs c
 using-in-words xs c = (
-  (λ h. let u = using-exactly xs c .0 h in record { before = u .before; first = clause-exactly (after4 xs) c .0 (u .first) }),
-  (λ w. using-exactly xs c .1 (record { before = w .before; first = clause-exactly (after4 xs) c .1 (w .first) })),
+  (λ h. let u = using-exactly actionOf xs c .0 h in record { before = u .before; first = clause-exactly (after4 xs) c .0 (u .first) }),
+  (λ w. using-exactly actionOf xs c .1 (record { before = w .before; first = clause-exactly (after4 xs) c .1 (w .first) })),
 )
 
 -- where a text is accepted, no RAISE that is read in the text after pass 4 is refused
-pub accepted-none-refused : (xs zs : List ℕ) → rewriting xs ≡ accepted zs → NoneRefused (after4 xs)
-accepted-none-refused xs zs h = no-clause-exactly (after4 xs) .0 (accepted-exactly xs zs .0 h .noClause)
+pub accepted-none-refused : (xs zs : List ℕ) → rewriting actionOf xs ≡ accepted zs → NoneRefused (after4 xs)
+accepted-none-refused xs zs h = no-clause-exactly (after4 xs) .0 (accepted-exactly actionOf xs zs .0 h .noClause)

@@ -25,7 +25,7 @@ use Rattle.spec.specs.Bytes.{ascii, upper, isW, isLower, within}
 use Rattle.spec.specs.Lists.{isEmpty, takeWhile, dropWhile}
 use Rattle.spec.specs.Map.{Marked, bytes, ofByte}
 use Rattle.spec.specs.Search.{startsIgnoringCase}
-use Rattle.spec.specs.Raise.{message, Fate, rewritten, dropped, passed, refused, usingFate, abortFate}
+use Rattle.spec.specs.Raise.{message, Fate, rewritten, dropped, passed, refusedClause, usingFate, abortFate}
 
 -- w stands at j of xs, ignoring ASCII case
 abbrev pub MatchesAt : List ℕ → List ℕ → ℕ → Type 0
@@ -164,7 +164,7 @@ module _ (t : List Marked) (a b c : ℕ)
       && (eqb (getD (bytes t) b 0) 61
       && (eqb (getD (bytes t) c 0) 39 && isEmpty (dropWhile (ofByte isW) (drop (c + length (message (drop c t))) t))))
 
-  using-is : usingFate t (drop 5 t) ≡ cond fits (rewritten (message (drop c t))) (refused (bytes t))
+  using-is : usingFate t (drop 5 t) ≡ cond fits (rewritten (message (drop c t))) (refusedClause (bytes t))
   unfolding usingFate
   using-is =
       rw (
@@ -230,7 +230,7 @@ abbrev pub AbortCondition : List Marked → Fate → Type 0
 AbortCondition t (rewritten m) = Rewrites t m
 AbortCondition t dropped = ⊥
 AbortCondition t (passed u) = ⊥
-AbortCondition t (refused c) = IsRefusedContent (bytes t) × (c ≡ bytes t)
+AbortCondition t (refusedClause c) = IsRefusedContent (bytes t) × (c ≡ bytes t)
 
 module _ (t : List Marked) where
   abort-using : MatchesAt (ascii "USING") (bytes t) 0 → abortFate t ≡ usingFate t (drop 5 t)
@@ -263,12 +263,12 @@ module _ (t : List Marked) where
       ∙ (using-is t a b c pa pb pc
       ∙ rw (clause-fits t a b c pa pb pc d w) (ap rewritten (message-from t c d (w .is-message) .0 ∙ sym e)))
   abort-gives (rewritten m) (of-content {i} {j} n w e) = abort-content n ∙ ap rewritten (message-part t i j w ∙ sym e)
-  abort-gives (refused c) w =
+  abort-gives (refusedClause c) w =
       abort-using (w .0 .at-using)
       ∙ (using-is t aEnd bEnd cEnd refl refl refl
       ∙ by (fits t aEnd bEnd cEnd refl refl refl)
       (λ e. absurd (w .0 .no-clause aEnd bEnd cEnd _ (fits-clause t aEnd bEnd cEnd refl refl refl (w .0 .at-using) e)))
-      (λ e. rw e (ap refused (sym (w .1)))))
+      (λ e. rw e (ap refusedClause (sym (w .1)))))
 
   abort-decided : (f : Fate) × AbortCondition t f
   abort-decided =
@@ -280,13 +280,13 @@ module _ (t : List Marked) where
       let w = fits-clause t aEnd bEnd cEnd refl refl refl u e in
       (rewritten (take (length (message (drop cEnd t))) (drop cEnd t)), of-clause w refl))
       (λ e. (
-        refused (bytes t),
+        refusedClause (bytes t),
         (
           record {
             at-using = u;
             no-clause = λ a b c d w.
                 let one = abort-gives (rewritten (take d (drop c t))) (of-clause w refl) in
-                let two : abortFate t ≡ refused (bytes t) = abort-using u ∙ (using-is t aEnd bEnd cEnd refl refl refl ∙ rw e) in
+                let two : abortFate t ≡ refusedClause (bytes t) = abort-using u ∙ (using-is t aEnd bEnd cEnd refl refl refl ∙ rw e) in
                 absurd (apart (cc));
           },
           refl,
@@ -306,8 +306,8 @@ module _ (t : List Marked) where
 
 -- refusal 5 is given exactly for a refused content, with all of it
 pub abort-refused-exactly : (t : List Marked) (c : List ℕ)
-    → (abortFate t ≡ refused c) ↔ (IsRefusedContent (bytes t) × (c ≡ bytes t))
-abort-refused-exactly t c = abort-exactly t (refused c)
+    → (abortFate t ≡ refusedClause c) ↔ (IsRefusedContent (bytes t) × (c ≡ bytes t))
+abort-refused-exactly t c = abort-exactly t (refusedClause c)
 
 pub abort-rewritten-exactly : (t m : List Marked) → (abortFate t ≡ rewritten m) ↔ Rewrites t m
 abort-rewritten-exactly t m = abort-exactly t (rewritten m)

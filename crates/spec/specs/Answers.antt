@@ -10,12 +10,15 @@ use Rattle.spec.specs.Lists.{any, takeWhile}
 use Rattle.spec.specs.Map.{mapOf}
 use Rattle.spec.specs.Search.{findKeyword, findInCode, findStrInCode, wordPlace, wordText, splitInCode, hasUnterminatedDollarQuote, hasExceptionHandler}
 use Rattle.spec.specs.Requote.{requoted}
-use Rattle.spec.specs.Body.{bufferSize, Rewriting, accepted, qualifiedTarget, usingClause, resultTooLong, rewriting}
+use Rattle.spec.specs.Outcome.{handedBack, accepted, refused, Rewriting}
+use Rattle.spec.specs.Raise.{actionOf}
+use Rattle.spec.specs.Body.{bufferSize, rewriting}
 use Rattle.spec.specs.Declarations.{recordLimit, recordNumbers, Declared, recordsOf, bodyOf, packed, numbersOf}
 use Rattle.spec.specs.declared.Found.{Found}
 use Rattle.spec.specs.declared.Found.the-variants.{At, Nothing}
 use Rattle.spec.specs.declared.Refusal.{Refusal}
-use Rattle.spec.specs.declared.Refusal.the-variants.{TextTooLong, BufferTooShort, NotAscii}
+use Rattle.spec.specs.declared.Refusal.the-variants.{TextTooLong, NotAscii, BufferTooShort, QualifiedTarget, UsingClause, ResultTooLong, TooManyNames}
+use Rattle.spec.specs.declared.RefusalNumbers.{RefusalNumbers}
 use Rattle.spec.specs.declared.Check.{Check}
 use Rattle.spec.specs.declared.Check.the-variants as check
 use Rattle.spec.specs.declared.Search.{Search}
@@ -145,15 +148,15 @@ requoteExit xs lent = exitOf (requoteCheck xs lent) (keptBehind (requoted xs) le
 
 -- ---- the numbers
 
-abbrev pub refusalNumber : Refusal → ℕ
-refusalNumber TextTooLong = 1
-refusalNumber BufferTooShort = 3
-refusalNumber (NotAscii i) = 2
-
-abbrev pub refusalPlace : Refusal → ℕ
-refusalPlace TextTooLong = 0
-refusalPlace BufferTooShort = 0
-refusalPlace (NotAscii i) = i
+-- of a refusal: its number, its place, and the length of what the output holds
+abbrev pub refusalNumbers : Refusal → RefusalNumbers
+refusalNumbers TextTooLong = record { number = 1; place = 0; length = 0 }
+refusalNumbers (NotAscii i) = record { number = 2; place = i; length = 0 }
+refusalNumbers BufferTooShort = record { number = 3; place = 0; length = 0 }
+refusalNumbers (QualifiedTarget q n) = record { number = 4; place = q; length = n }
+refusalNumbers (UsingClause n) = record { number = 5; place = 0; length = n }
+refusalNumbers ResultTooLong = record { number = 6; place = 0; length = 0 }
+refusalNumbers TooManyNames = record { number = 7; place = 0; length = 0 }
 
 -- a search gives its number, a found flag and the place; none is an ordinary answer: 0, 0, 0
 pub record SearchNumbers : Type 0 where
@@ -164,7 +167,7 @@ pub record SearchNumbers : Type 0 where
 abbrev pub searchNumbers : Search → SearchNumbers
 searchNumbers (search.Found i) = record { number = 0; found = 1; place = i }
 searchNumbers search.NotFound = record { number = 0; found = 0; place = 0 }
-searchNumbers (search.Refused r) = record { number = refusalNumber r; found = 0; place = refusalPlace r }
+searchNumbers (search.Refused r) = record { number = refusalNumbers r .number; found = 0; place = refusalNumbers r .place }
 
 -- the three in this order, as a function hands them back that returns a part of the text
 abbrev pub searchList : SearchNumbers → List ℕ
@@ -173,7 +176,7 @@ searchList n = n .number ∷ n .found ∷ n .place ∷ []
 -- a search that fills a buffer seeks nothing
 abbrev pub filledNumbers : Filled → SearchNumbers
 filledNumbers (filled.Count n) = record { number = 0; found = 0; place = 0 }
-filledNumbers (filled.Refused r) = record { number = refusalNumber r; found = 0; place = refusalPlace r }
+filledNumbers (filled.Refused r) = record { number = refusalNumbers r .number; found = 0; place = refusalNumbers r .place }
 
 -- returned by the calls: number, place, output length, records
 pub record CallNumbers : Type 0 where
@@ -184,11 +187,8 @@ pub record CallNumbers : Type 0 where
 
 abbrev pub callNumbers : Rewritten → CallNumbers
 callNumbers (rewritten.Accepted n c) = record { number = 0; place = 0; length = n; records = c }
-callNumbers (rewritten.Refused r) = record { number = refusalNumber r; place = refusalPlace r; length = 0; records = 0 }
-callNumbers rewritten.TooManyNames = record { number = 7; place = 0; length = 0; records = 0 }
-callNumbers (rewritten.QualifiedTarget q n) = record { number = 4; place = q; length = n; records = 0 }
-callNumbers (rewritten.UsingClause n) = record { number = 5; place = 0; length = n; records = 0 }
-callNumbers rewritten.ResultTooLong = record { number = 6; place = 0; length = 0; records = 0 }
+callNumbers (rewritten.Refused r) =
+    record { number = refusalNumbers r .number; place = refusalNumbers r .place; length = refusalNumbers r .length; records = 0 }
 
 -- ---- the two calls
 
@@ -199,28 +199,24 @@ pub record Result : Type 0 where
   pub declared : List ℕ
   pub records : List ℕ
 
--- a refusal of this number leaves no records and no declaration text
-abbrev pub withoutRecords : Rewritten → List ℕ → Result
-withoutRecords answer output = record { answer = answer; output = output; declared = []; records = [] }
+-- a refusal leaves no records and no declaration text
+abbrev pub withoutRecords : Refusal → List ℕ → Result
+withoutRecords r output = record { answer = rewritten.Refused r; output = output; declared = []; records = [] }
 
--- 4: the output holds `q.n`; 5: it holds the clause from USING; 6: nothing
 unfoldable pub resultOf : List Declared → Rewriting → Result
 resultOf ds (accepted ys) =
     record { answer = rewritten.Accepted (length ys) (length ds); output = ys; declared = packed ds; records = numbersOf ds }
-resultOf ds (qualifiedTarget q n) =
-    withoutRecords (rewritten.QualifiedTarget (length q) (length (q ++ (46 ∷ n)))) (q ++ (46 ∷ n))
-resultOf ds (usingClause c) = withoutRecords (rewritten.UsingClause (length c)) c
-resultOf ds resultTooLong = withoutRecords rewritten.ResultTooLong []
+resultOf ds (refused r) = withoutRecords (handedBack r .refusal) (handedBack r .output)
 
 -- the body call: it lends no records and no declaration text, never gives 7, and its count is 0
 unfoldable pub bodyResult : List ℕ → Result
-bodyResult xs = resultOf [] (rewriting xs)
+bodyResult xs = resultOf [] (rewriting actionOf xs)
 
 -- the function call: 7 if over 512 different names are declared, then the passes over the body
 unfoldable pub functionResult : List ℕ → Result
 functionResult xs =
-    let ran = resultOf (recordsOf xs) (rewriting (bodyOf xs)) in
-    cond (ltb recordLimit (length (recordsOf xs))) (withoutRecords rewritten.TooManyNames []) ran
+    let ran = resultOf (recordsOf xs) (rewriting actionOf (bodyOf xs)) in
+    cond (ltb recordLimit (length (recordsOf xs))) (withoutRecords TooManyNames []) ran
 
 abbrev pub callAnswer : Check → Rewritten → Rewritten
 callAnswer check.Passed a = a

@@ -8,26 +8,10 @@ use lib.ListN.{length, take, drop}
 use Rattle.spec.specs.Bytes.{ascii, isIdent, isDigit, isWord, isW, isN}
 use Rattle.spec.specs.Lists.{isEmpty, takeWhile, dropWhile, dropEnd}
 use Rattle.spec.specs.Map.{Marked, live, quoted, byte, bytes, lives, frontByte, ofByte}
+use Rattle.spec.specs.Outcome.{qualifiedTarget, Outcome, accepted, refused, _⊕_}
 use Rattle.spec.specs.Search.{Test, first, wordHere, needleHere, byteHere, pieces}
 use Rattle.spec.specs.declared.Found.{Found}
 use Rattle.spec.specs.declared.Found.the-variants.{At, Nothing}
-
--- what a pass makes of a part of the text: text, or a refusal
-pub data Outcome : Type 0 where
-  done : List Marked → Outcome
-  -- refusal 4: q and n
-  qualified : List ℕ → List ℕ → Outcome
-  -- refusal 5: the clause from USING
-  clause : List ℕ → Outcome
-
-infixr 20 _⊕_
--- one part's outcome, then the rest's: the first refusal counts
-unfoldable pub _⊕_ : Outcome → Outcome → Outcome
-_⊕_ (done t) (done u) = done (t ++ u)
-_⊕_ (done t) (qualified q n) = qualified q n
-_⊕_ (done t) (clause c) = clause c
-_⊕_ (qualified q n) o = qualified q n
-_⊕_ (clause c) o = clause c
 
 -- without W at its end, at both ends
 unfoldable pub trimEnd : List Marked → List Marked
@@ -165,20 +149,20 @@ assignmentAt (At i) t =
 unfoldable pub assignment : List Marked → List Marked
 assignment t = assignmentAt (first assignHere 0 t) t
 
-unfoldable pub checkedStatement : Option Target → List Marked → Outcome
-checkedStatement none t = done (assignment t)
-checkedStatement (some r) t = qualified (bytes (r .qualifier)) (bytes (r .name))
+unfoldable pub checkedStatement : Option Target → List Marked → Outcome (List Marked)
+checkedStatement none t = accepted (assignment t)
+checkedStatement (some r) t = refused (qualifiedTarget (bytes (r .qualifier)) (bytes (r .name)))
 
 -- a statement is checked before it is rewritten
-unfoldable pub statement : List Marked → Outcome
+unfoldable pub statement : List Marked → Outcome (List Marked)
 statement t = checkedStatement (statementTarget t) t
 
 -- the statements' outcomes, a `;` between two
-unfoldable pub joinStatements : List (List Marked) → Outcome
-joinStatements [] = done []
+unfoldable pub joinStatements : List (List Marked) → Outcome (List Marked)
+joinStatements [] = accepted []
 joinStatements (s ∷ []) = statement s
-joinStatements (s ∷ r ∷ ss) = statement s ⊕ (done (live 59 ∷ []) ⊕ joinStatements (r ∷ ss))
+joinStatements (s ∷ r ∷ ss) = statement s ⊕ (accepted (live 59 ∷ []) ⊕ joinStatements (r ∷ ss))
 
 -- pass 3: statements are cut at live `;`
-unfoldable pub assignments : List Marked → Outcome
+unfoldable pub assignments : List Marked → Outcome (List Marked)
 assignments t = joinStatements (pieces (byteHere 59) t)

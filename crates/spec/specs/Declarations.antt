@@ -22,9 +22,9 @@ recordWidth = 8
 unfoldable pub recordLimit : ℕ
 recordLimit = 512
 
--- the numbers that are lent for 512 records and the head
+-- the numbers that are lent for the records and the head
 unfoldable pub recordNumbers : ℕ
-recordNumbers = 4104
+recordNumbers = recordWidth * (recordLimit + 1)
 
 -- a declared variable; the default may be absent, or present and empty
 pub record Declared : Type 0 where

@@ -5,6 +5,7 @@ pub mod Map
 pub mod Search
 pub mod Requote
 pub mod Elsif
+pub mod Outcome
 pub mod Assignments
 pub mod SelectInto
 pub mod Raise

@@ -10,7 +10,8 @@ use Rattle.spec.specs.Bytes.{ascii, isWord, isW}
 use Rattle.spec.specs.Lists.{isEmpty, takeWhile, dropWhile}
 use Rattle.spec.specs.Map.{Marked, live, quoted, byte, bytes, lives, markedText, frontByte, ofByte, isLiveByte}
 use Rattle.spec.specs.Search.{wordHere, startsIgnoringCase}
-use Rattle.spec.specs.Assignments.{Outcome, done, qualified, clause, _⊕_, trim}
+use Rattle.spec.specs.Outcome.{usingClause, Outcome, accepted, refused, _⊕_}
+use Rattle.spec.specs.Assignments.{trim}
 
 -- behind an opening `'`: the length through the quote that closes the literal, 0 if none does; `''` stays inside,
 -- backslash is plain
@@ -42,7 +43,7 @@ pub data Fate : Type 0 where
   -- it passes, with its separator
   passed : List Marked → Fate
   -- refusal 5, with the clause from USING
-  refused : List ℕ → Fate
+  refusedClause : List ℕ → Fate
 
 -- the content behind USING: MESSAGE, `=`, then text starting with `'`, its m with only W behind; anything else is refused
 unfoldable pub usingFate : List Marked → List Marked → Fate
@@ -55,7 +56,7 @@ usingFate content behind =
     startsIgnoringCase (ascii "MESSAGE") a
     && (eqb (frontByte b) 61
     && (eqb (frontByte c) 39 && isEmpty (dropWhile (ofByte isW) (drop (length m) c)))) in
-    cond fits (rewritten m) (refused (bytes content))
+    cond fits (rewritten m) (refusedClause (bytes content))
 
 -- the trimmed content of a statement that aborts
 unfoldable pub abortFate : List Marked → Fate
@@ -112,14 +113,9 @@ levelLen l t =
 pub data Action : Type 0 where
   abort drops : Action
 
--- EXCEPTION aborts, the others vanish
+-- EXCEPTION aborts, the others vanish: what follows takes the action of each level as `act`, and this is one choice of it
 unfoldable pub actionOf : Level → Action
-actionOf exception = abort
-actionOf notice = drops
-actionOf warning = drops
-actionOf debug = drops
-actionOf log = drops
-actionOf info = drops
+actionOf l = cond (isException l) abort drops
 
 -- the statement's content: read afresh behind the level, up to the next live `;` or the end
 unfoldable pub contentOf : List Marked → List Marked
@@ -135,43 +131,43 @@ pub record Raised : Type 0 where
   pub fate : Fate
 
 -- t starts with RAISE, one separator byte follows, and then perhaps a level
-unfoldable pub raisedAt : Option Level → List Marked → Raised
-raisedAt none t = record { length = 6; fate = passed (take 6 t) }
-raisedAt (some l) t =
+unfoldable pub raisedAt : (Level → Action) → Option Level → List Marked → Raised
+raisedAt act none t = record { length = 6; fate = passed (take 6 t) }
+raisedAt act (some l) t =
     let n = levelLen l (drop 6 t) in
     let content = contentOf (drop (6 + n) t) in
-    record { length = 6 + n + length content + 1; fate = actionFate (actionOf l) content }
+    record { length = 6 + n + length content + 1; fate = actionFate (act l) content }
 
--- a byte that stays, or a RAISE
-pub data Part : Type 0 where
-  kept : Marked → Part
-  raised : Raised → Part
+-- what pass 5 reads: a byte that stays, or a RAISE
+pub data Token : Type 0 where
+  kept : Marked → Token
+  raised : Raised → Token
 
 -- the search for live RAISE in the map of the whole text; k bytes of the last one are still to pass, p is the byte before
-unfoldable pub raisesFrom : ℕ → ℕ → List Marked → List Part
-raisesFrom k p [] = []
-raisesFrom zero p (x ∷ t) =
-    let r = raisedAt (levelIn levelWords (drop 5 t)) (x ∷ t) in
-    let stays = kept x ∷ raisesFrom 0 (byte x) t in
-    let goes = raised r ∷ raisesFrom (r .length - 1) (byte x) t in
+unfoldable pub raisesFrom : (Level → Action) → ℕ → ℕ → List Marked → List Token
+raisesFrom act k p [] = []
+raisesFrom act zero p (x ∷ t) =
+    let r = raisedAt act (levelIn levelWords (drop 5 t)) (x ∷ t) in
+    let stays = kept x ∷ raisesFrom act 0 (byte x) t in
+    let goes = raised r ∷ raisesFrom act (r .length - 1) (byte x) t in
     cond (wordHere isWord (ascii "RAISE") p (x ∷ t)) goes stays
-raisesFrom (suc k) p (x ∷ t) = raisesFrom k (byte x) t
+raisesFrom act (suc k) p (x ∷ t) = raisesFrom act k (byte x) t
 
 -- the text made of a fate
-unfoldable pub fateText : Fate → Outcome
-fateText (rewritten m) = done (lives (ascii "SELECT RAISE(ABORT, ") ++ (m ++ lives (ascii ");")))
-fateText dropped = done []
-fateText (passed t) = done t
-fateText (refused c) = clause c
+unfoldable pub fateText : Fate → Outcome (List Marked)
+fateText (rewritten m) = accepted (lives (ascii "SELECT RAISE(ABORT, ") ++ (m ++ lives (ascii ");")))
+fateText dropped = accepted []
+fateText (passed t) = accepted t
+fateText (refusedClause c) = refused (usingClause c)
 
-unfoldable pub partText : Part → Outcome
-partText (kept x) = done (x ∷ [])
-partText (raised r) = fateText (r .fate)
+unfoldable pub tokenText : Token → Outcome (List Marked)
+tokenText (kept x) = accepted (x ∷ [])
+tokenText (raised r) = fateText (r .fate)
 
-unfoldable pub joinParts : List Part → Outcome
-joinParts [] = done []
-joinParts (p ∷ ps) = partText p ⊕ joinParts ps
+unfoldable pub joinTokens : List Token → Outcome (List Marked)
+joinTokens [] = accepted []
+joinTokens (p ∷ ps) = tokenText p ⊕ joinTokens ps
 
 -- pass 5
-unfoldable pub raise : List Marked → Outcome
-raise t = joinParts (raisesFrom 0 0 t)
+unfoldable pub raise : (Level → Action) → List Marked → Outcome (List Marked)
+raise act t = joinTokens (raisesFrom act 0 0 t)

@@ -24,14 +24,29 @@ pub enum Found {
     Nothing,
 }
 
-// The refusals that are checked before anything is written.
+// Why a call refuses its text, by number. 1, 3 and 2 are checked before anything is written.
 pub enum Refusal {
     // 1: the text is over the limit.
     TextTooLong,
-    // 3: a lent buffer is too short.
-    BufferTooShort,
     // 2: the offset of the first byte over 127, in the text or in the needle.
     NotAscii(usize),
+    // 3: a lent buffer is too short.
+    BufferTooShort,
+    // 4: the lengths of q and of `q.n`.
+    QualifiedTarget { qualifier: usize, length: usize },
+    // 5: the length of the clause from USING.
+    UsingClause { length: usize },
+    // 6: a pass's result exceeds the buffer size.
+    ResultTooLong,
+    // 7: over 512 different names are declared.
+    TooManyNames,
+}
+
+// What is handed back of a refusal: its number, its place, and how many bytes the output holds.
+pub struct RefusalNumbers {
+    pub number: u32,
+    pub place: usize,
+    pub length: usize,
 }
 
 // Whether a call may begin.
@@ -58,14 +73,5 @@ pub enum Filled {
 // What a rewriting call answers.
 pub enum Rewritten {
     Accepted { length: usize, records: usize },
-    // 1, 3, 2.
     Refused(Refusal),
-    // 7: over 512 different names are declared.
-    TooManyNames,
-    // 4: the lengths of q and of `q.n`.
-    QualifiedTarget { qualifier: usize, length: usize },
-    // 5: the length of the clause from USING.
-    UsingClause { length: usize },
-    // 6: a pass's result exceeds the buffer size.
-    ResultTooLong,
 }

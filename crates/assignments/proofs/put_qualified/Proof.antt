@@ -1,5 +1,6 @@
 use mathlib.Core.List.{_∷_, _++_}
-use Rattle.output.specs.declared.Pass.the-variants.{Qualified}
+use Rattle.output.specs.declared.Pass.the-variants.{Refused}
+use Rattle.spec.specs.declared.Refusal.the-variants.{QualifiedTarget}
 use native.Mathlib.Omega.{arith}
 use mathlib.Core.Path.{_≡_, ap}
 use Prim.Native.Nat.{ℕ, _+_, _-_}
@@ -71,7 +72,7 @@ returns c =
     let nm : a .b + a .m - a .b ≡ a .m = omega arith in
     let w : take (length q + 1 + length n) (c .before .before .put-all2 .last .0) ≡ q ++ (46 ∷ n) =
     target-written q n (a .out .now) _ _ _ _ _ (c .before .before .before .before .before .before .before .before .before .before .before .put-all .ensures .1) (c .before .before .before .before .before .before .before .before .before .before .before .put-all .ensures .0) (c .before .before .before .before .before .before .before .put .ensures .1) (c .before .before .before .before .before .before .before .put .ensures .0) (c .before .before .put-all2 .ensures .1) (omega arith) in
-    (ap (λ (l : ℕ). Qualified (a .k) l) (omega (arith, c .before .before .before .before .before .before .before .before .before .before .before .put-all .ensures .0, c .before .before .before .before .before .before .before .put .ensures .0, c .before .before .put-all2 .ensures .0)), rw (ql, nl, qk, nm) at w)
+    (ap (λ (l : ℕ). Refused (QualifiedTarget (a .k) l)) (omega (arith, c .before .before .before .before .before .before .before .before .before .before .before .put-all .ensures .0, c .before .before .before .before .before .before .before .put .ensures .0, c .before .before .put-all2 .ensures .0)), rw (ql, nl, qk, nm) at w)
 
 pub put-qualified-spec : {M : Type 1} → statement M
 put-qualified-spec =

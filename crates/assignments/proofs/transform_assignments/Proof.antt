@@ -7,15 +7,17 @@ use lib.ListN.{length, take, drop, length-drop}
 use lib.Seq.{length-take-le}
 use Rattle.spec.specs.Map.{Marked, marked, live}
 use Rattle.spec.specs.Search.{first, byteHere}
-use Rattle.spec.specs.Assignments.{done, _⊕_, statement as outcome, assignments}
+use Rattle.spec.specs.Outcome.{accepted, _⊕_}
+use Rattle.spec.specs.Assignments.{statement as outcome, assignments}
 use Rattle.spec.specs.declared.Found.the-variants.{At}
 use Rattle.spec.proofs.AheadLaws.{rest-of}
 use Rattle.spec.proofs.MapLaws.{marked-length}
 use Rattle.spec.proofs.WalkLaws.{marked-drop, first-within}
 use Rattle.spec.proofs.PartLaws.{marked-part}
 use Rattle.output.specs.declared.Pass.the-variants.{Done}
-use Rattle.assignments.specs.Written.{answerFrom, LeavesFrom}
-use Rattle.assignments.proofs.RestLaws.{Rest, rest-start, rest-refused, rest-turn, leftFrom, left-cut, left-last, statement-long}
+use Rattle.output.specs.Passes.{answerFrom, LeavesFrom}
+use Rattle.output.proofs.OutcomeLaws.{Turn, turn-refused, turn-answer, turn-leaves}
+use Rattle.assignments.proofs.RestLaws.{statement-turn, turn-start, leftFrom, left-cut, left-last, statement-long}
 use Rattle.assignments.proofs.transform_assignments.Statement.{statement}
 use Rattle.assignments.proofs.transform_assignments.Tie as tie
 
@@ -24,7 +26,7 @@ Inv-loop text map out₀ n₀ from₀ out n from =
     (from ≤ length text)
     × (length out ≡ length out₀)
     × (n ≤ 8 * from)
-    × Rest (assignments (marked text map)) out₀ n out (leftFrom (marked text map) from)
+    × Turn out₀ 0 (assignments (marked text map)) out n (leftFrom (marked text map) from)
 
 abbrev μ-loop : tie.MeasureT-loop
 μ-loop text map out₀ n₀ from₀ out n from = length text - from
@@ -72,13 +74,18 @@ left-in c =
     let h : LeavesFrom (c .before .before .before .before .before .before .before .before .loop .n) (outcome (marked (partTo (c .before .before .before .before) (c .before .before .before .before .before .before .before .before .before .before .before .before .args .text .now)) (partTo (c .before .before .before .before) (c .before .before .before .before .before .before .before .before .before .before .before .before .args .map .now)))) (c .before .before .before .before .before .before .before .before .loop .out) (c .put-statement2 .last .0) = c .put-statement2 .ensures .1 in
     rw (piece-same (c .before .before .before .before)) at h
 
-rest-in : (c : tie.After-known-told Inv-loop μ-loop)
-    → Rest (assignments (marked (c .before .before .before .before .before .before .before .before .args .text .now) (c .before .before .before .before .before .before .before .before .args .map .now))) (c .before .before .before .before .before .before .before .before .args .out .now) (c .before .before .before .before .loop .n) (c .before .before .before .before .loop .out)
-    (outcome (pieceOf c) ⊕ (done (live 59 ∷ []) ⊕ leftFrom (marked (c .before .before .before .before .before .before .before .before .args .text .now) (c .before .before .before .before .before .before .before .before .args .map .now)) (c .before .found .given .0 .0 + 1)))
-rest-in c =
-    let t = marked (c .before .before .before .before .before .before .before .before .args .text .now) (c .before .before .before .before .before .before .before .before .args .map .now) in
-    let r : Rest (assignments t) (c .before .before .before .before .before .before .before .before .args .out .now) (c .before .before .before .before .loop .n) (c .before .before .before .before .loop .out) (leftFrom t (c .before .before .before .before .loop .from)) = c .before .before .before .before .loop .inv .3 in
-    rw (left-cut t (c .before .before .before .before .loop .from) _ (found-at c)) at r
+turn-in : (c : tie.After-known-told Inv-loop μ-loop)
+    → let l = c .before .before .before .before in
+    let a = l .before .before .before .before .args in
+    let t = marked (a .text .now) (a .map .now) in
+    Turn (a .out .now) 0 (assignments t) (l .loop .out) (l .loop .n)
+    (outcome (pieceOf c) ⊕ (accepted (live 59 ∷ []) ⊕ leftFrom t (c .before .found .given .0 .0 + 1)))
+turn-in c =
+    let l = c .before .before .before .before in
+    let a = l .before .before .before .before .args in
+    let t = marked (a .text .now) (a .map .now) in
+    let r : Turn (a .out .now) 0 (assignments t) (l .loop .out) (l .loop .n) (leftFrom t (l .loop .from)) = l .loop .inv .3 in
+    rw (left-cut t (l .loop .from) _ (found-at c)) at r
 
 -- where it is text, its end
 done-at : (c : tie.After-known-told2 Inv-loop μ-loop) → Done (c .before .pass .given .0 .0) ≡ answerFrom (c .before .before .before .before .before .before .before .before .before .before .before .before .before .loop .n) (outcome (pieceOf (c .before .before .before .before .before .before .before .before .before)))
@@ -88,7 +95,7 @@ end-within : (c : tie.After-known-told2 Inv-loop μ-loop) → c .before .pass .g
 end-within c = omega (arith, statement-long (pieceOf (c .before .before .before .before .before .before .before .before .before)) (c .before .before .before .before .before .before .before .before .before .before .before .before .before .loop .n) _ (done-at c), piece-long (c .before .before .before .before .before .before .before .before .before))
 
 loop-holds : tie.Need-loop-holds Inv-loop μ-loop
-loop-holds c = (omega arith, refl, omega arith, rest-start _ _)
+loop-holds c = (omega arith, refl, omega arith, turn-start _ _)
 
 find-byte-in-requires : tie.Need-find-byte-in-requires Inv-loop μ-loop
 find-byte-in-requires c κs = search needs
@@ -133,9 +140,9 @@ returns c =
     rw (rest-of xs (l .from), rest-of ms (l .from)) (sym (marked-drop (l .from) xs ms)) in
     let p : c .before .before .put-statement .result ≡ answerFrom (l .n) (outcome (marked (take (length xs - l .from) (drop (l .from) xs)) (take (length ms - l .from) (drop (l .from) ms)))) = c .before .before .put-statement .ensures .0 in
     let q : LeavesFrom (l .n) (outcome (marked (take (length xs - l .from) (drop (l .from) xs)) (take (length ms - l .from) (drop (l .from) ms)))) (l .out) (c .before .before .put-statement .last .0) = c .before .before .put-statement .ensures .1 in
-    let r : Rest (assignments (marked xs ms)) (a .out .now) (l .n) (l .out) (leftFrom (marked xs ms) (l .from)) = l .inv .3 in
+    let r : Turn (a .out .now) 0 (assignments (marked xs ms)) (l .out) (l .n) (leftFrom (marked xs ms) (l .from)) = l .inv .3 in
     let s = rw (left-last (marked xs ms) (l .from) (sym (c .before .before .before .before .before .before .before .before .find-byte-in .ensures) ∙ c .before .before .before .before .before .before .enum-told .given .1)) at r in
-    (rw last at p ∙ sym (s .answer), s .leaves _ (rw last at q))
+    (rw last at p ∙ sym (turn-answer s), turn-leaves s _ (rw last at q))
 
 sub-put-statement-3 : tie.Need-sub-put-statement-3 Inv-loop μ-loop
 sub-put-statement-3 c = let w = within (c .before) in omega arith
@@ -161,13 +168,19 @@ put-statement-requires-2 c κs = let w = within (c .before .before .before) in l
 enum-known-pass : tie.Need-enum-known-pass Inv-loop μ-loop
 enum-known-pass c = search needs
 
+enum-told-2 : tie.Need-enum-told-2 Inv-loop μ-loop
+enum-told-2 c = search needs
+
 same-length-2 : tie.Need-same-length-2 Inv-loop μ-loop
 same-length-2 c = search needs
 
 returns-2 : tie.Need-returns-2 Inv-loop μ-loop
 returns-2 c =
-    let r = rest-refused _ _ _ _ _ _ _ (rest-in (c .before .before .before .before .before .before .before)) (answered (c .before .before .before)) (c .match2 .keys2) in
-    (answered (c .before .before .before) ∙ sym (r .answer), r .leaves _ (left-in (c .before .before .before)))
+    let at-put-statement2 = c .before .before .before .before in
+    let at-known-told = at-put-statement2 .before .before .before .before in
+    let refused = sym (answered at-put-statement2) ∙ c .enum-told2 .given .1 in
+    let r = turn-refused _ _ _ _ _ _ _ _ (turn-in at-known-told) refused in
+    (answered at-put-statement2 ∙ sym (turn-answer r), turn-leaves r _ (left-in at-put-statement2))
 
 put-requires : tie.Need-put-requires Inv-loop μ-loop
 put-requires c κs = let w = within (c .before .before .before .before .before .before .before .before .before .before) in omega (arith, end-within (c .before))
@@ -184,7 +197,7 @@ loop-again c =
       omega arith,
       c .before .before .put .kept .0 ∙ (c .before .before .before .before .before .before .before .before .before .put-statement2 .kept .0 ∙ c .before .before .before .before .before .before .before .before .before .before .before .before .before .before .before .before .before .loop .inv .1),
       omega (arith, end-within (c .before .before .before .before), c .before .before .put .ensures .0),
-      rest-turn _ _ _ _ _ _ _ _ _ _ (rest-in (c .before .before .before .before .before .before .before .before .before .before .before .before .before)) (done-at (c .before .before .before .before)) (left-in (c .before .before .before .before .before .before .before .before .before)) (c .before .before .put .ensures .0) (c .before .before .put .ensures .1),
+      statement-turn _ _ _ _ _ _ _ _ _ _ (turn-in (c .before .before .before .before .before .before .before .before .before .before .before .before .before)) (done-at (c .before .before .before .before)) (left-in (c .before .before .before .before .before .before .before .before .before)) (c .before .before .put .ensures .0) (c .before .before .put .ensures .1),
     )
 
 pub transform-assignments-spec : {M : Type 1} → statement M
@@ -214,6 +227,7 @@ transform-assignments-spec =
     part-put-statement-end-4
     put-statement-requires-2
     enum-known-pass
+    enum-told-2
     same-length-2
     returns-2
     put-requires

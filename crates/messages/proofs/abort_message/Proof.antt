@@ -10,7 +10,7 @@ use Rattle.spec.proofs.WalkLaws.{prefix-by-len}
 use Rattle.spec.specs.Bytes.{ascii, upper}
 use Rattle.spec.specs.Map.{bytes, lives}
 use Rattle.spec.specs.Assignments.{trim}
-use Rattle.spec.specs.Body.{accepted}
+use Rattle.spec.specs.Outcome.{accepted}
 use Rattle.spec.specs.Raise.{actionFate}
 use Rattle.messages.specs.Readings.{trimmed, aborting, abortOf}
 use Rattle.messages.proofs.MessageLaws.{bytes-trim, trimmed-le, message-is, message-le}

@@ -14,7 +14,7 @@ use Rattle.spec.proofs.SpanLaws.{seen}
 use Rattle.spec.proofs.WalkLaws.{prefixBy}
 use Rattle.spec.specs.Bytes.{ascii, upper, isW}
 use Rattle.spec.specs.Map.{Marked, bytes, lives}
-use Rattle.spec.specs.Body.{accepted, usingClause, forget}
+use Rattle.spec.specs.Outcome.{usingClause, accepted, refused, forget}
 use Rattle.spec.specs.Raise.{usingFate, fateText}
 use Rattle.messages.specs.Readings.{aborting}
 use Rattle.messages.proofs.TextLaws.{run-within, run-le}
@@ -159,7 +159,7 @@ skip-w-requires-4 c κs = search needs
 judged : (c : tie.After-skip-w4) (t : List Marked) → bytes t ≡ content-of (c .before .before .before)
     → let xs = content-of (c .before .before .before) in
     forget (fateText (usingFate t (drop 5 t)))
-    ≡ cond (leb (length xs) (c .skip-w4 .result)) (accepted (aborting (c .before .extract-first-string-literal .result .now))) (usingClause xs)
+    ≡ cond (leb (length xs) (c .skip-w4 .result)) (accepted (aborting (c .before .extract-first-string-literal .result .now))) (refused (usingClause xs))
 judged c t e =
     let quote = c .before .before .before in
     let equals = quote .before .before .before in

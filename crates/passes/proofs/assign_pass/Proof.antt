@@ -1,8 +1,17 @@
+-- `passes::assign_pass` meets its contract: the pass reads the text with its map, and what it answers and leaves, within the buffer
+-- size, is what pass 3 gives. Assumes nothing.
+use mathlib.Core.Path.{_≡_, sym, ap, _∙_}
 use native.Mathlib.Omega.{arith}
-use lib.ListN.{length}
+use lib.ListN.{length, take}
 use lib.Seq.{length-take-le}
-use mathlib.Core.Path.{_≡_, refl, sym, ap, _∙_}
-use Rattle.passes.proofs.StageLaws.{front-map}
+use mathlib.Core.List.{[]}
+use Rattle.spec.specs.Map.{markedText}
+use Rattle.spec.specs.Assignments.{assignments}
+use Rattle.spec.specs.Body.{limited, assignPass}
+use Rattle.spec.specs.Answers.{resultOf}
+use Rattle.output.specs.declared.Pass.{Pass}
+use Rattle.passes.specs.Gives.{Gives, finished}
+use Rattle.passes.proofs.StageLaws.{front-map, limited-gives}
 use borrow.Author.Needs.{needs}
 use Rattle.passes.proofs.assign_pass.Statement.{statement}
 use Rattle.passes.proofs.assign_pass.Tie as tie
@@ -14,10 +23,20 @@ slice-reshare-prefix-transform-assignments : tie.Need-slice-reshare-prefix-trans
 slice-reshare-prefix-transform-assignments c = search needs
 
 slice-aggregate-transform-assignments : tie.Need-slice-aggregate-transform-assignments
-slice-aggregate-transform-assignments c = sym (length-take-le (length (c .before .before .before .before .before .before .before .before .args .text .now)) (c .before .before .before .map-text .last .1 .0) (omega (arith, c .before .before .before .map-text .kept .1 .0)))
+slice-aggregate-transform-assignments c =
+    let at-map = c .before .before .before in
+    let at-start = at-map .before .before .before .before .before in
+    sym (length-take-le (length (at-start .args .text .now)) (at-map .map-text .last .1 .0) (omega (arith, at-map .map-text .kept .1 .0)))
 
 transform-assignments-requires : tie.Need-transform-assignments-requires
-transform-assignments-requires c κs = (c .before .before .before .before .before .before .before .before .before .pre .0, (omega (arith, length-take-le (length (c .before .before .before .before .before .before .before .before .before .args .text .now)) (c .before .before .before .before .map-text .last .1 .0) (omega (arith, c .before .before .before .before .map-text .kept .1 .0))), c .before .before .before .before .before .before .before .before .before .pre .1 .1))
+transform-assignments-requires c κs =
+    let at-map = c .before .before .before .before in
+    let p = at-map .before .before .before .before .before .pre in
+    let n = length-take-le (length (at-map .before .before .before .before .before .args .text .now)) (at-map .map-text .last .1 .0) (omega (arith, at-map .map-text .kept .1 .0)) in
+    (p .0, (omega (arith, n), omega (arith, p .0, p .1 .1)))
+
+limit-requires : tie.Need-limit-requires
+limit-requires c κs = search needs
 
 same-length : tie.Need-same-length
 same-length c = search needs
@@ -26,10 +45,16 @@ same-length-2 : tie.Need-same-length-2
 same-length-2 c = search needs
 
 returns : tie.Need-returns
+unfolding assignPass
 returns c =
-    let s = c .before .before .before .before .before .before .before .before .before .before .before .before .args in
-    let m = front-map (s .text .now) (c .before .before .before .before .before .before .before .map-text .last .1 .0) (s .map .now) (c .before .before .before .before .before .before .before .map-text .ensures) in
-    rw (← m) (c .before .before .transform-assignments .ensures)
+    let at-pass = c .before .before .before in
+    let at-map = at-pass .before .before .before .before .before in
+    let at-start = at-map .before .before .before .before .before in
+    let xs = at-start .args .text .now in
+    let m = front-map xs (at-map .map-text .last .1 .0) (at-start .args .map .now) (at-map .map-text .ensures) in
+    let e = rw m at (at-pass .transform-assignments .ensures) in
+    let g = limited-gives (assignments (markedText xs)) (at-pass .transform-assignments .result) (at-start .args .out .now) (at-pass .transform-assignments .last .1 .1 .0) (e .0) (e .1) (at-start .pre .1 .1) in
+    rw (c .limit .ensures) g
 
 pub assign-pass-spec : {M : Type 1} → statement M
 assign-pass-spec =
@@ -39,6 +64,7 @@ assign-pass-spec =
     slice-reshare-prefix-transform-assignments
     slice-aggregate-transform-assignments
     transform-assignments-requires
+    limit-requires
     same-length
     same-length-2
     returns)

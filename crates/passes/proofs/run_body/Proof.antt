@@ -1,5 +1,6 @@
 use Rattle.passes.proofs.EndLaws.{answer-length, zeros-behind-part}
 use Rattle.spec.specs.Answers.{bodyResult, callNumbers}
+use Rattle.spec.specs.Raise.{actionOf}
 use Rattle.spec.specs.Body.{rewriting}
 use mathlib.Core.List.{[]}
 use native.Mathlib.Omega.{arith}
@@ -59,7 +60,7 @@ unfolding bodyResult
 returns c = let s = c .before .before .before .before .before .before .before .before .before .before .before .before .before .before .before .before .before .before .before .before .before .before .before .before .before .before .before .args in
     let p = c .before .before .before .before .before .before .before .before .before .before .before .before .before .before .before .before .before .before .before .before .before .before .before .before .before .before .before .pre in
     let run = c .before .before .before .before .before .before .before .before .before .before .before .before .before .before .before .before .before .before .before .run-passes in
-    let n = c .before .before .before .before .before .before .before .before .before .before .before .before .output-length .ensures ∙ (ap (λ r. callNumbers r .length) (run .ensures .answered) ∙ answer-length [] (rewriting (s .text .now))) in (
+    let n = c .before .before .before .before .before .before .before .before .before .before .before .before .output-length .ensures ∙ (ap (λ r. callNumbers r .length) (run .ensures .answered) ∙ answer-length [] (rewriting actionOf (s .text .now))) in (
       run .ensures .answered,
       (
         c .before .before .before .before .before .before .before .before .before .before .fill .ensures ∙ zeros-behind-part (s .size) (c .before .before .before .before .before .before .before .before .before .before .before .before .output-length .result) (run .last .1 .0) (s .output .now) (bodyResult (s .text .now) .output) (run .kept .1 .0 ∙ length-take-le (s .size) (s .output .now) (p .1 .1 .0)) n (run .ensures .held),

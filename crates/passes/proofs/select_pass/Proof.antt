@@ -1,9 +1,15 @@
+-- `passes::select_pass` meets its contract: the pass reads the text with its map, and what it answers and leaves, within the buffer
+-- size, is what pass 4 gives. Assumes nothing.
+use mathlib.Core.Path.{_≡_, sym, ap, _∙_}
 use native.Mathlib.Omega.{arith}
-use lib.ListN.{length}
+use lib.ListN.{length, take}
 use lib.Seq.{length-take-le}
-use mathlib.Core.Path.{_≡_, refl, sym, ap, _∙_}
-use Rattle.passes.proofs.StageLaws.{front-quotes}
-use native.Mathlib.Omega.{arith}
+use Rattle.spec.specs.Map.{Marked, marked, bytes}
+use Rattle.spec.specs.SelectInto.{quoteWalk, selectInto}
+use Rattle.spec.specs.Body.{selectPass}
+use Rattle.output.specs.declared.Pass.{Pass}
+use Rattle.passes.specs.Gives.{Gives, finished}
+use Rattle.passes.proofs.StageLaws.{front-quotes, counted-gives}
 use borrow.Author.Needs.{needs}
 use Rattle.passes.proofs.select_pass.Statement.{statement}
 use Rattle.passes.proofs.select_pass.Tie as tie
@@ -15,10 +21,20 @@ slice-reshare-prefix-transform-select-into : tie.Need-slice-reshare-prefix-trans
 slice-reshare-prefix-transform-select-into c = search needs
 
 slice-aggregate-transform-select-into : tie.Need-slice-aggregate-transform-select-into
-slice-aggregate-transform-select-into c = sym (length-take-le (length (c .before .before .before .before .before .before .before .before .args .text .now)) (c .before .before .before .map-quotes .last .1 .0) (omega (arith, c .before .before .before .map-quotes .kept .1 .0)))
+slice-aggregate-transform-select-into c =
+    let at-map = c .before .before .before in
+    let at-start = at-map .before .before .before .before .before in
+    sym (length-take-le (length (at-start .args .text .now)) (at-map .map-quotes .last .1 .0) (omega (arith, at-map .map-quotes .kept .1 .0)))
 
 transform-select-into-requires : tie.Need-transform-select-into-requires
-transform-select-into-requires c κs = (c .before .before .before .before .before .before .before .before .before .pre .0, omega (arith, length-take-le (length (c .before .before .before .before .before .before .before .before .before .args .text .now)) (c .before .before .before .before .map-quotes .last .1 .0) (omega (arith, c .before .before .before .before .map-quotes .kept .1 .0))))
+transform-select-into-requires c κs =
+    let at-map = c .before .before .before .before in
+    let p = at-map .before .before .before .before .before .pre in
+    let n = length-take-le (length (at-map .before .before .before .before .before .args .text .now)) (at-map .map-quotes .last .1 .0) (omega (arith, at-map .map-quotes .kept .1 .0)) in
+    (p .0, omega (arith, n))
+
+limit-requires : tie.Need-limit-requires
+limit-requires c κs = search needs
 
 same-length : tie.Need-same-length
 same-length c = search needs
@@ -27,9 +43,16 @@ same-length-2 : tie.Need-same-length-2
 same-length-2 c = search needs
 
 returns : tie.Need-returns
-returns c = let s = c .before .before .before .before .before .before .before .before .before .before .before .before .args in
-    let m = front-quotes (s .text .now) (c .before .before .before .before .before .before .before .map-quotes .last .1 .0) (s .map .now) (c .before .before .before .before .before .before .before .map-quotes .ensures) in
-    rw (← m) (c .before .before .transform-select-into .ensures)
+unfolding selectPass
+returns c =
+    let at-pass = c .before .before .before in
+    let at-map = at-pass .before .before .before .before .before in
+    let at-start = at-map .before .before .before .before .before in
+    let xs = at-start .args .text .now in
+    let m = front-quotes xs (at-map .map-quotes .last .1 .0) (at-start .args .map .now) (at-map .map-quotes .ensures) in
+    let e = rw m at (at-pass .transform-select-into .ensures) in
+    let g = counted-gives (bytes (selectInto (quoteWalk 0 xs))) (at-start .args .out .now) (at-pass .transform-select-into .last .1 .1 .0) (at-pass .transform-select-into .result) (e .0) (e .1) (at-start .pre .1 .1) in
+    rw (c .limit .ensures) g
 
 pub select-pass-spec : {M : Type 1} → statement M
 select-pass-spec =
@@ -39,6 +62,7 @@ select-pass-spec =
     slice-reshare-prefix-transform-select-into
     slice-aggregate-transform-select-into
     transform-select-into-requires
+    limit-requires
     same-length
     same-length-2
     returns)

@@ -1,45 +1,24 @@
-use mathlib.Core.Path.{refl, _∙_}
+-- `plpgsql_rewriter::put_refused` meets its contract: the numbers of a refused call are those of `refusal_numbers`, with no records. Assumes
+-- nothing.
+use mathlib.Core.Path.{ap, _∙_}
+use mathlib.Core.List.{[], _∷_}
 use borrow.Author.Needs.{needs}
+use Rattle.spec.specs.declared.RefusalNumbers.{RefusalNumbers}
+use Rattle.plpgsql_rewriter.specs.Four.{narrow}
 use Rattle.plpgsql_rewriter.proofs.put_refused.Statement.{statement}
 use Rattle.plpgsql_rewriter.proofs.put_refused.Tie as tie
 
-enum-told : tie.Need-enum-told
-enum-told c = search needs
+refusal-numbers-requires : tie.Need-refusal-numbers-requires
+refusal-numbers-requires c κs = search needs
 
-put-numbers-requires : tie.Need-put-numbers-requires
-put-numbers-requires c κs = search needs
-
-enum-told-2 : tie.Need-enum-told-2
-enum-told-2 c = search needs
-
-put-numbers-requires-2 : tie.Need-put-numbers-requires-2
-put-numbers-requires-2 c κs = search needs
-
-enum-known-r : tie.Need-enum-known-r
-enum-known-r c = search needs
-
-put-numbers-requires-3 : tie.Need-put-numbers-requires-3
-put-numbers-requires-3 c κs = search needs
+put-four-requires : tie.Need-put-four-requires
+put-four-requires c κs = search needs
 
 returns : tie.Need-returns
-returns c = c .put-numbers .ensures ∙ rw (c .before .before .enum-told .given .1) refl
-
-returns-2 : tie.Need-returns-2
-returns-2 c = c .put-numbers2 .ensures ∙ rw (c .before .before .enum-told2 .given .1) refl
-
-returns-3 : tie.Need-returns-3
-returns-3 c = c .put-numbers3 .ensures ∙ rw (c .before .before .before .r .given .1) refl
+unfolding narrow
+returns c =
+    let at-numbers = c .before .before in
+    c .put-four .ensures ∙ ap (λ (n : RefusalNumbers). n .number ∷ narrow (n .place) ∷ narrow (n .length) ∷ narrow 0 ∷ []) (at-numbers .refusal-numbers .ensures)
 
 pub put-refused-spec : {M : Type 1} → statement M
-put-refused-spec =
-    tie.close
-    (tie.spec
-    enum-told
-    put-numbers-requires
-    enum-told-2
-    put-numbers-requires-2
-    enum-known-r
-    put-numbers-requires-3
-    returns
-    returns-2
-    returns-3)
+put-refused-spec = tie.close (tie.spec refusal-numbers-requires put-four-requires returns)

@@ -5,7 +5,7 @@ use Rattle.spec.proofs.SearchLaws.{check-only}
 use Rattle.spec.specs.declared.Check.the-variants.{Passed}
 use Rattle.spec.specs.Answers.{textLimit, areLent, functionCheck, functionAnswer, functionOutput, functionText, functionRecords, workExit}
 use Rattle.spec.specs.Body.{bufferSize}
-use Rattle.spec.specs.Declarations.{recordNumbers}
+use Rattle.spec.specs.Declarations.{recordWidth, recordLimit, recordNumbers}
 use borrow.Author.Needs.{needs}
 use Rattle.preprocessor.proofs.preprocess.Statement.{statement}
 use Rattle.preprocessor.proofs.preprocess.Tie as tie
@@ -48,13 +48,13 @@ same-length-5 : tie.Need-same-length-5
 same-length-5 c = search needs
 
 returns : tie.Need-returns
-unfolding functionAnswer functionOutput functionText functionRecords workExit functionCheck areLent bufferSize textLimit recordNumbers
+unfolding functionAnswer functionOutput functionText functionRecords workExit functionCheck areLent bufferSize textLimit recordNumbers recordWidth recordLimit
 returns c = let e = c .before .before .before .before .before .before .before .before .before .before .before .before .before .before .before .before .before .before .before .before .all-lent .ensures in
     let p = sym (c .before .before .before .before .before .before .before .before .before .before .before .before .before .before .before .before .before .before .check-texts .ensures) ∙ c .before .before .before .before .before .before .before .before .before .before .before .before .before .before .before .before .enum-told .given .1 in
     rw (← e, p) (c .before .before .before .before .before .before .before .before .before .before .run-function .ensures)
 
 returns-2 : tie.Need-returns-2
-unfolding functionAnswer functionOutput functionText functionRecords workExit functionCheck areLent bufferSize textLimit recordNumbers
+unfolding functionAnswer functionOutput functionText functionRecords workExit functionCheck areLent bufferSize textLimit recordNumbers recordWidth recordLimit
 returns-2 c = let e = c .before .before .before .before .before .all-lent .ensures in
     let p = sym (c .before .before .before .check-texts .ensures) ∙ c .before .check .given .1 in
     rw (← e, p) (refl, (refl, (refl, (refl, (refl, refl)))))

@@ -11,13 +11,13 @@ use lib.Seq.{sets}
 use Rattle.spec.specs.Bytes.{ascii}
 use Rattle.spec.specs.Map.{Marked, marked, bytes}
 use Rattle.spec.specs.Search.{first}
-use Rattle.spec.specs.Raise.{levelWords, levelIn, raise}
+use Rattle.spec.specs.Raise.{actionOf, levelWords, levelIn, raise}
 use Rattle.spec.specs.declared.Found.the-variants.{At}
 use Rattle.spec.proofs.AheadLaws.{rest-of}
 use Rattle.spec.proofs.FirstLaws.{nonempty-word}
 use Rattle.messages.specs.Readings.{fateIn, Reads}
 use Rattle.raise.specs.Texts.{Put}
-use Rattle.raise.proofs.OutcomeLaws.{Turn, turn-none, turn-both, turn-done}
+use Rattle.output.proofs.OutcomeLaws.{Turn, turn-none, turn-both, turn-done}
 use Rattle.raise.proofs.RaiseLaws.{leftAt, raise-start}
 use Rattle.spec.proofs.RaiseWalk.{raiseHere}
 use Rattle.raise.proofs.PassLaws.{last-turn, raise-within, end-within, end-pos, raise-turn, raise-clause}
@@ -29,7 +29,7 @@ Inv-loop text map out₀ n₀ from₀ t13 out n from =
     (from ≤ length text)
     × (n ≤ 2 * from)
     × (length out ≡ length out₀)
-    × Turn out₀ 0 (raise (marked text map)) out n (leftAt (marked text map) from)
+    × Turn out₀ 0 (raise actionOf (marked text map)) out n (leftAt (marked text map) from)
 
 abbrev μ-loop : tie.MeasureT-loop
 μ-loop text map out₀ n₀ from₀ t13 out n from = length text - from

@@ -5,7 +5,7 @@ use mathlib.Core.List.{List, []}
 use Prim.Native.Nat.{ℕ, _≤_, _<_}
 use lib.ListN.{length}
 use Rattle.spec.specs.Map.{marked, markedText}
-use Rattle.spec.specs.Answers.{mapCheck, searchLimit, wordPart, wordAnswer, searchNumbers, searchList, searchAnswer, partOf, refusalPlace}
+use Rattle.spec.specs.Answers.{mapCheck, searchLimit, wordPart, wordAnswer, searchNumbers, searchList, searchAnswer, partOf, refusalNumbers}
 use Rattle.spec.specs.declared.Check.the-variants.{Passed}
 use Rattle.scanner.proofs.WordLaws.{word-within}
 use Rattle.searches.proofs.CheckedLaws.{passed-marks, passed-length, refused-place}
