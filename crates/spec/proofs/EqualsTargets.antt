@@ -181,10 +181,10 @@ module _ (t : List Marked) (from : ℕ) (edge : NoRunOver t from) where
   -- r is found exactly if it stands there with a lone `=` behind it
   pub equals-target-exactly : Exactly (equalsTarget (drop from t)) (IsEqualsTarget t from)
   equals-target-exactly =
-      let a = endFrom isN t from in
-      let d = endFrom isIdent t a in
-      let e = endFrom isIdent t (d + 1) in
-      let i = endFrom isN t e in
+      let a = endFrom (ofByte isN) t from in
+      let d = endFrom (ofByte isIdent) t a in
+      let e = endFrom (ofByte isIdent) t (d + 1) in
+      let i = endFrom (ofByte isN) t e in
       at-offsets t from a d e i edge (ahead isN t from) (ahead isIdent t a) (ahead isIdent t (d + 1)) (ahead isN t e)
 
   -- none is found exactly if none stands there

@@ -1,6 +1,6 @@
 -- Runs of bytes that pass a test, forwards and backwards from an offset of a statement: where they end and start, and that
 -- there is one such place only. Assumes nothing.
-use mathlib.Core.Path.{_≡_, refl, sym, ap, _∙_}
+use mathlib.Core.Path.{_≡_, refl, sym, ap, _∙_, subst}
 use mathlib.Core.Bool.{Bool, true, false, not, _&&_, _||_}
 use mathlib.Core.List.{List, [], _∷_, _++_, reverse, reverse-cons}
 use Prim.Native.Nat.{ℕ, zero, suc, _+_, _-_, _≤_, _<_}
@@ -9,15 +9,16 @@ use native.Mathlib.Omega.{arith}
 use borrow.Author.Tests.{ltb-true, ltb-false, leb-true, eqb-true}
 use lib.Dec.{eqb, ltb, leb}
 use lib.ListN.{length, take, drop, getD, length-drop, length-map, List·getD-map, List·getD-eq-default}
-use lib.Seq.{take-suc, getD-drop, drop-drop}
-use Rattle.spec.proofs.BytesLaws.{bytes-drop, front-bytes}
+use lib.Seq.{take-suc, getD-drop, drop-drop, length-take-le}
+use Rattle.spec.proofs.BytesLaws.{bytes-take, bytes-drop, front-bytes, while-length-bytes, end-length-bytes}
 use Rattle.spec.proofs.Choice.{by, neither-less, and-left, and-right, or-left, or-cases}
+use Rattle.spec.proofs.EndLaws.{end-sum}
 use Rattle.spec.proofs.FirstLaws.{fails-not}
 use Rattle.spec.proofs.RefusalBounds.{bytes-length}
 use Rattle.spec.proofs.TargetPlaces.{flagOf, flags, byteAt, part}
 use Rattle.spec.proofs.WalkLaws.{back-step, while-take, while-drop, while-length, while-passes-at, while-fails-at}
 use Rattle.spec.specs.Bytes.{within, isDigit, isLower, isUpper, isIdent, isWord, isW, isN}
-use Rattle.spec.specs.Lists.{takeWhile, dropWhile}
+use Rattle.spec.specs.Lists.{takeWhile, dropWhile, dropEnd}
 use Rattle.spec.specs.Map.{Marked, live, quoted, byte, bytes, marked, frontByte, ofByte}
 
 -- ---- a statement is its bytes beside its map
@@ -70,6 +71,15 @@ back-rest t (suc i) h =
 
 -- ---- runs
 
+module _ {A : Type 0} (f : A → Bool) (xs : List A) (i : ℕ) where
+  -- where the run from i on ends
+  abbrev pub endFrom : ℕ
+  endFrom = i + length (takeWhile f (drop i xs))
+
+  -- where the run before i starts
+  abbrev pub startFrom : ℕ
+  startFrom = length (dropEnd f (take i xs))
+
 module _ (f : ℕ → Bool) (t : List Marked) where
   -- what passes from i on ends at e
   pub record Ahead (i e : ℕ) : Type 0 where
@@ -82,10 +92,7 @@ module _ (f : ℕ → Bool) (t : List Marked) where
     pub rest : dropWhile (ofByte f) (drop i t) ≡ drop e t
 
   -- such an end there is
-  abbrev pub endFrom : ℕ → ℕ
-  endFrom i = i + length (takeWhile (ofByte f) (drop i t))
-
-  pub ahead : (i : ℕ) → Ahead i (endFrom i)
+  pub ahead : (i : ℕ) → Ahead i (endFrom (ofByte f) t i)
   unfolding ofByte
   ahead i =
       let n = length (takeWhile (ofByte f) (drop i t)) in
@@ -109,6 +116,14 @@ module _ (f : ℕ → Bool) (t : List Marked) where
       neither-less e a
       (λ l. fails-not (g e (r .from) l) (r .stops (omega arith)))
       (λ l. fails-not (r .all a h l) (s (omega (arith, r .fits (omega arith)))))
+
+  -- by the bytes xs of t
+  pub ahead-at : (xs : List ℕ) → bytes t ≡ xs → (i e : ℕ) → e ≡ endFrom f xs i → Ahead i e
+  ahead-at xs same i e h =
+      let n : length (takeWhile (ofByte f) (drop i t)) ≡ length (takeWhile f (drop i xs)) =
+      while-length-bytes f (drop i t) ∙ ap (λ (l : List ℕ). length (takeWhile f l)) (bytes-drop i t ∙ ap (drop i) same) in
+      let k : endFrom (ofByte f) t i ≡ e = omega arith in
+      subst (λ (m : ℕ). Ahead i m) k (ahead i)
 
   -- what passes back from i starts at s
   pub record Behind (s i : ℕ) : Type 0 where
@@ -180,6 +195,16 @@ module _ (f : ℕ → Bool) (t : List Marked) where
   behind (suc i) h =
       let r = behind i (omega arith) in
       by (f (byteAt t i)) (λ e. (r .0, longer i h e (r .0) (r .1))) (λ e. (suc i, empty i h e))
+
+  -- by the bytes xs of t
+  pub behind-at : (xs : List ℕ) → bytes t ≡ xs → (i s : ℕ) → i ≤ length xs → s ≡ startFrom f xs i → Behind s i
+  behind-at xs same i s h e =
+      let fits : i ≤ length t = omega (arith, bytes-length t, ap length same) in
+      let r = behind i fits in
+      let n : startFrom (ofByte f) t i ≡ startFrom f xs i =
+      end-length-bytes f (take i t) ∙ ap (λ (l : List ℕ). length (dropEnd f l)) (bytes-take i t ∙ ap (take i) same) in
+      let k : r .0 ≡ s = omega (arith, end-sum (ofByte f) (take i t), length-take-le i t fits, r .1 .upto, r .1 .long) in
+      subst (λ (m : ℕ). Behind m i) k (r .1)
 
   -- and only one
   pub start-same : (i s a : ℕ) → Behind s i → a ≤ i
