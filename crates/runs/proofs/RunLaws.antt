@@ -23,8 +23,8 @@ module _ {A : Type 0} (f : A → Bool) (xs : List A) where
     pub end-past : length xs ≤ i → endFrom f xs i ≡ i
     end-past h = omega (arith, while-length-end f xs i h)
 
-    pub end-within : endFrom f xs i ≤ i + (length xs - i)
-    end-within = omega (arith, while-length f (drop i xs), length-drop i xs)
+    pub end-within : i ≤ length xs → endFrom f xs i ≤ length xs
+    end-within h = omega (arith, while-length f (drop i xs), length-drop i xs)
 
     module _ (d : A) (h : i < length xs) where
       pub end-step : f (getD xs i d) ≡ true → endFrom f xs i ≡ endFrom f xs (i + 1)

@@ -3,7 +3,7 @@ use classes::is_ident_byte;
 use classes::is_n;
 use classes::is_w;
 ghost use mathlib.Core.Path.{_≡_};
-ghost use Prim.Native.Nat.{_+_, _-_, _≤_};
+ghost use Prim.Native.Nat.{_+_, _≤_};
 ghost use lib.ListN.{length, take, drop};
 ghost use Rattle.spec.specs.Lists.{takeWhile, dropEnd, any};
 ghost use Rattle.runs.specs.Sets.{inSet, trimmed};
@@ -41,7 +41,7 @@ fn is_in(set: Set, b: u8) -> bool
 // Where the bytes of the set from `from` on end.
 pub fn run_end(text: &[u8], set: Set, from: usize) -> usize
     ensures { λ r. ⌜ r ≡ from + length (takeWhile (inSet set) (drop from (now (text .entry)))) ⌝ }
-    ensures { λ r. ⌜ r ≤ from + (length (now (text .entry)) - from) ⌝ }
+    ensures { λ r. ⌜ (from ≤ length (now (text .entry)) → r ≤ length (now (text .entry))) ⌝ }
 {
     let mut i = from;
     while i < text.len() {

@@ -41,14 +41,14 @@ returns c =
     let a = c .before .before .before .before .before .before .args in
     let l = c .before .before .before .before .loop in
     let e = l .inv ∙ end-here (inSet (a .set)) (a .text .now) (l .i) 0 (omega arith) (sym (c .before .is-in .ensures) ∙ c .if1 .left) in
-    (sym e, omega (arith, end-within (inSet (a .set)) (a .text .now) (a .from)))
+    (sym e, λ h. omega (arith, end-within (inSet (a .set)) (a .text .now) (a .from) h))
 
 returns-2 : tie.Need-returns-2 Inv-loop μ-loop
 returns-2 c =
     let a = c .before .before .before .args in
     let l = c .before .loop in
     let e = l .inv ∙ end-past (inSet (a .set)) (a .text .now) (l .i) (omega arith) in
-    (sym e, omega (arith, end-within (inSet (a .set)) (a .text .now) (a .from)))
+    (sym e, λ h. omega (arith, end-within (inSet (a .set)) (a .text .now) (a .from) h))
 
 pub run-end-spec : {M : Type 1} → statement M
 run-end-spec =

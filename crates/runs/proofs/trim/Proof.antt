@@ -15,13 +15,13 @@ run-end-requires : tie.Need-run-end-requires
 run-end-requires c κs = search needs
 
 sub-rest : tie.Need-sub-rest
-sub-rest c = search needs
+sub-rest c = omega (arith, c .run-end .ensures .1 (omega arith))
 
 part-rest-start : tie.Need-part-rest-start
-part-rest-start c = search needs
+part-rest-start c = omega (arith, c .run-end .ensures .1 (omega arith))
 
 part-rest-end : tie.Need-part-rest-end
-part-rest-end c = search needs
+part-rest-end c = omega (arith, c .run-end .ensures .1 (omega arith))
 
 run-start-requires : tie.Need-run-start-requires
 run-start-requires c κs = search needs

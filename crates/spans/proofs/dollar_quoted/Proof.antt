@@ -1,9 +1,9 @@
 use native.Mathlib.Omega.{arith}
 use mathlib.Core.Path.{_≡_, sym, _∙_}
 use Prim.Native.Nat.{_-_}
-use lib.ListN.{drop}
+use lib.ListN.{drop, length-drop}
 use Rattle.spec.specs.Spans.{tagLen}
-use Rattle.spec.proofs.SpanLaws.{opens-in}
+use Rattle.spec.proofs.SpanLaws.{tag-le, opens-in}
 use Rattle.spans.proofs.RunLaws.{tag-run}
 use borrow.Author.Needs.{needs}
 use Rattle.spans.proofs.dollar_quoted.Statement.{statement}
@@ -20,7 +20,9 @@ sub-t : tie.Need-sub-t
 sub-t c = search needs
 
 opens-here-requires : tie.Need-opens-here-requires
-opens-here-requires c κs = (tag c, omega arith)
+opens-here-requires c κs =
+    let xs = drop 1 (c .before .before .args .rest .now) in
+    (tag c, omega (arith, tag c, tag-le xs, length-drop 1 (c .before .before .args .rest .now)))
 
 add-dollar-of : tie.Need-add-dollar-of
 add-dollar-of c = omega (arith, tag (c .before .before), opens-in (c .before .before .before .before .args .rest .now) (sym (c .before .opens-here .ensures) ∙ c .if1 .taken))
