@@ -26,6 +26,9 @@ module _ {A : Type 0} (f : A → Bool) (xs : List A) where
     pub end-within : i ≤ length xs → endFrom f xs i ≤ length xs
     end-within h = omega (arith, while-length f (drop i xs), length-drop i xs)
 
+    pub end-le : endFrom f xs i ≤ i + length xs
+    end-le = omega (arith, while-length f (drop i xs), length-drop i xs)
+
     module _ (d : A) (h : i < length xs) where
       pub end-step : f (getD xs i d) ≡ true → endFrom f xs i ≡ endFrom f xs (i + 1)
       end-step e = omega (arith, while-length-hit f xs i d h e)

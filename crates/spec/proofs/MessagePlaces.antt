@@ -35,7 +35,7 @@ pub data IsMessage (xs : List ℕ) : ℕ → ℕ → Type 0 where
 
 -- ---- up to the first comma
 
-abbrev noComma : ℕ → Bool
+abbrev pub noComma : ℕ → Bool
 noComma c = not (eqb c 44)
 
 comma-some : (xs : List ℕ) → IsCommaEnd xs (length (takeWhile noComma xs))
