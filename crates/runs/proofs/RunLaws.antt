@@ -1,12 +1,15 @@
 -- Runs of elements that pass a test, one element at a time, their bounds, and a text without W at both ends. Assumes nothing.
 use mathlib.Core.Path.{_≡_, refl, sym, ap, _∙_}
 use mathlib.Core.Bool.{Bool, true, false}
-use mathlib.Core.List.{List}
+use mathlib.Core.List.{List, [], _∷_}
 use Prim.Native.Nat.{ℕ, _+_, _-_, _≤_, _<_}
 use native.Mathlib.Omega.{arith}
+use borrow.Author.Tests.{eqb-true, eqb-false, eq-eqb, ne-eqb}
+use lib.Dec.{eqb}
 use lib.ListN.{length, take, drop, getD, length-drop, drop-of-length-le}
 use lib.Seq.{length-take-le, take-length}
 use Rattle.spec.proofs.BytesLaws.{bytes-skip, bytes-end}
+use Rattle.spec.proofs.Choice.{by}
 use Rattle.spec.proofs.EndLaws.{drop-end-take, drop-end-hit, drop-end-miss, drop-end-zero}
 use Rattle.spec.proofs.ListLaws.{drop-end-le, drop-while-le}
 use Rattle.spec.proofs.RunPlaces.{endFrom, startFrom}
@@ -68,6 +71,15 @@ module _ {A : Type 0} (f : A → Bool) (xs : List A) where
       pub any-step : f (getD xs i d) ≡ false → any f (drop i xs) ≡ any f (drop (i + 1) xs)
       unfolding any
       any-step e = rw (drop-step xs i d h, e) refl
+
+-- this byte somewhere
+pub any-byte : (c : ℕ) (xs : List ℕ) → any (λ b. eqb b c) xs ≡ any (eqb c) xs
+unfolding any
+any-byte c [] = refl
+any-byte c (b ∷ xs) =
+    by (eqb b c)
+    (λ e. rw (e, eq-eqb c b (sym (eqb-true b c e))) refl)
+    (λ e. rw (e, ne-eqb c b (λ q. eqb-false b c e (sym q))) (any-byte c xs))
 
 -- ---- without W at both ends
 
