@@ -14,8 +14,8 @@ use Rattle.spec.proofs.BytesLaws.{bytes-take, while-length-bytes}
 use Rattle.spec.proofs.Choice.{by, and-left, and-right, and-both}
 use Rattle.spec.proofs.LiteralLaws.{IsLiteral, literal-exactly}
 use Rattle.spec.proofs.SpanLaws.{seen}
-use Rattle.spec.proofs.TrimLaws.{while-exactly, IsTrimmed, trimmed-some, trimmed-part, part-of-front}
-use Rattle.spec.proofs.WalkLaws.{while-take, while-length, while-passes, while-fails}
+use Rattle.spec.proofs.TrimLaws.{IsTrimmed, trimmed-some, trimmed-part, part-of-front}
+use Rattle.spec.proofs.WalkLaws.{while-take, while-length, while-passes, while-fails, while-exactly}
 use Rattle.spec.specs.Bytes.{isW, within}
 use Rattle.spec.specs.Lists.{takeWhile}
 use Rattle.spec.specs.Map.{Marked, bytes, frontByte, ofByte}

@@ -13,7 +13,7 @@ use lib.ListN.{length, take, drop, getD, length-drop, length-map}
 use lib.Seq.{getD-drop, drop-drop}
 use Rattle.spec.proofs.Choice.{by, cond-case, and-left, and-right, and-both}
 use Rattle.spec.proofs.MapLaws.{map-length, marked-length, text-length}
-use Rattle.spec.proofs.WalkLaws.{climb, any-default, map-take, mark-skipped, mark-word, marked-at, live-inside, word-at, needle-at, byte-at, byte-before, bytes-drop, prefixBy, prefix-by-len, starts-case, passesAt, while-take, while-drop, while-length, while-passes, while-fails, while-least, while-passes-at, while-fails-at, while-least-at, while-hit, cutsFrom, cutsAt, starts-cuts, cuts-end, cuts-hit, cuts-miss}
+use Rattle.spec.proofs.WalkLaws.{climb, any-default, map-take, mark-skipped, mark-word, marked-at, live-inside, word-at, needle-at, byte-at, byte-before, bytes-drop, prefixBy, prefix-by-len, starts-case, passesAt, while-take, while-drop, while-length, while-passes, while-fails, while-passes-at, while-fails-at, while-exactly, while-exactly-at, while-hit, cutsFrom, cutsAt, starts-cuts, cuts-end, cuts-hit, cuts-miss}
 use Rattle.spec.proofs.FirstLaws.{apart, LeastOf, NoneOf, Says, found-least, least-found, found-none, none-found, sought-least, least-sought, sought-none, none-sought}
 use Rattle.spec.specs.Bytes.{ascii, within, isDigit, isLower, isUpper, isIdent, isWord, isW, isN, isHigh, upper}
 use Rattle.spec.specs.Lists.{isEmpty, takeWhile, dropWhile, any, keep}
@@ -453,7 +453,7 @@ module _ (xs : List ℕ) (i : ℕ) where
       ap (λ (x : Marked). isSkipped x) (text-at xs j h (live 0))
       ∙ (mark-skipped (getD (mapOf xs) j 1) (getD xs j 0)
       ∙ rw (eq-eqb (getD (mapOf xs) j 1) 0 (r .is-live)) (word-not-space (getD xs j 0) (r .is-word))) in
-      let same : wordStart ≡ j = while-least-at isSkipped t (live 0) i j a m (λ k b c. skipped-complete xs k (omega arith) (live 0) (s k b c)) stop in
+      let same : wordStart ≡ j = while-exactly-at isSkipped t (live 0) i j a (omega arith) (λ k b c. skipped-complete xs k (omega arith) (live 0) (s k b c)) (λ _. stop) in
       let w = ap length (while-hit isWordMark t j (live 0) m (word-byte-complete xs j h (live 0) r)) in
       let n : 0 < length (wordText xs i) = omega (arith, word-length ∙ (ap (λ (k : ℕ). length (takeWhile isWordMark (drop k t))) same ∙ w)) in
       word-place n ∙ ap At same
@@ -780,7 +780,7 @@ module _ (xs : List ℕ) where
   pub found-high : (i : ℕ) → IsFirstHigh xs i → firstHigh xs ≡ At i
   unfolding firstHigh lowLen
   found-high i r =
-      let n : lowLen ≡ i = while-least (λ (b : ℕ). not (isHigh b)) xs 0 i (r .inside) (λ k h. ap not (r .none k h)) (ap not (r .high)) in
+      let n : lowLen ≡ i = while-exactly (λ (b : ℕ). not (isHigh b)) xs 0 i (omega (arith, r .inside)) (λ k h. ap not (r .none k h)) (λ _. ap not (r .high)) in
       rw (n, lt-ltb i (length xs) (r .inside)) refl
 
   pub none-high : NoHigh xs → firstHigh xs ≡ Nothing
