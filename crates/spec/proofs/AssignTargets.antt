@@ -16,7 +16,7 @@ use Rattle.spec.proofs.FirstTarget.{Exactly, choice-exactly, walk-exact
 use Rattle.spec.proofs.ListLaws.{empty-length}
 use Rattle.spec.proofs.RefusalBounds.{bytes-length}
 use Rattle.spec.proofs.RunPlaces.{flags-length, marked-flags, byte-inside, byte-behind, back-rest, Behind, behind, start-same}
-use Rattle.spec.proofs.RunPlaces.{ident-no-white, white-no-ident, dot-no-ident, colon-no-ident}
+use Rattle.spec.proofs.ByteSets.{sign-not-ident, ident-not-w, w-not-ident}
 use Rattle.spec.proofs.SearchLaws.{prefix-at, at-prefix}
 use Rattle.spec.proofs.TargetPlaces.{flags, byteAt, part, IsRun, IsAssignAt, IsNameBefore, IsAssignTarget, FirstFrom, NoPlace}
 use Rattle.spec.proofs.WalkLaws.{drop-step, back-step, live-inside, needle-at, prefixBy}
@@ -104,7 +104,7 @@ module _ (t : List Marked) (i m s a : ℕ) (h : i ≤ length t) (w : Behind isW 
           behind = λ _.
               by (eqb m i)
               (λ z. ap (λ (j : ℕ). isIdent (byteAt t j)) (eqb-true m i z) ∙ edge)
-              (λ z. white-no-ident (byteAt t m) (w .all m (omega arith) (omega (arith, w .upto, eqb-false m i z))));
+              (λ z. w-not-ident (byteAt t m) (w .all m (omega arith) (omega (arith, w .upto, eqb-false m i z))));
         }
 
     qualifier-run : a < s - 1 → byteAt t (s - 1) ≡ 46 → IsRun isIdent t a (s - 1)
@@ -114,7 +114,7 @@ module _ (t : List Marked) (i m s a : ℕ) (h : i ≤ length t) (w : Behind isW 
           fits = omega (arith, w .upto, n .upto);
           all = q .all;
           before = q .stops;
-          behind = λ _. ap isIdent d ∙ dot-no-ident;
+          behind = λ _. ap isIdent d ∙ sign-not-ident 46 refl;
         }
 
     built : (r : Target) → s < m → a < s - 1 → byteAt t (s - 1) ≡ 46 → s - 1 + 1 ≡ s → r ≡ found → IsNameBefore t i r
@@ -145,7 +145,7 @@ module _ (t : List Marked) (i m s a : ℕ) (h : i ≤ length t) (w : Behind isW 
         let c = p .named .qualifier in
         let white : m ≡ p .stop =
         start-same isW t i m (p .stop) w (p .between .order) (p .between .all)
-        (λ z. ident-no-white (byteAt t (p .stop - 1)) (d .all (p .stop - 1) (omega (arith, d .nonempty)) (omega arith))) in
+        (λ z. ident-not-w (byteAt t (p .stop - 1)) (d .all (p .stop - 1) (omega (arith, d .nonempty)) (omega arith))) in
         let front : s ≡ p .dot + 1 =
         start-same isIdent t m s (p .dot + 1) n (omega (arith, d .nonempty)) (λ k x y. d .all k x (omega arith)) (d .before) in
         let back : a ≡ p .start =
@@ -183,7 +183,7 @@ assigned-exactly t i h r =
     cond-case (λ (o : Option Target). (o ≡ some r) ↔ IsAssignTarget t i r) (assignHere (reverse (take i t)) (drop i t)) _ _
     (λ e.
     let c = assign-says t i .0 e in
-    let b = before-exactly t i (omega arith) (ap isIdent (c .colon) ∙ colon-no-ident) r in
+    let b = before-exactly t i (omega arith) (ap isIdent (c .colon) ∙ sign-not-ident 58 refl) r in
     ((λ s. record { operator = c; before = b .0 s }), (λ p. b .1 (p .before))))
     (λ e. ((λ s. absurd (apart (cc))), (λ p. absurd (false≢true (sym e ∙ assign-says t i .1 (p .operator))))))
 

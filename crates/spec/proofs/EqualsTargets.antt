@@ -15,7 +15,7 @@ use Rattle.spec.proofs.Choice.{by, and-left, and-right, or-left, or-rig
 use Rattle.spec.proofs.FirstTarget.{Exactly, choice-exactly, none-exactly}
 use Rattle.spec.proofs.ListLaws.{empty-length}
 use Rattle.spec.proofs.RunPlaces.{byte-ahead, byte-inside, Ahead, endFrom, ahead, end-same}
-use Rattle.spec.proofs.RunPlaces.{ident-least, large-no-n, n-no-ident, dot-no-ident}
+use Rattle.spec.proofs.ByteSets.{sign-not-ident, sign-not-w, ident-not-w, w-not-ident, n-w, not-n}
 use Rattle.spec.proofs.TargetPlaces.{byteAt, part, IsLoneEqualsAt, IsEqualsTarget}
 use Rattle.spec.specs.Bytes.{isIdent, isN}
 use Rattle.spec.specs.Lists.{takeWhile}
@@ -101,7 +101,7 @@ module _ (t : List Marked) (from a d e i : ℕ) (w : Ahead isN t from a) (q : Ah
         by (isIdent (byteAt t (a - 1)))
         (λ k. absurd (false≢true (sym (edge (omega arith) (rw s at k)) ∙ rw s at h)))
         (λ k. k))
-        (λ p. n-no-ident (byteAt t (a - 1)) (w .all (a - 1) (omega (arith, w .from, eqb-false a from p)) (omega arith)))
+        (λ p. w-not-ident (byteAt t (a - 1)) (n-w (byteAt t (a - 1)) (w .all (a - 1) (omega (arith, w .from, eqb-false a from p)) (omega arith))))
 
     sound : (r : Target) → (test ≡ true) × (r ≡ found) → IsEqualsTarget t from r
     sound r (h, g) =
@@ -131,7 +131,7 @@ module _ (t : List Marked) (from a d e i : ℕ) (w : Ahead isN t from a) (q : Ah
                       fits = omega arith;
                       all = q .all;
                       before = left-edge (q .all a (omega arith) longer);
-                      behind = λ _. ap isIdent is-dot ∙ dot-no-ident;
+                      behind = λ _. ap isIdent is-dot ∙ sign-not-ident 46 refl;
                     };
                 dot = is-dot;
                 name =
@@ -141,7 +141,7 @@ module _ (t : List Marked) (from a d e i : ℕ) (w : Ahead isN t from a) (q : Ah
                       all = n .all;
                       before = λ _.
                           let k : d + 1 - 1 ≡ d = omega arith in
-                          ap (λ (j : ℕ). isIdent (byteAt t j)) k ∙ (ap isIdent is-dot ∙ dot-no-ident);
+                          ap (λ (j : ℕ). isIdent (byteAt t j)) k ∙ (ap isIdent is-dot ∙ sign-not-ident 46 refl);
                       behind = n .stops;
                     };
                 target = g;
@@ -154,10 +154,10 @@ module _ (t : List Marked) (from a d e i : ℕ) (w : Ahead isN t from a) (q : Ah
     complete r p =
         let c = p .named .qualifier in
         let b = p .named .name in
-        let first = ident-least (byteAt t (p .start)) (c .all (p .start) (omega arith) (c .nonempty)) in
+        let first = not-n (byteAt t (p .start)) (ident-not-w (byteAt t (p .start)) (c .all (p .start) (omega arith) (c .nonempty))) in
         let front : a ≡ p .start =
         end-same isN t from a (p .start) w (p .ahead .order) (omega (arith, c .nonempty, c .fits)) (p .ahead .all)
-        (λ _. large-no-n (byteAt t (p .start)) (omega arith)) in
+        (λ _. first) in
         let dot : d ≡ p .dot =
         end-same isIdent t a d (p .dot) q (omega (arith, c .nonempty)) (c .fits) (λ k x y. c .all k (omega arith) y) (c .behind) in
         let stop : e ≡ p .stop =
@@ -166,7 +166,7 @@ module _ (t : List Marked) (from a d e i : ℕ) (w : Ahead isN t from a) (q : Ah
         let inside = byte-inside t (p .place) (omega (arith, p .operator .equals)) in
         let place : i ≡ p .place =
         end-same isN t e i (p .place) v (omega (arith, p .between .order)) (omega arith) (λ k x y. p .between .all k (omega arith) y)
-        (λ _. large-no-n (byteAt t (p .place)) (omega (arith, p .operator .equals))) in
+        (λ _. ap isN (p .operator .equals) ∙ not-n 61 (sign-not-w 61 refl)) in
         let some-qualifier = ne-eqb (d - a) 0 (λ z. omega (arith, c .nonempty)) in
         let is-dot = eq-eqb (byteAt t d) 46 (ap (λ (j : ℕ). byteAt t j) dot ∙ p .named .dot) in
         let some-name = ne-eqb (e - (d + 1)) 0 (λ z. omega (arith, b .nonempty)) in

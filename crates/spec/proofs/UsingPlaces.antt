@@ -6,17 +6,18 @@ use mathlib.Core.Logic.{_↔_}
 use mathlib.Core.List.{List}
 use Prim.Native.Nat.{ℕ, _+_, _-_, _≤_, _<_}
 use native.Mathlib.Omega.{arith}
-use borrow.Author.Tests.{eqb-true, eq-eqb, lt-leb}
+use borrow.Author.Tests.{eqb-true, eq-eqb}
 use lib.Dec.{eqb}
 use lib.ListN.{length, take, drop, getD, length-drop}
 use lib.Seq.{drop-drop, getD-drop, length-take-le}
 use Rattle.spec.proofs.Apart.{apart}
+use Rattle.spec.proofs.ByteSets.{sign-not-w, letter-not-w, upper-cases}
 use Rattle.spec.proofs.BytesLaws.{bytes-drop}
 use Rattle.spec.proofs.Choice.{by, and-left, and-right, and-both}
 use Rattle.spec.proofs.ListLaws.{empty-length, while-sum}
 use Rattle.spec.proofs.MessagePlaces.{IsMessage, message-some, message-part, message-within, message-quote}
 use Rattle.spec.proofs.RefusalBounds.{bytes-length}
-use Rattle.spec.proofs.RunPlaces.{byte-ahead, Ahead, endFrom, ahead-at, white-most}
+use Rattle.spec.proofs.RunPlaces.{byte-ahead, Ahead, endFrom, ahead-at}
 use Rattle.spec.proofs.SearchLaws.{Same, prefix-at, at-prefix}
 use Rattle.spec.proofs.SpanLaws.{seen}
 use Rattle.spec.proofs.TrimLaws.{AllW}
@@ -72,16 +73,6 @@ run t i = ahead-at isW t (bytes t) refl i (endFrom isW (bytes t) i) refl
 run-at : (xs : List ℕ) (i j : ℕ) → i ≤ j → AllW xs i j → j < length xs → isW (getD xs j 0) ≡ false → endFrom isW xs i ≡ j
 run-at xs i j h w b e = while-exactly-at isW xs 0 i j h (omega arith) w (λ _. e)
 
-letter-no-w : (c l : ℕ) → upper c ≡ l → 65 ≤ l → isW c ≡ false
-unfolding upper isLower within
-letter-no-w c l p h =
-    by (isW c)
-    (λ e.
-    let low = white-most c e in
-    let same : c ≡ l = rw (lt-leb 97 c (omega arith)) at p in
-    absurd (omega arith))
-    (λ e. e)
-
 -- all of the rest is W exactly if nothing is left of it
 module _ (t : List Marked) (i : ℕ) where
   rest-w : isEmpty (dropWhile (ofByte isW) (drop i t)) ≡ true → AllW (bytes t) i (length (bytes t))
@@ -113,17 +104,15 @@ module _ (xs : List ℕ) (a b c d : ℕ) (w : IsMessageClause xs a b c d) where
       let m : upper (getD xs (a + 0) 0) ≡ 77 = w .at-message .same 0 (omega arith) in
       let z : a + 0 ≡ a = omega arith in
       run-at xs 5 a (w .from-using) (w .behind-using) (omega arith)
-      (ap (λ (n : ℕ). isW (getD xs n 0)) (sym z) ∙ letter-no-w (getD xs (a + 0) 0) 77 m (omega arith))
+      (ap (λ (n : ℕ). isW (getD xs n 0)) (sym z) ∙ upper-cases (λ (n : ℕ). isW n ≡ false) (getD xs (a + 0) 0) 77 m (letter-not-w 77 refl) (letter-not-w 109 refl))
 
   place-equals : endFrom isW xs (a + 7) ≡ b
-  unfolding isW within
   place-equals =
-      run-at xs (a + 7) b (w .from-message) (w .behind-message) (seen xs b 60 (w .at-equals)) (rw (w .at-equals))
+      run-at xs (a + 7) b (w .from-message) (w .behind-message) (seen xs b 60 (w .at-equals)) (ap isW (w .at-equals) ∙ sign-not-w 61 refl)
 
   place-quote : endFrom isW xs (b + 1) ≡ c
-  unfolding isW within
   place-quote =
-      run-at xs (b + 1) c (w .from-equals) (w .behind-equals) (seen xs c 38 (w .at-quote)) (rw (w .at-quote))
+      run-at xs (b + 1) c (w .from-equals) (w .behind-equals) (seen xs c 38 (w .at-quote)) (ap isW (w .at-quote) ∙ sign-not-w 39 refl)
 
 -- the message of the text from c on
 module _ (t : List Marked) (c : ℕ) where
