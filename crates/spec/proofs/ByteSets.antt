@@ -3,12 +3,12 @@
 use mathlib.Core.Path.{_≡_, refl, sym, ap, _∙_, subst}
 use mathlib.Core.Bool.{Bool, true, false, not, _&&_, _||_, false≢true}
 use mathlib.Core.List.{List, [], _∷_}
-use Prim.Native.Nat.{ℕ, _+_, _-_, _≤_}
+use Prim.Native.Nat.{ℕ, _+_, _-_, _≤_, _<_}
 use native.Mathlib.Omega.{arith}
-use borrow.Author.Tests.{leb-true, le-leb, eqb-true, not-true, not-false}
+use borrow.Author.Tests.{leb-true, le-leb, lt-ltb, le-ltb, eqb-true, not-true, not-false}
 use lib.Dec.{eqb, leb}
 use Rattle.spec.proofs.Choice.{by, and-left, and-right, and-both, or-left, or-cases}
-use Rattle.spec.specs.Bytes.{within, isDigit, isLower, isUpper, isIdent, isWord, isW, isN, upper}
+use Rattle.spec.specs.Bytes.{within, isDigit, isLower, isUpper, isIdent, isWord, isW, isN, isHigh, upper}
 
 -- ---- the bytes that the definitions name
 
@@ -117,6 +117,15 @@ pub word-not-n : (c : ℕ) → isWord c ≡ true → isN c ≡ false
 unfolding isWord
 word-not-n c h =
     not-n c (or-cases (isIdent c) (eqb c 36) h (λ e. ident-not-w c e) (λ e. ap isW (eqb-true c 36 e) ∙ sign-not-w 36 refl))
+
+-- bytes over 127
+pub high : (c : ℕ) → 127 < c → isHigh c ≡ true
+unfolding isHigh
+high c h = lt-ltb 127 c h
+
+pub low : (c : ℕ) → c ≤ 127 → isHigh c ≡ false
+unfolding isHigh
+low c h = le-ltb 127 c h
 
 -- ---- letter case
 
