@@ -1,3 +1,2 @@
-pub mod TrimLaws
 pub mod SetLaws
 pub mod RestLaws

@@ -1,28 +1,30 @@
 -- A statement with its first live `:=` at an offset: the parts of its rewriting. Assumes nothing.
 use mathlib.Core.Path.{_≡_, refl, sym, ap, _∙_}
 use mathlib.Core.Bool.{true, false, cond, not, _&&_}
-use mathlib.Core.List.{List, [], _∷_, _++_, reverse-reverse}
+use mathlib.Core.List.{List, _++_, reverse-reverse}
 use Prim.Native.Nat.{ℕ, _+_, _-_, _≤_}
 use native.Mathlib.Omega.{arith}
 use borrow.Author.Tests.{eq-eqb, ne-eqb}
 use lib.Dec.{eqb}
-use lib.ListN.{length, take, drop, length-append, length-drop}
+use lib.ListN.{length, take, drop, getD, length-append, length-drop}
 use lib.Seq.{sets}
 use Rattle.spec.proofs.ListLaws.{empty-length}
-use Rattle.spec.proofs.BytesLaws.{bytes-take, bytes-drop, bytes-append, bytes-lives}
+use Rattle.spec.proofs.BytesLaws.{bytes-take, bytes-drop, bytes-append, bytes-lives, bytes-end, front-bytes}
 use Rattle.spec.proofs.RefusalBounds.{bytes-length}
-use Rattle.spec.specs.Bytes.{ascii, isIdent, isW}
-use Rattle.spec.specs.Lists.{isEmpty}
-use Rattle.spec.specs.Map.{Marked, bytes, lives, live, frontLive}
+use Rattle.spec.specs.Bytes.{ascii, isDigit, isIdent, isW}
+use Rattle.spec.specs.Lists.{isEmpty, dropEnd}
+use Rattle.spec.specs.Map.{Marked, bytes, lives, frontLive, ofByte}
 use Rattle.spec.specs.Search.{first, starts, needleHere}
-use Rattle.spec.specs.Assignments.{assignHere, rightSide, startsName, assignmentAt}
+use Rattle.spec.specs.Assignments.{assignHere, trim, rightSide, startsName, assignmentAt}
 use Rattle.spec.specs.declared.Found.the-variants.{At}
 use Rattle.spec.proofs.Choice.{and-right}
 use Rattle.spec.proofs.FirstLaws.{first-least}
 use Rattle.spec.proofs.WalkLaws.{starts-exact}
 use Rattle.output.proofs.StoreLaws.{sets-append}
 use Rattle.spec.proofs.WalkLaws.{prefix-by-len}
-use Rattle.targets.proofs.RunLaws.{longBefore, back-part, back-rest}
+use Rattle.spec.proofs.RunPlaces.{startFrom, Behind, behind-at}
+use Rattle.runs.specs.Sets.{trimmed}
+use Rattle.runs.proofs.RunLaws.{start-whole, trim-bytes}
 use Rattle.assignments.specs.Written.{setText, Writes}
 
 -- a `:=` that is found stands within the text
@@ -61,9 +63,34 @@ set-written front name right d₀ d₁ d₂ d₃ d₄ d₅ n a b c d e ha h₁ h
           (n + length front + 4 + length name)))));
     }
 
--- ---- a marked text t that has the bytes xs; the name before W before i ends at m and starts at s
+-- ---- a marked text t that has the bytes xs
 
-module _ (xs : List ℕ) (t : List Marked) (e : bytes t ≡ xs) (i m s : ℕ) (w : i ≤ length xs) (hm : i ≡ m + longBefore isW xs i) (hs : m ≡ s + longBefore isIdent xs m) where
+module _ (xs : List ℕ) (t : List Marked) (e : bytes t ≡ xs) where
+  -- the right side, by where `;` at the end of the trimmed text starts
+  pub right-at : (inner : List ℕ) → inner ≡ trimmed xs → (k : ℕ) → k ≡ startFrom (λ (b : ℕ). eqb b 59) inner (length inner)
+      → bytes (rightSide t) ≡ trimmed (take k inner)
+  unfolding rightSide
+  right-at inner h k q =
+      let b : bytes (trim t) ≡ inner = trim-bytes t ∙ (ap trimmed e ∙ sym h) in
+      trim-bytes (dropEnd (ofByte (λ (c : ℕ). eqb c 59)) (trim t))
+      ∙ ap trimmed
+      (bytes-end (λ (c : ℕ). eqb c 59) (trim t)
+      ∙ (ap (dropEnd (λ (c : ℕ). eqb c 59)) b ∙ sym (start-whole (λ (c : ℕ). eqb c 59) inner k q .1)))
+
+  -- the first byte of a name
+  pub name-at : startsName t ≡ (isIdent (getD xs 0 0) && not (isDigit (getD xs 0 0)))
+  unfolding startsName
+  name-at = rw (front-bytes t, e) refl
+
+-- ---- the name before W before i ends at m and starts at s
+
+module _ (xs : List ℕ) (t : List Marked) (e : bytes t ≡ xs) (i m s : ℕ) (w : i ≤ length xs) (hm : m ≡ startFrom isW xs i) (hs : s ≡ startFrom isIdent xs m) where
+  white : Behind isW t m i
+  white = behind-at isW t xs e i m w hm
+
+  run : Behind isIdent t s m
+  run = behind-at isIdent t xs e m s (omega (arith, white .upto)) hs
+
   abbrev name : List Marked
   name = take (m - s) (drop s t)
 
@@ -75,9 +102,9 @@ module _ (xs : List ℕ) (t : List Marked) (e : bytes t ≡ xs) (i m s : ℕ) (w
   unfolding assignmentAt
   parts =
       rw (
-        back-rest isW xs t e i m w hm,
-        back-part isIdent xs t e m s (omega arith) hs,
-        back-rest isIdent xs t e m s (omega arith) hs,
+        white .rest,
+        run .front,
+        run .rest,
         reverse-reverse (take s t),
       )
       refl

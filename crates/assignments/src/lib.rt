@@ -5,44 +5,34 @@ use classes::is_ident_byte;
 use output::Pass;
 use output::put;
 use output::put_all;
+use runs::Set;
+use runs::run_start;
+use runs::trim;
 use scanner::find_byte_in;
 use scanner::find_str_in;
 use spec::Found;
 use spec::Refusal;
-use targets::Set;
 use targets::TargetFound;
 use targets::qualified_assignment_target;
-use targets::run_end;
-use targets::run_start;
 ghost use mathlib.Core.Path.{_≡_};
 ghost use mathlib.Core.List.{List, _∷_, _++_};
 ghost use Prim.Native.Nat.{_+_, _^_, _≤_, _<_};
 ghost use lib.ListN.{length, take, drop};
 ghost use Rattle.spec.specs.Map.{Marked, marked, bytes};
-ghost use Rattle.spec.specs.Assignments.{trim, rightSide, startsName, assignmentAt, assignment, statement, assignments};
+ghost use Rattle.spec.specs.Assignments.{rightSide, startsName, assignmentAt, assignment, statement, assignments};
 ghost use Rattle.spec.specs.declared.Found.the-variants.{At};
 ghost use Rattle.output.specs.Passes.{passAnswer, Leaves, answerFrom, LeavesFrom};
 ghost use Rattle.output.specs.declared.Pass.the-variants.{Refused};
 ghost use Rattle.spec.specs.declared.Refusal.the-variants.{QualifiedTarget};
 ghost use Rattle.assignments.specs.Written.{setText, Writes};
 
-// Without W at both ends.
-fn trimmed<'a>(text: &'a [u8]) -> &'a [u8]
-    ensures { λ r. ⌜ ((t : List Marked) → bytes t ≡ now (text .entry) → bytes (trim t) ≡ now r) ⌝ }
-{
-    let start = run_end(text, Set::W, 0);
-    let rest = &text[start..];
-    let end = run_start(rest, Set::W, rest.len());
-    &rest[..end]
-}
-
 // A right side: without W, then without `;` at its end, then without W.
 fn right_side<'a>(text: &'a [u8]) -> &'a [u8]
     ensures { λ r. ⌜ ((t : List Marked) → bytes t ≡ now (text .entry) → bytes (rightSide t) ≡ now r) ⌝ }
 {
-    let inner = trimmed(text);
-    let end = run_start(inner, Set::Semicolon, inner.len());
-    trimmed(&inner[..end])
+    let inner = trim(text);
+    let end = run_start(inner, Set::Only(b';'), inner.len());
+    trim(&inner[..end])
 }
 
 // Whether a name starts with a letter or `_`.

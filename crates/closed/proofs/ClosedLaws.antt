@@ -1,4 +1,4 @@
--- The parts of a closed body at an offset: its last byte, a byte anywhere, its spans, and each RAISE. Assumes nothing.
+-- The parts of a closed body at an offset: its last byte, its spans, and each RAISE. Assumes nothing.
 use mathlib.Core.Path.{_≡_, refl, sym, ap, _∙_}
 use mathlib.Core.Bool.{Bool, true, false, cond, not, _&&_, and-false}
 use mathlib.Core.List.{List, [], _∷_}
@@ -7,20 +7,21 @@ use native.Mathlib.Omega.{arith}
 use borrow.Author.Tests.{eq-eqb, ne-eqb}
 use lib.Dec.{eqb}
 use lib.ListN.{length, take, drop, getD, length-drop, drop-of-length-le}
-use lib.Seq.{drop-drop, drop-nil, getD-drop}
+use lib.Seq.{drop-drop, drop-nil}
 use Rattle.spec.specs.Bytes.{ascii, isPair, isIdent, upper}
 use Rattle.spec.specs.Lists.{takeWhile, dropWhile, any, all}
 use Rattle.spec.specs.Spans.{kindAt, opensDollar, spanOf, spanAt, spanLen, Lexeme, lexemeAt, lexemesFrom, lexemes}
-use Rattle.spec.specs.Map.{Marked, live, byte, mark, marked, bytes, lives, frontByte, ofByte, isLiveByte}
+use Rattle.spec.specs.Map.{Marked, live, byte, mark, marked, lives, frontByte, ofByte, isLiveByte}
 use Rattle.spec.specs.Search.{wordHere}
 use Rattle.spec.specs.Closed.{endsLive, isPlainSpan, endsWord, isFollowed, raisesFollowed}
 use Rattle.spec.specs.declared.Span.{Span}
 use Rattle.spec.proofs.AheadLaws.{rest-of}
 use Rattle.spec.proofs.Choice.{by, and-left, and-right}
-use Rattle.spec.proofs.MapLaws.{mark-byte, marked-length}
+use Rattle.spec.proofs.MapLaws.{mark-byte, marked-length, marked-bytes}
+use Rattle.spec.proofs.RunPlaces.{endFrom, ahead-at}
 use Rattle.spec.proofs.SpanLaws.{lexemes-step}
 use Rattle.spec.proofs.SearchLaws.{prefix-at}
-use Rattle.spec.proofs.WalkLaws.{drop-step, mark-live-byte, marked-at, marked-step, marked-drop, front-live, front-byte, bytes-drop, prefixBy, starts-case-at, while-drop}
+use Rattle.spec.proofs.WalkLaws.{mark-live-byte, marked-at, marked-step, marked-drop, front-live, front-byte, prefixBy, starts-case-at}
 use Rattle.spans.proofs.StepLaws.{by-front, Stepped}
 
 -- ---- the last byte
@@ -55,22 +56,6 @@ pub ends-none : (xs ms : List ℕ) → length xs ≡ 0 → endsLive (marked xs m
 unfolding endsLive marked
 ends-none [] ms h = refl
 ends-none (c ∷ cs) ms h = absurd (omega arith)
-
--- ---- some element, from an index on
-
-module _ (f : ℕ → Bool) (xs : List ℕ) (i : ℕ) where
-  pub any-end : length xs ≤ i → any f (drop i xs) ≡ false
-  unfolding any
-  any-end h = rw (drop-of-length-le xs h) refl
-
-  module _ (h : i < length xs) where
-    pub any-hit : f (getD xs i 0) ≡ true → any f (drop i xs) ≡ true
-    unfolding any
-    any-hit e = rw (drop-step xs i 0 h, e) refl
-
-    pub any-miss : f (getD xs i 0) ≡ false → any f (drop i xs) ≡ any f (drop (i + 1) xs)
-    unfolding any
-    any-miss e = rw (drop-step xs i 0 h, e) refl
 
 -- ---- a span
 
@@ -186,21 +171,11 @@ word-fits set w xs ms p i h e =
 -- ---- what stands behind a RAISE
 
 -- the byte behind a run does not depend on the marks
-behind-run : (f : ℕ → Bool) (t : List Marked) → frontByte (dropWhile (ofByte f) t) ≡ getD (dropWhile f (bytes t)) 0 0
-unfolding frontByte dropWhile ofByte bytes
-behind-run f [] = refl
-behind-run f (x ∷ t) = by (f (byte x)) (λ e. rw e (behind-run f t)) (λ e. rw e refl)
-
 run-end : (f : ℕ → Bool) (xs ms : List ℕ) (i : ℕ)
     → frontByte (dropWhile (ofByte f) (drop i (marked xs ms))) ≡ getD xs (i + length (takeWhile f (drop i xs))) 0
 run-end f xs ms i =
-    behind-run f (drop i (marked xs ms))
-    ∙ (ap (λ (l : List ℕ). getD (dropWhile f l) 0 0) (bytes-drop xs ms i)
-    ∙ (ap (λ (l : List ℕ). getD l 0 0) (while-drop f (drop i xs) ∙ drop-drop (length (takeWhile f (drop i xs))) i xs)
-    ∙ front (i + length (takeWhile f (drop i xs)))))
-  where
-    front : (k : ℕ) → getD (drop k xs) 0 0 ≡ getD xs k 0
-    front k = getD-drop k xs 0 0 ∙ ap (λ (n : ℕ). getD xs n 0) (let e : k + 0 ≡ k = omega arith in e)
+    let e = endFrom f xs i in
+    ap frontByte (ahead-at f (marked xs ms) xs (marked-bytes xs ms) i e refl .rest) ∙ front-byte xs ms e
 
 pub followed-at : (xs ms : List ℕ) (i : ℕ)
     → isFollowed (drop i (marked xs ms))

@@ -2,6 +2,9 @@
 use classes::byte_at;
 use classes::is_ident_byte;
 use classes::is_pair;
+use runs::Set;
+use runs::has;
+use runs::run_end;
 use scanner::starts_ignoring_case;
 use searches::map_checked;
 use searches::yes_no_answer;
@@ -16,7 +19,7 @@ ghost use Prim.Native.Nat.{_+_, _≤_, _<_};
 ghost use lib.Dec.{eqb};
 ghost use lib.ListN.{length, drop};
 ghost use Rattle.spec.specs.Bytes.{ascii, isIdent};
-ghost use Rattle.spec.specs.Lists.{takeWhile, any, all};
+ghost use Rattle.spec.specs.Lists.{any, all};
 ghost use Rattle.spec.specs.Spans.{spanAt, spanLen, lexemeAt, lexemes};
 ghost use Rattle.spec.specs.Map.{marked, lives};
 ghost use Rattle.spec.specs.Search.{wordHere};
@@ -39,20 +42,6 @@ fn ends_live(text: &[u8], map: &[u8]) -> bool
     }
 }
 
-// Whether the byte b stands anywhere, live or not.
-fn has_byte(text: &[u8], b: u8) -> bool
-    ensures { λ r. ⌜ r ≡ any (eqb b) (now (text .entry)) ⌝ }
-{
-    let mut i: usize = 0;
-    while i < text.len() {
-        if text[i] == b {
-            return true;
-        }
-        i += 1;
-    }
-    false
-}
-
 // Whether the span in front, of n bytes, is neither a comment nor a literal with a newline. A newline in front is live text:
 // a literal starts with a quote or a `$`.
 fn is_plain_span(rest: &[u8], n: usize) -> bool
@@ -71,7 +60,7 @@ fn is_plain_span(rest: &[u8], n: usize) -> bool
     if c == 10 {
         return true;
     }
-    !has_byte(&rest[..n], 10)
+    !has(&rest[..n], Set::Only(10))
 }
 
 // Whether no span is a comment or a literal with a newline.
@@ -115,21 +104,6 @@ fn is_raise_at(text: &[u8], map: &[u8], before: u8, i: usize) -> bool
     }
 }
 
-// Where the identifier bytes from `from` on end.
-fn ident_end(text: &[u8], from: usize) -> usize
-    ensures { λ r. ⌜ r ≡ from + length (takeWhile isIdent (drop from (now (text .entry)))) ⌝ }
-{
-    let mut i = from;
-    while i < text.len() {
-        if is_ident_byte(text[i]) {
-            i += 1;
-        } else {
-            return i;
-        }
-    }
-    i
-}
-
 // A space or `;`.
 fn ends_word(b: u8) -> bool
     ensures { λ r. ⌜ r ≡ endsWord b ⌝ }
@@ -144,7 +118,7 @@ fn is_followed(text: &[u8], i: usize) -> bool
 {
     if byte_at(text, i) == b' ' {
         if is_ident_byte(byte_at(text, i + 1)) {
-            ends_word(byte_at(text, ident_end(text, i + 1)))
+            ends_word(byte_at(text, run_end(text, Set::Ident, i + 1)))
         } else {
             false
         }
@@ -186,7 +160,7 @@ fn is_closed_in(text: &[u8], map: &[u8]) -> bool
     ensures { λ r. ⌜ r ≡ (endsLive (marked (now (text .entry)) (now (map .entry))) && (not (any (eqb 92) (now (text .entry))) && (all isPlainSpan (lexemes (now (text .entry))) && raisesFollowed 0 (marked (now (text .entry)) (now (map .entry)))))) ⌝ }
 {
     if ends_live(text, map) {
-        if has_byte(text, b'\\') {
+        if has(text, Set::Only(b'\\')) {
             return false;
         }
         if has_plain_spans(text) {

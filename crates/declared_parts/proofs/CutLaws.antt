@@ -1,18 +1,17 @@
 -- Where a part is cut for its default. Assumes nothing.
 use mathlib.Core.Path.{_≡_, refl, ap, _∙_}
-use mathlib.Core.Bool.{Bool, true, false, _&&_, false≢true}
+use mathlib.Core.Bool.{Bool, true, false, _&&_}
 use mathlib.Core.List.{List, [], _∷_}
-use Prim.Native.Nat.{ℕ, _+_, _≤_, _<_, zero-le, suc-le-suc}
+use Prim.Native.Nat.{ℕ, _+_, _≤_, _<_}
 use native.Mathlib.Omega.{arith}
 use lib.Dec.{eqb}
 use lib.ListN.{length, drop, take, length-drop}
 use mathlib.Core.List.{reverse}
-use Rattle.spec.specs.Bytes.{ascii, upper, isPrefix}
-use Rattle.spec.specs.Map.{Marked, byte, frontByte, marked}
-use Rattle.spec.specs.Search.{first, starts, startsIgnoringCase, keywordHere}
+use Rattle.spec.specs.Bytes.{ascii, isPrefix}
+use Rattle.spec.specs.Map.{Marked, frontByte, marked}
+use Rattle.spec.specs.Search.{first, keywordHere}
 use Rattle.spec.specs.declared.Found.{Found}
 use Rattle.spec.specs.declared.Found.the-variants.{At, Nothing}
-use Rattle.spec.proofs.Choice.{and-right}
 use Rattle.spec.proofs.FirstLaws.{first-least}
 use Rattle.spec.proofs.LengthLaws.{starts-any-case, word-in}
 use Rattle.spec.proofs.MapLaws.{marked-length}

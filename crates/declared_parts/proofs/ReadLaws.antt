@@ -1,7 +1,7 @@
 -- What a part declares, by the places that are read in its text. Assumes nothing.
 use mathlib.Core.Path.{_≡_, refl, sym, ap, _∙_}
-use mathlib.Core.Bool.{Bool, cond, _&&_}
-use mathlib.Core.List.{List, [], _∷_}
+use mathlib.Core.Bool.{Bool, cond}
+use mathlib.Core.List.{List}
 use mathlib.Core.Option.{Option, none, some}
 use Prim.Native.Nat.{ℕ, _+_, _-_, _≤_}
 use native.Mathlib.Omega.{arith}
@@ -10,7 +10,6 @@ use lib.ListN.{length, take, drop}
 use lib.Seq.{take-all}
 use Rattle.spec.proofs.BytesLaws.{while-length-bytes, end-length-bytes}
 use Rattle.spec.proofs.ListLaws.{empty-length}
-use Rattle.spec.proofs.Choice.{by}
 use Rattle.spec.proofs.MapLaws.{marked-length}
 use Rattle.spec.proofs.PartLaws.{marked-part, bytes-part}
 use Rattle.spec.proofs.WalkLaws.{while-take}
@@ -22,11 +21,11 @@ use Rattle.spec.specs.Assignments.{trim, trimEnd}
 use Rattle.spec.specs.Declarations.{requotedDefault, words, declaredOf, partAt, declaration}
 use Rattle.spec.specs.declared.Found.{Found}
 use Rattle.spec.specs.declared.Found.the-variants.{At, Nothing}
-use Rattle.declared_parts.specs.Parts.{between, notW, walrusHere, cutOf, cutIn, defaultBy, declaredBy, partNumbers, readOf}
+use Rattle.declared_parts.specs.Parts.{between, walrusHere, cutOf, cutIn, defaultBy, declaredBy, partNumbers, readOf}
 use Rattle.declared_parts.specs.declared.Cut.{Cut}
 use Rattle.declared_parts.specs.declared.Part.{Part}
 use Rattle.declared_parts.proofs.BetweenLaws.{frontEnd, endLen, between-length, drop-between, take-between, behind-front, ahead-of-end}
-use Rattle.declared_parts.proofs.WordsLaws.{space, inWord, declared-words}
+use Rattle.declared_parts.proofs.WordsLaws.{space, notW, inWord, declared-words}
 
 -- ---- a marked text and its bytes
 

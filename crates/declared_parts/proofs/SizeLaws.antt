@@ -6,7 +6,7 @@ use mathlib.Core.Option.{Option, none, some}
 use Prim.Native.Nat.{ℕ, _+_, _-_, _*_, _≤_, zero-le}
 use native.Mathlib.Omega.{arith}
 use lib.Dec.{eqb}
-use lib.ListN.{length, take, drop, length-append, length-drop, length-map}
+use lib.ListN.{length, take, drop, length-append, length-drop}
 use lib.Seq.{length-take-le}
 use Rattle.spec.proofs.RefusalBounds.{bytes-length}
 use Rattle.output.proofs.StoreLaws.{long-quoted, doubled-le}
@@ -15,7 +15,7 @@ use Rattle.spec.proofs.Choice.{by, cond-case}
 use Rattle.spec.proofs.LengthLaws.{trim-le}
 use Rattle.spec.proofs.ListLaws.{while-sum, drop-while-le}
 use Rattle.spec.specs.Lists.{isEmpty, takeWhile, dropWhile}
-use Rattle.spec.specs.Map.{Marked, byte, bytes}
+use Rattle.spec.specs.Map.{Marked, bytes}
 use Rattle.spec.specs.Assignments.{trim}
 use Rattle.spec.specs.Declarations.{Declared, delimiterOf, requotedDefault, words, declaredOf, declaration, textOr, packedRecord}
 use Rattle.declared_parts.specs.Parts.{cutIn, isWhole, spaced}

@@ -11,11 +11,14 @@ use Rattle.spec.specs.Lists.{isEmpty, takeWhile, dropWhile, keep}
 use Rattle.spec.specs.Map.{Marked, byte, bytes, frontByte, ofByte}
 use Rattle.spec.specs.Search.{Test, ontoFirst, piecesFrom, pieces}
 use Rattle.spec.specs.Declarations.{Declared, words, joinWords, declaredOf}
-use Rattle.declared_parts.specs.Parts.{notW, spaced}
+use Rattle.declared_parts.specs.Parts.{spaced}
 
 -- the tests on marked bytes
 abbrev pub space : Marked → Bool
 space x = ofByte isW x
+
+abbrev pub notW : ℕ → Bool
+notW b = not (isW b)
 
 abbrev pub inWord : Marked → Bool
 inWord x = ofByte notW x
@@ -44,19 +47,19 @@ unfolding piecesFrom frontByte
 cuts-byte b x t e = rw (e, any-back (x ∷ b) b t) refl
 
 while-w : (x : Marked) (t : List Marked) → isW (byte x) ≡ true → takeWhile inWord (x ∷ t) ≡ []
-unfolding takeWhile ofByte notW
+unfolding takeWhile ofByte
 while-w x t e = rw e refl
 
 while-byte : (x : Marked) (t : List Marked) → isW (byte x) ≡ false → takeWhile inWord (x ∷ t) ≡ x ∷ takeWhile inWord t
-unfolding takeWhile ofByte notW
+unfolding takeWhile ofByte
 while-byte x t e = rw e refl
 
 behind-w : (x : Marked) (t : List Marked) → isW (byte x) ≡ true → dropWhile inWord (x ∷ t) ≡ x ∷ t
-unfolding dropWhile ofByte notW
+unfolding dropWhile ofByte
 behind-w x t e = rw e refl
 
 behind-byte : (x : Marked) (t : List Marked) → isW (byte x) ≡ false → dropWhile inWord (x ∷ t) ≡ dropWhile inWord t
-unfolding dropWhile ofByte notW
+unfolding dropWhile ofByte
 behind-byte x t e = rw e refl
 
 skip-w : (x : Marked) (t : List Marked) → isW (byte x) ≡ true → dropWhile space (x ∷ t) ≡ dropWhile space t

@@ -1,7 +1,7 @@
 -- One part of the declarations by places in its text. Assumes nothing.
 use mathlib.Core.Path.{_≡_}
 use Prim.Native.Nat.{ℕ, _+_, _-_, _≤_}
-use mathlib.Core.Bool.{Bool, true, false, cond, not, _&&_}
+use mathlib.Core.Bool.{Bool, true, false, cond, _&&_}
 use mathlib.Core.List.{List, [], _∷_}
 use mathlib.Core.Option.{Option, none, some}
 use lib.Dec.{eqb, leb}
@@ -18,9 +18,6 @@ use Rattle.declared_parts.specs.declared.Part.{Part}
 -- what stands from a up to b
 abbrev pub between {ℓ} : {A : Type ℓ} → ℕ → ℕ → List A → List A
 between a b xs = take (b - a) (drop a xs)
-
-unfoldable pub notW : ℕ → Bool
-notW b = not (isW b)
 
 -- `:=` stands here, live or not
 abbrev pub walrusHere : Test

@@ -1,10 +1,12 @@
 // One part of the declarations: where its name, its type's words and its default stand, and how they are written.
-use classes::is_ident_byte;
 use classes::is_w;
 use classes::starts_with;
 use output::put;
 use output::put_all;
 use output::put_single_quoted;
+use runs::Set;
+use runs::run_end;
+use runs::run_start;
 use scanner::find_keyword_in;
 use spec::Found;
 ghost use mathlib.Core.Path.{_≡_};
@@ -12,11 +14,12 @@ ghost use mathlib.Core.Bool.{false};
 ghost use Prim.Native.Nat.{_+_, _*_, _^_, _≤_, _<_};
 ghost use lib.ListN.{length, take, drop};
 ghost use lib.Seq.{sets};
-ghost use Rattle.spec.specs.Bytes.{isIdent, isW, isSame, isBefore};
+ghost use Rattle.spec.specs.Bytes.{isW, isSame, isBefore};
 ghost use Rattle.spec.specs.Lists.{takeWhile, dropEnd};
 ghost use Rattle.spec.specs.Map.{marked};
 ghost use Rattle.spec.specs.Declarations.{delimiterOf, requotedDefault, declaration};
-ghost use Rattle.declared_parts.specs.Parts.{between, notW, WalrusAt, spaced, cutOf, cutIn, readOf, Within, isWhole};
+ghost use Rattle.runs.specs.Sets.{inSet};
+ghost use Rattle.declared_parts.specs.Parts.{between, WalrusAt, spaced, cutOf, cutIn, readOf, Within, isWhole};
 
 // Where a part ends ahead of its default, where the default begins, and 1 if there is one, else 0.
 pub struct Cut {
@@ -36,40 +39,14 @@ pub struct Part {
     pub value_len: usize,
 }
 
-// Where W ends that stands at the front of the text between the two places.
-fn skip_w(text: &[u8], from: usize, to: usize) -> usize
+// Where the bytes of the set end that stand at the front of the text between the two places.
+fn run_end_between(text: &[u8], set: Set, from: usize, to: usize) -> usize
     requires { ⌜ from ≤ to ⌝ }
     requires { ⌜ to ≤ length (now text) ⌝ }
-    ensures { λ r. ⌜ r ≡ from + length (takeWhile isW (between from to (now (text .entry)))) ⌝ }
+    ensures { λ r. ⌜ r ≡ from + length (takeWhile (inSet set) (between from to (now (text .entry)))) ⌝ }
     ensures { λ r. ⌜ (from ≤ r) × (r ≤ to) ⌝ }
 {
-    let mut i = from;
-    while i < to {
-        if is_w(text[i]) {
-            i += 1;
-        } else {
-            return i;
-        }
-    }
-    i
-}
-
-// Where the first W stands between the two places, or the second place.
-fn word_end(text: &[u8], from: usize, to: usize) -> usize
-    requires { ⌜ from ≤ to ⌝ }
-    requires { ⌜ to ≤ length (now text) ⌝ }
-    ensures { λ r. ⌜ r ≡ from + length (takeWhile notW (between from to (now (text .entry)))) ⌝ }
-    ensures { λ r. ⌜ (from ≤ r) × (r ≤ to) ⌝ }
-{
-    let mut i = from;
-    while i < to {
-        if is_w(text[i]) {
-            return i;
-        } else {
-            i += 1;
-        }
-    }
-    i
+    from + run_end(&text[from..to], set, 0)
 }
 
 // Where W begins that stands at the end of the text between the two places.
@@ -79,31 +56,8 @@ fn trim_end(text: &[u8], from: usize, to: usize) -> usize
     ensures { λ r. ⌜ r ≡ from + length (dropEnd isW (between from to (now (text .entry)))) ⌝ }
     ensures { λ r. ⌜ (from ≤ r) × (r ≤ to) ⌝ }
 {
-    let mut i = to;
-    while from < i {
-        let last = i - 1;
-        if is_w(text[last]) {
-            i = last;
-        } else {
-            return i;
-        }
-    }
-    i
-}
-
-// Where the identifier bytes from `from` on end.
-fn ident_end(text: &[u8], from: usize) -> usize
-    ensures { λ r. ⌜ r ≡ from + length (takeWhile isIdent (drop from (now (text .entry)))) ⌝ }
-{
-    let mut i = from;
-    while i < text.len() {
-        if is_ident_byte(text[i]) {
-            i += 1;
-        } else {
-            return i;
-        }
-    }
-    i
+    let part = &text[from..to];
+    from + run_start(part, Set::W, part.len())
 }
 
 // The first `:=`, live or not.
@@ -165,14 +119,14 @@ pub fn read_part(text: &[u8], map: &[u8], from: usize, to: usize) -> Part
     ensures { λ r. ⌜ declaration (between from to (marked (now (text .entry)) (now (map .entry)))) ≡ readOf (now (text .entry)) r ⌝ }
     ensures { λ r. ⌜ Within (length (now (text .entry))) r ⌝ }
 {
-    let start = skip_w(text, from, to);
+    let start = run_end_between(text, Set::W, from, to);
     let end = trim_end(text, start, to);
     let cut = find_default(&text[start..end], &map[start..end]);
     let head = start + cut.head;
-    let name = skip_w(text, start, head);
-    let name_end = word_end(text, name, head);
-    let kind = skip_w(text, name_end, head);
-    let value = skip_w(text, start + cut.rest, end);
+    let name = run_end_between(text, Set::W, start, head);
+    let name_end = run_end_between(text, Set::NotW, name, head);
+    let kind = run_end_between(text, Set::W, name_end, head);
+    let value = run_end_between(text, Set::W, start + cut.rest, end);
     let value_end = trim_end(text, value, end);
     Part {
         name: name,
@@ -284,7 +238,7 @@ pub fn put_requoted(out: &mut [u8], n: usize, text: &[u8]) -> usize
     ensures { λ r. ⌜ r ≡ n + length (requotedDefault (now (text .entry))) ⌝ }
     ensures { λ _. ⌜ now (out .exit) ≡ sets (now (out .entry)) n (requotedDefault (now (text .entry))) ⌝ }
 {
-    let d = ident_end(text, 1) + 1;
+    let d = run_end(text, Set::Ident, 1) + 1;
     if is_whole(text, d) {
         let e = text.len() - d;
         put_single_quoted(out, n, &text[d..e])

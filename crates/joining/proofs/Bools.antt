@@ -1,12 +1,12 @@
 -- Facts of Bools, bytes and lists that the laws here share. Assumes nothing.
 use mathlib.Core.Path.{_≡_, refl, sym, ap, _∙_, subst}
 use mathlib.Core.Bool.{Bool, true, false, not, _&&_, _||_, false≢true}
-use Prim.Native.Nat.{ℕ, _≤_}
-use native.Mathlib.Omega.{arith}
-use borrow.Author.Tests.{eqb-true, leb-true}
-use lib.Dec.{eqb, leb}
-use Rattle.spec.proofs.Choice.{by, and-left, and-right, or-cases}
-use Rattle.spec.specs.Bytes.{within, isDigit, isLower, isUpper, isIdent, isQuote, isW}
+use Prim.Native.Nat.{ℕ}
+use borrow.Author.Tests.{eqb-true}
+use lib.Dec.{eqb}
+use Rattle.spec.proofs.ByteSets.{sign-not-ident, sign-not-w}
+use Rattle.spec.proofs.Choice.{by, or-cases}
+use Rattle.spec.specs.Bytes.{isIdent, isQuote, isW}
 
 pub clash : {P : Type 0} → true ≡ false → P
 clash e = absurd (false≢true (sym e))
@@ -54,39 +54,7 @@ no-quote f c a b h =
     by (isQuote c) (λ e. clash (sym h ∙ quotes (λ (n : ℕ). f n ≡ false) c e a b)) (λ e. e)
 
 pub ident-no-quote : (c : ℕ) → isIdent c ≡ true → isQuote c ≡ false
-unfolding isIdent isLower isUpper isDigit within
-ident-no-quote c h = no-quote isIdent c refl refl h
+ident-no-quote c h = no-quote isIdent c (sign-not-ident 39 refl) (sign-not-ident 34 refl) h
 
 pub white-no-quote : (c : ℕ) → isW c ≡ true → isQuote c ≡ false
-unfolding isW within
-white-no-quote c h = no-quote isW c refl refl h
-
--- identifier bytes are from 48 to 122
-pub ident-range : (c : ℕ) → isIdent c ≡ true → (48 ≤ c) × (c ≤ 122)
-unfolding isIdent isLower isUpper isDigit within
-ident-range c h =
-    or-cases (within 97 122 c) (within 65 90 c || (within 48 57 c || eqb c 95)) h
-    (λ e. let r = range 97 122 e in (omega arith, omega arith))
-    (λ h. or-cases (within 65 90 c) (within 48 57 c || eqb c 95) h
-    (λ e. let r = range 65 90 e in (omega arith, omega arith))
-    (λ h. or-cases (within 48 57 c) (eqb c 95) h
-    (λ e. let r = range 48 57 e in (omega arith, omega arith))
-    (λ e. let r = eqb-true c 95 e in (omega arith, omega arith))))
-  where
-    range : (lo hi : ℕ) → within lo hi c ≡ true → (lo ≤ c) × (c ≤ hi)
-    range lo hi e = (leb-true lo c (and-left (leb lo c) (leb c hi) e), leb-true c hi (and-right (leb lo c) (leb c hi) e))
-
--- and none of them is W
-pub ident-not-white : (c : ℕ) → isIdent c ≡ true → isW c ≡ false
-unfolding isW within
-ident-not-white c h =
-    let r = ident-range c h in
-    by (isW c)
-    (λ e. or-cases (leb 9 c && leb c 13) (eqb c 32) e
-    (λ f. let l = leb-true c 13 (and-right (leb 9 c) (leb c 13) f) in absurd (omega arith))
-    (λ f. let l = eqb-true c 32 f in absurd (omega arith)))
-    (λ e. e)
-
-pub no-ident-zero : isIdent 0 ≡ false
-unfolding isIdent isLower isUpper isDigit within
-no-ident-zero = refl
+white-no-quote c h = no-quote isW c (sign-not-w 39 refl) (sign-not-w 34 refl) h

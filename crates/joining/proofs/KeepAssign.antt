@@ -8,10 +8,11 @@ use borrow.Author.Tests.{eqb-true}
 use lib.Dec.{eqb}
 use lib.ListN.{take, drop, take-append-drop}
 use lib.Seq.{drop-drop}
+use Rattle.spec.proofs.ByteSets.{sign-not-ident, sign-not-w, ident-not-w}
 use Rattle.spec.proofs.Choice.{by, cond-case, and-left, and-right}
 use Rattle.spec.proofs.ListLaws.{while-split, while-all, all-append}
 use Rattle.spec.proofs.FirstLaws.{first-least}
-use Rattle.spec.specs.Bytes.{ascii, within, isDigit, isLower, isUpper, isIdent, isQuote, isW}
+use Rattle.spec.specs.Bytes.{ascii, isIdent, isQuote, isW}
 use Rattle.spec.specs.Lists.{isEmpty, takeWhile, dropWhile, dropEnd, all}
 use Rattle.spec.specs.Map.{Marked, live, quoted, byte, lives, frontLive, ofByte}
 use Rattle.spec.specs.Search.{first, starts, needleHere, byteHere, pieces}
@@ -21,7 +22,7 @@ use Rattle.spec.specs.Closed.{endsLive}
 use Rattle.spec.specs.Computed.{computed}
 use Rattle.spec.specs.declared.Found.{Found}
 use Rattle.spec.specs.declared.Found.the-variants.{At, Nothing}
-use Rattle.joining.proofs.Bools.{or-first, or-second, ident-not-white, no-ident-zero}
+use Rattle.joining.proofs.Bools.{or-first, or-second}
 use Rattle.joining.proofs.Reading.{cut, paste, Reading}
 use Rattle.joining.proofs.Parts.{NoQuote, no-quotes, front-drop, Read, ends, back-over, edge-behind}
 use Rattle.joining.proofs.Statements.{Shut, shut-append, Statements, FirstOf, statements, ends-append}
@@ -110,7 +111,7 @@ module _ (k : Reading) where
       let i = and-left (isIdent (byte x)) (all (ofByte isIdent) n) a in
       let z = back-over k n (k .after s x) (q .1) (r .1) h in
       firm-word n (k .after s x) (and-right (isIdent (byte x)) (all (ofByte isIdent) n) a) (q .1) (r .1) h
-      (k .settle s x (ident-not-white (byte x) i) (r .0) z)
+      (k .settle s x (ident-not-w (byte x) i) (r .0) z)
 
   set-parts : (front name w : List Marked) (y : Marked) (a : List Marked)
       → k .edge (ends k (k .start) front) ≡ true
@@ -119,13 +120,13 @@ module _ (k : Reading) where
       → byte y ≡ 61
       → Read k (k .start) (front ++ (name ++ (w ++ (live 58 ∷ y ∷ (a ++ (live 59 ∷ []))))))
       → Read k (k .start) (front ++ (lives (ascii "SET ") ++ (name ++ (lives (ascii " = ") ++ (rightSide a ++ (live 59 ∷ []))))))
-  unfolding isIdent isLower isUpper isDigit within isW isQuote
+  unfolding isQuote
   set-parts front name w y a e i j b r =
       let ok = k .ok in
       let next = k .after in
       let u = live 58 ∷ y ∷ (a ++ (live 59 ∷ [])) in
-      let nn = no-quotes isIdent refl refl name i in
-      let nw = no-quotes isW refl refl w j in
+      let nn = no-quotes isIdent (sign-not-ident 39 refl) (sign-not-ident 34 refl) name i in
+      let nw = no-quotes isW (sign-not-w 39 refl) (sign-not-w 34 refl) w j in
       let c = cut ok next front (name ++ (w ++ u)) (k .start) r in
       let F = ends k (k .start) front in
       let d = cut ok next name (w ++ u) F (c .1) in
@@ -143,7 +144,7 @@ module _ (k : Reading) where
       let C = next W (live 58) in
       let zc : k .rest C ≡ true = k .forth W (live 58) refl (g .1 .0) zw in
       let qy : isQuote (byte y) ≡ false = rw b refl in
-      let iy : isIdent (byte y) ≡ false = rw b refl in
+      let iy : isIdent (byte y) ≡ false = ap isIdent b ∙ sign-not-ident 61 refl in
       let ze : k .rest (next C y) ≡ true = k .forth C y qy (g .1 .1 .0) zc in
       let ra = k .fresh (a ++ (live 59 ∷ [])) (next C y) (or-first (k .edge (next C y)) _ (k .edges C y iy)) ze (g .1 .1 .1) in
       let S = k .set-word F zf in
@@ -177,7 +178,7 @@ module _ (k : Reading) where
       ∙ (append-assoc (reverse back) (live 58 ∷ y ∷ a) (live 59 ∷ [])
       ∙ (ap (λ (z : List Marked). z ++ tail) (back-split back)
       ∙ (append-assoc front (name ++ w) tail ∙ ap (λ (z : List Marked). front ++ z) (append-assoc name w tail)))) in
-      let r = set-parts front name w y a (edge-behind k (dropWhile (ofByte isIdent) b) (front-drop isIdent no-ident-zero b))
+      let r = set-parts front name w y a (edge-behind k (dropWhile (ofByte isIdent) b) (front-drop isIdent (sign-not-ident 0 refl) b))
       (all-reverse (ofByte isIdent) (takeWhile (ofByte isIdent) b) (while-all (ofByte isIdent) b))
       (all-reverse (ofByte isW) (takeWhile (ofByte isW) back) (while-all (ofByte isW) back))
       (q .3) (subst (λ (z : List Marked). Read k (k .start) z) f p) in

@@ -6,7 +6,8 @@ use Prim.Native.Nat.{ℕ, zero, suc}
 use borrow.Author.Tests.{eqb-true}
 use lib.Dec.{eqb}
 use lib.ListN.{length}
-use Rattle.spec.proofs.Choice.{by, and-left, and-right, or-left}
+use Rattle.spec.proofs.ByteSets.{sign-not-ident, letter-ident, not-word, upper-cases}
+use Rattle.spec.proofs.Choice.{by, and-left, and-right}
 use Rattle.spec.specs.Bytes.{ascii, within, isDigit, isLower, isUpper, isIdent, isWord, isQuote, isW, upper}
 use Rattle.spec.specs.Map.{Marked, live, quoted, byte, lives, frontLive}
 use Rattle.spec.specs.Search.{startsIgnoringCase, wordHere}
@@ -18,7 +19,7 @@ use Rattle.joining.proofs.Parts.{Read}
 use Rattle.joining.proofs.Statements.{is-live, ends-append, ends-rest, ends-ident, Shut}
 use Rattle.joining.proofs.WellFormed.{Open, clear, dash, slash, sign, tag, inSingle, inDouble, liveOk, wellOk, tagged, liveNext, wellNext, next-ident}
 use Rattle.joining.proofs.WellFormedReading.{well-formed-reading}
-use Rattle.joining.proofs.RaiseRead.{Seen, edge, inWord, r1, r2, r3, r4, r5, gap, paren, inLevel, closed, levelLetter, wordStart, seenNext, seenOk, seenEdge, upper-cases, raise-reading}
+use Rattle.joining.proofs.RaiseRead.{Seen, edge, inWord, r1, r2, r3, r4, r5, gap, paren, inLevel, closed, levelLetter, wordStart, seenNext, seenOk, seenEdge, raise-reading}
 
 -- states that the letters of a word leave as they are, and that an E at the edge of a word leads to
 pub record Speller (k : Reading) : Type 0 where
@@ -48,14 +49,14 @@ word-idents (a ∷ w) (x ∷ t) l h = (
 )
 
 letters : Letters (ascii "LSIF")
-unfolding upper isIdent isLower isUpper isDigit within
+unfolding upper isLower within
 letters = (
-  λ c e. upper-cases (λ (n : ℕ). isIdent n ≡ true) c 76 (eqb-true (upper c) 76 e) refl refl,
+  λ c e. upper-cases (λ (n : ℕ). isIdent n ≡ true) c 76 (eqb-true (upper c) 76 e) (letter-ident 76 refl) (letter-ident 108 refl),
   (
-    λ c e. upper-cases (λ (n : ℕ). isIdent n ≡ true) c 83 (eqb-true (upper c) 83 e) refl refl,
+    λ c e. upper-cases (λ (n : ℕ). isIdent n ≡ true) c 83 (eqb-true (upper c) 83 e) (letter-ident 83 refl) (letter-ident 115 refl),
     (
-      λ c e. upper-cases (λ (n : ℕ). isIdent n ≡ true) c 73 (eqb-true (upper c) 73 e) refl refl,
-      (λ c e. upper-cases (λ (n : ℕ). isIdent n ≡ true) c 70 (eqb-true (upper c) 70 e) refl refl, tt),
+      λ c e. upper-cases (λ (n : ℕ). isIdent n ≡ true) c 73 (eqb-true (upper c) 73 e) (letter-ident 73 refl) (letter-ident 105 refl),
+      (λ c e. upper-cases (λ (n : ℕ). isIdent n ≡ true) c 70 (eqb-true (upper c) 70 e) (letter-ident 70 refl) (letter-ident 102 refl), tt),
     ),
   ),
 )
@@ -69,7 +70,7 @@ record AtElsif (p : ℕ) (x : Marked) (t : List Marked) : Type 0 where
   left : isIdent p ≡ false
 
 at-elsif : (p : ℕ) (x : Marked) (t : List Marked) → wordHere isWord (ascii "ELSIF") p (x ∷ t) ≡ true → AtElsif p x t
-unfolding wordHere frontLive startsIgnoringCase isWord upper isLower within
+unfolding wordHere frontLive startsIgnoringCase upper isLower within
 at-elsif p (quoted c) t h = absurd (false≢true h)
 at-elsif p (live c) t h =
     let m : startsIgnoringCase (ascii "ELSIF") (live c ∷ t) ≡ true = and-left (startsIgnoringCase (ascii "ELSIF") (live c ∷ t)) _ h in
@@ -79,7 +80,7 @@ at-elsif p (live c) t h =
       is-live = refl;
       first = (and-left (eqb (upper c) (upper 69)) (startsIgnoringCase (ascii "LSIF") t) m);
       idents = word-idents (ascii "LSIF") t letters (and-right (eqb (upper c) (upper 69)) (startsIgnoringCase (ascii "LSIF") t) m);
-      left = or-left (isIdent p) (eqb p 36) w;
+      left = not-word p w;
     }
 
 abbrev AllIdent : List ℕ → Type 0
@@ -87,12 +88,10 @@ AllIdent [] = Unit {0}
 AllIdent (c ∷ w) = (isIdent c ≡ true) × AllIdent w
 
 e-ident : (c : ℕ) → eqb (upper c) 69 ≡ true → isIdent c ≡ true
-unfolding isIdent isLower isUpper isDigit within
-e-ident c e = upper-cases (λ (n : ℕ). isIdent n ≡ true) c 69 (eqb-true (upper c) 69 e) refl refl
+e-ident c e = upper-cases (λ (n : ℕ). isIdent n ≡ true) c 69 (eqb-true (upper c) 69 e) (letter-ident 69 refl) (letter-ident 101 refl)
 
 lseif : AllIdent (ascii "LSEIF")
-unfolding isIdent isLower isUpper isDigit within
-lseif = (refl, (refl, (refl, (refl, (refl, tt)))))
+lseif = (letter-ident 76 refl, (letter-ident 83 refl, (letter-ident 69 refl, (letter-ident 73 refl, (letter-ident 70 refl, tt)))))
 
 elsif-ends : (t : List Marked) (n p : ℕ) → Idents n t → endsLive t ≡ true → endsLive (elsifFrom n p t) ≡ true
 unfolding elsifFrom
@@ -183,10 +182,9 @@ well-tagged inDouble c e h = absurd (false≢true h)
 
 well-spell : (s : Open) (c : ℕ) → eqb (upper c) 69 ≡ true → liveOk s c ≡ true
     → (liveOk s 69 ≡ true) × (liveNext s c ≡ liveNext s 69) × (wellStill (liveNext s 69) ≡ true)
-unfolding isIdent isLower isUpper isDigit within
 well-spell s c e h =
     let w = well-tagged s c e h in
-    let n = next-ident s 69 refl in
+    let n = next-ident s 69 (letter-ident 69 refl) in
     (w .0, next-ident s c (e-ident c e) ∙ (w .1 ∙ sym n), subst (λ (z : Open). wellStill z ≡ true) (sym n) (w .2))
 
 well-keeps : (s : Open) (x : Marked) → wellStill s ≡ true → isIdent (byte x) ≡ true → wellOk s x ≡ true → wellNext s x ≡ s
@@ -201,12 +199,11 @@ well-keeps inSingle x h i o = absurd (false≢true h)
 well-keeps inDouble x h i o = absurd (false≢true h)
 
 well-takes : (s : Open) (c : ℕ) → wellStill s ≡ true → isIdent c ≡ true → liveOk s c ≡ true
-unfolding isIdent isLower isUpper isDigit within
 well-takes clear c h i = rw (ident-no-quote c i) refl
 well-takes dash c h i = absurd (false≢true h)
 well-takes slash c h i = absurd (false≢true h)
 well-takes sign c h i = absurd (false≢true h)
-well-takes tag c h i = rw (ident-no-quote c i, other isIdent 36 c refl i) refl
+well-takes tag c h i = rw (ident-no-quote c i, other isIdent 36 c (sign-not-ident 36 refl) i) refl
 well-takes inSingle c h i = absurd (false≢true h)
 well-takes inDouble c h i = absurd (false≢true h)
 
@@ -228,8 +225,10 @@ seenStill inLevel = true
 seenStill closed = false
 
 e-word : (c : ℕ) → eqb (upper c) 69 ≡ true → wordStart (live c) ≡ inWord
-unfolding wordStart upper isIdent isLower isUpper isDigit within
-e-word c e = upper-cases (λ (n : ℕ). wordStart (live n) ≡ inWord) c 69 (eqb-true (upper c) 69 e) refl refl
+unfolding wordStart upper isLower within
+e-word c e =
+    upper-cases (λ (n : ℕ). wordStart (live n) ≡ inWord) c 69 (eqb-true (upper c) 69 e)
+    (rw (letter-ident 69 refl) refl) (rw (letter-ident 101 refl) refl)
 
 e-level : (c : ℕ) → eqb (upper c) 69 ≡ true → seenNext gap (live c) ≡ inLevel
 unfolding seenNext levelLetter

@@ -8,6 +8,7 @@ use borrow.Author.Tests.{eqb-true, eq-eqb, ltb-true, ltb-false}
 use lib.Dec.{eqb, ltb}
 use lib.ListN.{length, take, drop, getD, length-drop, drop-of-length-le}
 use lib.Seq.{take-suc, take-add, drop-drop, length-take-le}
+use Rattle.spec.proofs.ByteSets.{sign-not-ident}
 use Rattle.spec.proofs.BytesLaws.{bytes-append}
 use Rattle.spec.proofs.Choice.{by, and-left, and-right, or-left, or-right}
 use Rattle.spec.proofs.SpanLaws.{by-kind, lexemes-step, opens-in, seen}
@@ -15,7 +16,7 @@ use Rattle.spec.proofs.MapLaws.{spanFlag, mark-byte, text-length}
 use Rattle.spec.specs.Bytes.{within, isDigit, isLower, isUpper, isIdent, isQuote, isPair, isPrefix, isW, upper}
 use Rattle.spec.specs.Lists.{isEmpty, any, all, concat}
 use Rattle.spec.specs.Spans.{escapes, quoteLen, quotedLen, tagLen, seekLen, opensDollar, dollarOf, Kind, line, block, single, double, dollar, code, kindAt, spanOf, spanAt, spanLen, Lexeme, lexemeAt, lexemes, lexemesFrom}
-use Rattle.spec.specs.Map.{Marked, live, quoted, byte, mark, marked, markedText, bytes, regionOf}
+use Rattle.spec.specs.Map.{Marked, live, quoted, mark, marked, markedText, bytes, regionOf}
 use Rattle.spec.specs.Requote.{doubled, singleQuoted, requoteSpan, requoteLexeme, requoted}
 use Rattle.spec.specs.Closed.{endsLive, isPlainRegion, isPlainSpan, raisesFollowed, isClosed}
 use Rattle.joining.proofs.Bools.{clash, no, or-second, and-no, at, another}
@@ -113,12 +114,12 @@ Fits inSingle cs = ⊥
 Fits inDouble cs = ⊥
 
 sign-tag : (cs : List ℕ) → isTag (36 ∷ cs) ≡ true
-unfolding isTag closesTag tagLen isIdent isLower isUpper isDigit within
-sign-tag cs = refl
+unfolding isTag closesTag tagLen isDigit within
+sign-tag cs = rw (sign-not-ident 36 refl) refl
 
 sign-closes : (cs : List ℕ) → closesTag (36 ∷ cs) ≡ true
-unfolding closesTag tagLen isIdent isLower isUpper isDigit within
-sign-closes cs = refl
+unfolding closesTag tagLen
+sign-closes cs = rw (sign-not-ident 36 refl) refl
 
 opens-quote : (c : ℕ) (cs : List ℕ) → Opens c cs → isQuote c ≡ false
 unfolding isQuote
@@ -496,7 +497,7 @@ module _ (c : ℕ) (cs : List ℕ) where
       → endsLive (markedText (c ∷ cs)) ≡ true
       → (endsLive (markedText (drop whole (c ∷ cs))) ≡ true → Requoted (drop whole (c ∷ cs)))
       → Requoted (c ∷ cs)
-  unfolding singleQuoted isQuote isIdent isLower isUpper isDigit within opensDollar
+  unfolding singleQuoted isQuote opensDollar
   dollar-case kd o b n en ih =
       let xs = c ∷ cs in
       let N = whole in
@@ -534,9 +535,9 @@ module _ (c : ℕ) (cs : List ℕ) where
             (subst (λ (l : List ℕ). RaiseRead s (map quoted l ++ markedText (drop N xs))) tx (subst (λ (l : List Marked). RaiseRead s l) mt y)) in
             let q = dollar-quotes s (y2 .0) in
             let t2 = cut (seenOk false) seenNext v (markedText (drop N xs)) edge (subst (λ (z : Seen). RaiseRead z (v ++ markedText (drop N xs))) (q .behind-dollar) (y2 .1)) in
-            let row = quoted-row 36 refl (cl .inner) .0 in
+            let row = quoted-row 36 (sign-not-ident 36 refl) (cl .inner) .0 in
             let rest : RaiseRead edge R = r .raise-read edge (subst (λ (z : Seen). RaiseRead z (markedText (drop N xs))) (row .end) (t2 .1)) in
-            let row2 = quoted-row 39 refl (doubled insides) .0 in
+            let row2 = quoted-row 39 (sign-not-ident 39 refl) (doubled insides) .0 in
             let chunk = takes-cons (seenOk false) seenNext (quoted 39) u s edge edge (q .allowed) (q .behind-quote) row2 in
             subst (λ (l : List Marked). RaiseRead s l) (sym rt)
             (paste (seenOk false) seenNext (quoted 39 ∷ u) R s (chunk .reads) (subst (λ (z : Seen). RaiseRead z R) (sym (chunk .end)) rest));
@@ -608,7 +609,7 @@ pub record Closes (t : List Marked) : Type 0 where
   pub ended : endsLive t ≡ true
 
 pub requote-kept : (a : List ℕ) → isClosed a ≡ true → Closes (requotedMarks a)
-unfolding isClosed isIdent isLower isUpper isDigit within
+unfolding isClosed
 requote-kept a h =
     let e = endsLive (markedText a) in
     let b = not (any (eqb 92) a) in
@@ -624,6 +625,6 @@ requote-kept a h =
     }) in
     record {
       well = q .well clear refl tt .0;
-      raise-read = q .raise-read edge (followed-read (markedText a) edge 0 refl (and-right p r h2) tt);
+      raise-read = q .raise-read edge (followed-read (markedText a) edge 0 (sym (ap not (sign-not-ident 0 refl))) (and-right p r h2) tt);
       ended = q .ends en;
     }

@@ -8,6 +8,7 @@ use borrow.Author.Tests.{eqb-true}
 use lib.Dec.{eqb, ltb}
 use lib.ListN.{length, take, drop, take-append-drop}
 use lib.Seq.{drop-drop}
+use Rattle.spec.proofs.ByteSets.{sign-not-w}
 use Rattle.spec.proofs.Choice.{by, cond-case, and-left, and-right}
 use Rattle.spec.proofs.ListLaws.{while-split}
 use Rattle.spec.proofs.FirstLaws.{first-least}
@@ -227,11 +228,11 @@ module _ (k : Reading) where
   listed-firm t p = keep-firm k _ (map trim (pieces commaHere t)) (trim-parts k (pieces commaHere t) (comma-parts k commaHere comma-live t p))
 
   from-part : (f : Found) (t : List Marked) → ((j : ℕ) → f ≡ At j → Place (ascii "FROM") j t) → Part k (fromPart f t) × FromFront (fromPart f t)
-  unfolding fromPart trimEnd isW within
+  unfolding fromPart trimEnd
   from-part Nothing t h = (nil-part k, tt)
   from-part (At j) t h =
       let p = h j refl in (
-        drop-end k (λ c. eqb c 59) refl refl _ (drop-end k isW refl refl (drop j t) (p .here)),
+        drop-end k (λ c. eqb c 59) refl refl _ (drop-end k isW (sign-not-w 39 refl) (sign-not-w 34 refl) (drop j t) (p .here)),
         from-end (ofByte (λ c. eqb c 59)) _ (from-end (ofByte isW) (drop j t) (from-front (drop j t) (p .matches))),
       )
 

@@ -1,18 +1,18 @@
 -- What passes 1 to 4 keep of a closed body: each text ends in a live `;`, and behind pass 4 each RAISE has what pass 5
 -- needs behind it. Assumes nothing.
 use mathlib.Core.Path.{_≡_, refl, sym, ap, _∙_, subst}
-use mathlib.Core.Bool.{true}
+use mathlib.Core.Bool.{true, not}
 use mathlib.Core.List.{List}
 use Prim.Native.Nat.{ℕ}
+use Rattle.spec.proofs.ByteSets.{sign-not-ident}
 use Rattle.spec.proofs.Apart.{apart}
 use Rattle.spec.proofs.Choice.{and-left}
-use Rattle.spec.specs.Bytes.{within, isDigit, isLower, isUpper, isIdent}
 use Rattle.spec.specs.Map.{Marked, markedText, bytes}
 use Rattle.spec.specs.Requote.{requoted}
 use Rattle.spec.specs.Elsif.{elsif}
 use Rattle.spec.specs.Outcome.{Outcome, accepted, refused, forget}
 use Rattle.spec.specs.Assignments.{assignments}
-use Rattle.spec.specs.SelectInto.{quoteWalk, selectInto}
+use Rattle.spec.specs.SelectInto.{selectInto}
 use Rattle.spec.specs.Body.{assignPass}
 use Rattle.spec.specs.Closed.{endsLive, isClosed}
 use Rattle.joining.specs.Safe.{raisesSafe}
@@ -56,8 +56,8 @@ unfolding well-formed-reading
 fourth-formed t b = select-kept well-formed-reading t (b .well)
 
 fourth-safe : (t : List Marked) → Read t → raisesSafe 0 (selectInto t) ≡ true
-unfolding raise-reading isIdent isLower isUpper isDigit within
-fourth-safe t b = let s = select-kept raise-reading t (b .raise-read) in guarded-safe (selectInto t) edge 0 refl (s .ended) (s .reads)
+unfolding raise-reading
+fourth-safe t b = let s = select-kept raise-reading t (b .raise-read) in guarded-safe (selectInto t) edge 0 (sym (ap not (sign-not-ident 0 refl))) (s .ended) (s .reads)
 
 after-both : (t : List Marked) → Read t → ContinuableBehind (bytes t)
 after-both t b =

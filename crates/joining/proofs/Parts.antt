@@ -9,6 +9,7 @@ use borrow.Author.Tests.{eqb-true, leb-true, leb-false}
 use lib.Dec.{eqb, leb}
 use lib.ListN.{length, take, drop, take-append-drop}
 use lib.Seq.{drop-drop}
+use Rattle.spec.proofs.ByteSets.{sign-not-w}
 use Rattle.spec.proofs.Choice.{by, cond-case, and-left, and-right}
 use Rattle.spec.specs.Bytes.{within, isLower, isIdent, isQuote, isW, upper}
 use Rattle.spec.specs.Lists.{isEmpty, dropWhile, dropEnd, all, keep}
@@ -159,9 +160,9 @@ module _ (k : Reading) where
           (λ c e r h. ih (λ z. absurd (false≢true z)) (r .1) h)
 
   pub firm-end : (t : List Marked) → Part t → Firm (trimEnd t)
-  unfolding trimEnd isW within
+  unfolding trimEnd
   firm-end t p =
-      let d = drop-end isW refl refl t p in
+      let d = drop-end isW (sign-not-w 39 refl) (sign-not-w 34 refl) t p in
       record { reads = d .reads; end = firm-from t (k .start) (λ _. k .firm-start) (d .reads) (d .out) }
 
   pub trim-firm : (t : List Marked) → Part t → Firm (trim t)

@@ -8,12 +8,13 @@ use native.Mathlib.Nat.{le-of-suc-le-suc, not-suc-le-zero}
 use borrow.Author.Tests.{not-true}
 use lib.Dec.{eqb}
 use lib.ListN.{length, drop}
+use Rattle.spec.proofs.ByteSets.{sign-not-word}
 use Rattle.spec.proofs.Choice.{by, and-left, and-right}
 use Rattle.spec.proofs.MapLaws.{map-append}
 use Rattle.spec.proofs.ListLaws.{concat-append}
 use Rattle.spec.proofs.LengthLaws.{word-in}
 use Rattle.spec.proofs.JoinedPieces.{pieces-cons}
-use Rattle.spec.specs.Bytes.{ascii, within, isLower, isUpper, isDigit, isIdent, isWord, isQuote, upper}
+use Rattle.spec.specs.Bytes.{ascii, within, isLower, isWord, isQuote, upper}
 use Rattle.spec.specs.Lists.{isEmpty, takeWhile, dropWhile, all}
 use Rattle.spec.specs.Spans.{lexemes}
 use Rattle.spec.specs.Map.{Marked, live, quoted, byte, lives, markedText, isLiveByte, frontByte, frontLive}
@@ -126,8 +127,8 @@ module _ (u : List Marked) where
 
 -- behind a `;` a word stands as at the start of a text
 pub word-fresh : (w : List ℕ) (t : List Marked) → wordHere isWord w 59 t ≡ wordHere isWord w 0 t
-unfolding wordHere isWord isIdent isLower isUpper isDigit within
-word-fresh w t = refl
+unfolding wordHere
+word-fresh w t = rw (sign-not-word 59 refl refl, sign-not-word 0 refl refl) refl
 
 -- ---- pass 2
 

@@ -11,13 +11,13 @@ use borrow.Author.Tests.{eqb-true, leb-true, not-true}
 use lib.Dec.{eqb, leb}
 use lib.ListN.{length, drop, length-drop, length-append}
 use lib.Seq.{take-append-le, drop-append-le, drop-drop}
+use Rattle.spec.proofs.ByteSets.{sign-not-ident, sign-not-w, gap-w, ident-not-w}
 use Rattle.spec.proofs.BytesLaws.{bytes-append}
 use Rattle.spec.proofs.Apart.{apart}
 use Rattle.spec.proofs.Choice.{by, cond-case, and-left, and-right, or-left, or-right}
 use Rattle.spec.proofs.MapLaws.{mark-byte, spanFlag, text-length}
 use Rattle.spec.proofs.LengthLaws.{word-in}
-use Rattle.spec.proofs.SearchLaws.{word-not-space}
-use Rattle.spec.specs.Bytes.{ascii, within, isLower, isUpper, isDigit, isIdent, isWord, isW, isN, isPair, upper}
+use Rattle.spec.specs.Bytes.{ascii, within, isLower, isIdent, isWord, isW, isPair, upper}
 use Rattle.spec.specs.Lists.{takeWhile, dropWhile, all}
 use Rattle.spec.specs.Spans.{opensDollar, kindAt, spanOf, spanAt, spanLen}
 use Rattle.spec.specs.Map.{Marked, live, quoted, byte, bytes, mark, markedText, isLiveByte, frontByte, frontLive, ofByte}
@@ -27,6 +27,7 @@ use Rattle.spec.specs.Raise.{passed, Level, exception, notice, warning, debug, 
 use Rattle.spec.specs.Closed.{endsLive}
 use Rattle.spec.specs.declared.Span.the-variants.{Code}
 use Rattle.joining.specs.Safe.{endsLevelSafely, levelSafe, safeBehind, raisesSafe}
+use Rattle.joining.proofs.Bools.{other, another}
 use Rattle.joining.proofs.SpanJoin.{marksFrom, marks-length, marks-text, marks-join, ends-behind, ends-short}
 use Rattle.joining.proofs.PassJoin.{at-end, noSemi, semiLast, starts-keep, starts-short, word-keep, word-fresh, outcome-assoc}
 
@@ -58,18 +59,14 @@ pub none-marks : (c : ℕ) (cs : List ℕ) → opensNone c ≡ true → marksFro
 unfolding marksFrom
 none-marks c cs h = rw (none-span c cs h)
 
--- a byte that passes a test is none that fails it
-differs : (f : ℕ → Bool) (c k : ℕ) → f c ≡ true → f k ≡ false → eqb c k ≡ false
-differs f c k p q = by (eqb c k) (λ e. absurd (false≢true (sym q ∙ (ap f (sym (eqb-true c k e)) ∙ p)))) (λ e. e)
-
 -- where the bytes that may open a span fail a test, what passes it opens none
 pub none-of : (f : ℕ → Bool) (c : ℕ) → f c ≡ true → f 45 ≡ false → f 47 ≡ false → f 39 ≡ false → f 34 ≡ false → f 36 ≡ false → opensNone c ≡ true
 unfolding opensNone
-none-of f c h a b d e g = rw (differs f c 45 h a, differs f c 47 h b, differs f c 39 h d, differs f c 34 h e, differs f c 36 h g)
+none-of f c h a b d e g = rw (other f 45 c a h, other f 47 c b h, other f 39 c d h, other f 34 c e h, other f 36 c g h)
 
 pub none-ident : (c : ℕ) → isIdent c ≡ true → opensNone c ≡ true
-unfolding isIdent isLower isUpper isDigit within
-none-ident c h = none-of isIdent c h refl refl refl refl refl
+none-ident c h =
+    none-of isIdent c h (sign-not-ident 45 refl) (sign-not-ident 47 refl) (sign-not-ident 39 refl) (sign-not-ident 34 refl) (sign-not-ident 36 refl)
 
 pub none-upper : (c : ℕ) → opensNone (upper c) ≡ true → opensNone c ≡ true
 unfolding opensNone upper isLower within
@@ -155,19 +152,9 @@ module _ (g : Marked → Bool) (stop : g (live 59) ≡ false) where
 -- ---- the level
 
 -- an identifier byte ends no level
-space-word : (c : ℕ) → isIdent c ≡ true → isW c ≡ true → eqb c 11 ≡ false → ⊥
-unfolding isWord isN
-space-word c h w e =
-    let i : isWord c ≡ true = rw h in
-    let n : isN c ≡ true = rw (w, e) in
-    false≢true (sym (word-not-space c i) ∙ n)
-
 ident-runs : (c : ℕ) → isIdent c ≡ true → endsLevel c ≡ false
-unfolding isIdent isLower isUpper isDigit within endsLevel
-ident-runs c h =
-    by (isW c)
-    (λ w. absurd (space-word c h w (differs isIdent c 11 h refl)))
-    (λ w. rw (w, differs isIdent c 59 h refl))
+unfolding endsLevel
+ident-runs c h = rw (ident-not-w c h, other isIdent 59 c (sign-not-ident 59 refl) h) refl
 
 abbrev run : List Marked → List Marked
 run t = takeWhile (ofByte (λ c. not (endsLevel c))) t
@@ -194,8 +181,8 @@ unfolding opensNone
 space-none = refl
 
 semi-ends : endsLevel 59 ≡ true
-unfolding endsLevel isW within
-semi-ends = refl
+unfolding endsLevel
+semi-ends = rw (sign-not-w 59 refl) refl
 
 safe-ident : (x : Marked) (t : List Marked) → isIdent (byte x) ≡ true → endsLevelSafely (x ∷ t) ≡ endsLevelSafely t
 unfolding endsLevelSafely dropWhile ofByte
@@ -204,11 +191,11 @@ safe-ident x t h = rw h
 -- behind the identifier bytes that is a `)` and `;`, or the run stops
 safe-paren : (x : Marked) (t : List Marked) → isIdent (byte x) ≡ false → endsLevel (byte x) ≡ false → endsLevelSafely (x ∷ t) ≡ true
     → (eqb (byte x) 41 && eqb (frontByte t) 59) ≡ true
-unfolding endsLevelSafely dropWhile ofByte frontByte endsLevel isW
+unfolding endsLevelSafely dropWhile ofByte frontByte endsLevel
 safe-paren x t i e h =
     let c = byte x in
-    let a : eqb c 59 ≡ false = or-right (within 9 13 c || eqb c 32) (eqb c 59) e in
-    let b : eqb c 32 ≡ false = or-right (within 9 13 c) (eqb c 32) (or-left (within 9 13 c || eqb c 32) (eqb c 59) e) in
+    let a : eqb c 59 ≡ false = or-right (isW c) (eqb c 59) e in
+    let b : eqb c 32 ≡ false = another isW 32 c (gap-w 32 refl) (or-left (isW c) (eqb c 59) e) in
     rw (i, a, b) at h
 
 -- a level that ends safely runs over bytes that open nothing
@@ -284,8 +271,8 @@ module _ (xs : List ℕ) (ends : endsLive (marksFrom 0 xs) ≡ true) (safe : end
   level-visits info h = run-visits xs safe
 
 run-keep : (t u : List Marked) → endsLive t ≡ true → run (t ++ u) ≡ run t
-unfolding ofByte endsLevel isW within
-run-keep t u h = while-keep (ofByte (λ c. not (endsLevel c))) refl t u h
+unfolding ofByte
+run-keep t u h = while-keep (ofByte (λ c. not (endsLevel c))) (ap not semi-ends) t u h
 
 len-keep : (l : Level) (t u : List Marked) → endsLive t ≡ true → levelLen l (t ++ u) ≡ levelLen l t
 unfolding levelLen
@@ -299,13 +286,13 @@ exception-short t =
     t
 
 len-short : (l : Level) (t : List Marked) → endsLive t ≡ true → levelIn levelWords t ≡ some l → levelLen l t < length t
-unfolding levelLen ofByte endsLevel isW within
+unfolding levelLen ofByte
 len-short exception t h e = exception-short t h (found-exception t e)
-len-short notice t h e = while-short (ofByte (λ c. not (endsLevel c))) refl t h
-len-short warning t h e = while-short (ofByte (λ c. not (endsLevel c))) refl t h
-len-short debug t h e = while-short (ofByte (λ c. not (endsLevel c))) refl t h
-len-short log t h e = while-short (ofByte (λ c. not (endsLevel c))) refl t h
-len-short info t h e = while-short (ofByte (λ c. not (endsLevel c))) refl t h
+len-short notice t h e = while-short (ofByte (λ c. not (endsLevel c))) (ap not semi-ends) t h
+len-short warning t h e = while-short (ofByte (λ c. not (endsLevel c))) (ap not semi-ends) t h
+len-short debug t h e = while-short (ofByte (λ c. not (endsLevel c))) (ap not semi-ends) t h
+len-short log t h e = while-short (ofByte (λ c. not (endsLevel c))) (ap not semi-ends) t h
+len-short info t h e = while-short (ofByte (λ c. not (endsLevel c))) (ap not semi-ends) t h
 
 -- ---- the content
 

@@ -4,14 +4,14 @@
 use mathlib.Core.Path.{_≡_, refl, sym, ap, _∙_, subst}
 use mathlib.Core.Bool.{Bool, true, false, cond, not, _&&_, _||_, false≢true}
 use mathlib.Core.List.{List, [], _∷_}
-use Prim.Native.Nat.{ℕ, _+_, _-_}
-use native.Mathlib.Omega.{arith}
-use borrow.Author.Tests.{eqb-true, leb-true}
-use lib.Dec.{eqb, leb}
-use Rattle.spec.proofs.Choice.{by, cond-case, and-left, or-cases}
+use Prim.Native.Nat.{ℕ, _-_}
+use borrow.Author.Tests.{eqb-true}
+use lib.Dec.{eqb}
+use Rattle.spec.proofs.ByteSets.{sign-not-ident, sign-not-w, gap-w, letter-ident, letter-not-w, w-not-ident, upper-cases}
+use Rattle.spec.proofs.Choice.{by, cond-case, or-cases}
 use Rattle.spec.specs.Bytes.{ascii, within, isDigit, isLower, isUpper, isIdent, isW, upper}
 use Rattle.spec.specs.Map.{Marked, live, byte, isLive, lives, frontByte}
-use Rattle.joining.proofs.Bools.{clash, no, and-no, at, another, ident-not-white}
+use Rattle.joining.proofs.Bools.{clash, no, and-no, at, another}
 use Rattle.joining.proofs.Reading.{Reads, leaves, Takes, Reading}
 
 -- where the reading stands: behind no identifier byte, in a word, behind so many letters of RAISE, behind RAISE and a
@@ -102,37 +102,22 @@ seenEdge closed = true
 
 -- ---- letters
 
--- a letter in either case
-pub upper-cases : (P : ℕ → Type 0) (c n : ℕ) → upper c ≡ n → P n → P (n + 32) → P c
-unfolding upper isLower within
-upper-cases P c n e a b =
-    by (isLower c)
-    (λ l.
-    let f : c - 32 ≡ n = sym (rw l refl) ∙ e in
-    let g = leb-true 97 c (and-left (leb 97 c) (leb c 122) l) in
-    let h : n + 32 ≡ c = omega arith in
-    subst P h b)
-    (λ l. let f : c ≡ n = sym (rw l refl) ∙ e in subst P (sym f) a)
-
 -- levels begin with identifier bytes other than R
 pub level-letter : (c : ℕ) → levelLetter c ≡ true → (isIdent c ≡ true) × (eqb (upper c) 82 ≡ false)
-unfolding levelLetter upper isIdent isLower isUpper isDigit within
+unfolding levelLetter upper isLower within
 level-letter c h =
-    or-cases (eqb (upper c) 69) _ h (λ e. upper-cases P c 69 (eqb-true (upper c) 69 e) (refl, refl) (refl, refl))
-    (λ h. or-cases (eqb (upper c) 78) _ h (λ e. upper-cases P c 78 (eqb-true (upper c) 78 e) (refl, refl) (refl, refl))
-    (λ h. or-cases (eqb (upper c) 87) _ h (λ e. upper-cases P c 87 (eqb-true (upper c) 87 e) (refl, refl) (refl, refl))
-    (λ h. or-cases (eqb (upper c) 68) _ h (λ e. upper-cases P c 68 (eqb-true (upper c) 68 e) (refl, refl) (refl, refl))
-    (λ h. or-cases (eqb (upper c) 76) (eqb (upper c) 73) h (λ e. upper-cases P c 76 (eqb-true (upper c) 76 e) (refl, refl) (refl, refl))
-    (λ e. upper-cases P c 73 (eqb-true (upper c) 73 e) (refl, refl) (refl, refl))))))
+    or-cases (eqb (upper c) 69) _ h (λ e. upper-cases P c 69 (eqb-true (upper c) 69 e) (letter-ident 69 refl, refl) (letter-ident 101 refl, refl))
+    (λ h. or-cases (eqb (upper c) 78) _ h (λ e. upper-cases P c 78 (eqb-true (upper c) 78 e) (letter-ident 78 refl, refl) (letter-ident 110 refl, refl))
+    (λ h. or-cases (eqb (upper c) 87) _ h (λ e. upper-cases P c 87 (eqb-true (upper c) 87 e) (letter-ident 87 refl, refl) (letter-ident 119 refl, refl))
+    (λ h. or-cases (eqb (upper c) 68) _ h (λ e. upper-cases P c 68 (eqb-true (upper c) 68 e) (letter-ident 68 refl, refl) (letter-ident 100 refl, refl))
+    (λ h. or-cases (eqb (upper c) 76) (eqb (upper c) 73) h (λ e. upper-cases P c 76 (eqb-true (upper c) 76 e) (letter-ident 76 refl, refl) (letter-ident 108 refl, refl))
+    (λ e. upper-cases P c 73 (eqb-true (upper c) 73 e) (letter-ident 73 refl, refl) (letter-ident 105 refl, refl))))))
   where
     P : ℕ → Type 0
     P n = (isIdent n ≡ true) × (eqb (upper n) 82 ≡ false)
 
 pub no-level-letter : (c : ℕ) → isIdent c ≡ false → levelLetter c ≡ false
 no-level-letter c h = by (levelLetter c) (λ e. clash (sym (level-letter c e .0) ∙ h)) (λ e. e)
-
-pub white-not-ident : (c : ℕ) → isW c ≡ true → isIdent c ≡ false
-white-not-ident c h = by (isIdent c) (λ e. clash (sym h ∙ ident-not-white c e)) (λ e. e)
 
 -- ---- one byte
 
@@ -202,7 +187,7 @@ seen-forth inLevel x h =
 seen-forth closed x h = absurd (false≢true h)
 
 pub seen-settle : (s : Seen) (x : Marked) → isW (byte x) ≡ false → seenOk false s x ≡ true → seenFirm (seenNext s x) ≡ true
-unfolding seenNext isW within
+unfolding seenNext
 seen-settle edge x w h = start-cases (λ (z : Seen). seenFirm z ≡ true) x refl refl refl
 seen-settle inWord x w h = cond-case (λ (z : Seen). seenFirm z ≡ true) (isIdent (byte x)) inWord edge (λ _. refl) (λ _. refl)
 seen-settle r1 x w h = letter-cases (λ (z : Seen). seenFirm z ≡ true) 65 r2 x refl refl refl
@@ -212,7 +197,7 @@ seen-settle r4 x w h = letter-cases (λ (z : Seen). seenFirm z ≡ true) 69 r5 x
 seen-settle r5 x w h =
     by (isIdent (byte x)) (λ e. rw e refl)
     (λ e. or-cases (eqb (byte x) 32) false (rw e at h)
-    (λ f. let n : eqb (byte x) 32 ≡ false = another isW 32 (byte x) refl w in clash (sym f ∙ n))
+    (λ f. let n : eqb (byte x) 32 ≡ false = another isW 32 (byte x) (gap-w 32 refl) w in clash (sym f ∙ n))
     (λ f. clash (sym f)))
 seen-settle gap x w h =
     cond-case (λ (z : Seen). seenFirm z ≡ true) (levelLetter (byte x)) inLevel (wordStart x) (λ _. refl)
@@ -371,18 +356,17 @@ seen-newline closed x e = rw e refl
 
 pub seen-white : (x : Marked) → isW (byte x) ≡ true → seenNext edge x ≡ edge
 unfolding seenNext wordStart
-seen-white x w = rw (white-not-ident (byte x) w) refl
+seen-white x w = rw (w-not-ident (byte x) w) refl
 
 end-not-ident : (c : ℕ) → (isW c || eqb c 59) ≡ true → isIdent c ≡ false
-unfolding isIdent isLower isUpper isDigit within
-end-not-ident c h = or-cases (isW c) (eqb c 59) h (λ w. white-not-ident c w) (λ e. at (λ (n : ℕ). isIdent n ≡ false) 59 c e refl)
+end-not-ident c h = or-cases (isW c) (eqb c 59) h (λ w. w-not-ident c w) (λ e. at (λ (n : ℕ). isIdent n ≡ false) 59 c e (sign-not-ident 59 refl))
 
 tail-five : (x : Marked) → (isW (byte x) || eqb (byte x) 59) ≡ true → seenOk false r5 x ≡ true → seenOk false (seenNext r5 x) (live 59) ≡ true → ⊥
-unfolding seenNext isW within
+unfolding seenNext
 tail-five x w h g =
     let i = end-not-ident (byte x) w in
     by (eqb (byte x) 32)
-    (λ f. false≢true (rw (i, f) at g))
+    (λ f. false≢true (rw (i, f, sign-not-w 59 refl) at g))
     (λ f. false≢true (rw (i, f) at h))
 
 tail-gap : (a b : Bool) → (a || b) ≡ true → (not a && not b) ≡ true → ⊥
@@ -391,8 +375,7 @@ tail-gap false true w h = false≢true h
 tail-gap false false w h = false≢true w
 
 tail-level : seenOk false inLevel (live 59) ≡ true
-unfolding isIdent isLower isUpper isDigit within
-tail-level = refl
+tail-level = rw (sign-not-ident 59 refl) refl
 
 pub seen-tail : (s : Seen) (x : Marked) → (isW (byte x) || eqb (byte x) 59) ≡ true → seenOk false s x ≡ true → seenOk false (seenNext s x) (live 59) ≡ true
     → seenOk false s (live 59) ≡ true
@@ -509,8 +492,7 @@ seen-space closed h = absurd (false≢true h)
 
 -- an F behind a space
 f-allowed : (x : Marked) → eqb (upper (byte x)) 70 ≡ true → seenOk false gap x ≡ true
-unfolding isW within
-f-allowed x f = upper-cases (λ (n : ℕ). (not (isW n) && not (eqb n 59)) ≡ true) (byte x) 70 (eqb-true (upper (byte x)) 70 f) refl refl
+f-allowed x f = upper-cases (λ (n : ℕ). (not (isW n) && not (eqb n 59)) ≡ true) (byte x) 70 (eqb-true (upper (byte x)) 70 f) (rw (letter-not-w 70 refl) refl) (rw (letter-not-w 102 refl) refl)
 
 f-next : (x : Marked) → eqb (upper (byte x)) 70 ≡ true → seenNext gap x ≡ seenNext edge x
 unfolding seenNext levelLetter

@@ -10,8 +10,9 @@ use borrow.Author.Tests.{eqb-true, le-leb}
 use lib.Dec.{eqb, leb}
 use lib.ListN.{length, drop}
 use lib.Seq.{drop-drop}
+use Rattle.spec.proofs.ByteSets.{letter-ident, not-word, upper-cases}
 use Rattle.spec.proofs.Choice.{by, and-left, and-right, or-left, or-right}
-use Rattle.spec.specs.Bytes.{ascii, within, isDigit, isLower, isUpper, isIdent, isWord, upper}
+use Rattle.spec.specs.Bytes.{ascii, within, isLower, isIdent, isWord, upper}
 use Rattle.spec.specs.Lists.{dropWhile}
 use Rattle.spec.specs.Map.{Marked, byte, isLive, frontByte, frontLive, ofByte}
 use Rattle.spec.specs.Search.{startsIgnoringCase, wordHere}
@@ -21,7 +22,7 @@ use Rattle.joining.specs.Safe.{endsLevelSafely, levelSafe, safeBehind, r
 use Rattle.joining.proofs.Bools.{clash, no, yes, at}
 use Rattle.joining.proofs.Reading.{Reads}
 use Rattle.joining.proofs.Statements.{is-live, ends-rest, ends-ident}
-use Rattle.joining.proofs.RaiseRead.{Seen, edge, inWord, r1, r2, r3, r4, r5, gap, paren, inLevel, closed, levelLetter, level-letter, upper-cases, wordStart, letterNext, seenNext, seenOk, seenEdge}
+use Rattle.joining.proofs.RaiseRead.{Seen, edge, inWord, r1, r2, r3, r4, r5, gap, paren, inLevel, closed, levelLetter, level-letter, wordStart, letterNext, seenNext, seenOk, seenEdge}
 use Rattle.joining.proofs.RaiseReadStart.{edge-byte}
 
 abbrev pub Guarded : Seen → List Marked → Type 0
@@ -168,12 +169,12 @@ one-letter a w s z (x ∷ t) c n b =
     }
 
 aise : (t : List Marked) → Behind r1 (ascii "AISE") t → Behind r5 [] (drop 4 t)
-unfolding seenNext upper isIdent isLower isUpper isDigit within
+unfolding seenNext upper isLower within
 aise t b =
-    let two = one-letter 65 (ascii "ISE") r1 r2 t (capital 65 refl refl refl) (λ x. refl) b in
-    let three = one-letter 73 (ascii "SE") r2 r3 (drop 1 t) (capital 73 refl refl refl) (λ x. refl) two in
-    let four = one-letter 83 (ascii "E") r3 r4 (drop 1 (drop 1 t)) (capital 83 refl refl refl) (λ x. refl) three in
-    let five = one-letter 69 [] r4 r5 (drop 1 (drop 1 (drop 1 t))) (capital 69 refl refl refl) (λ x. refl) four in
+    let two = one-letter 65 (ascii "ISE") r1 r2 t (capital 65 refl (letter-ident 65 refl) (letter-ident 97 refl)) (λ x. refl) b in
+    let three = one-letter 73 (ascii "SE") r2 r3 (drop 1 t) (capital 73 refl (letter-ident 73 refl) (letter-ident 105 refl)) (λ x. refl) two in
+    let four = one-letter 83 (ascii "E") r3 r4 (drop 1 (drop 1 t)) (capital 83 refl (letter-ident 83 refl) (letter-ident 115 refl)) (λ x. refl) three in
+    let five = one-letter 69 [] r4 r5 (drop 1 (drop 1 (drop 1 t))) (capital 69 refl (letter-ident 69 refl) (letter-ident 101 refl)) (λ x. refl) four in
     let e : drop 1 (drop 1 (drop 1 (drop 1 t))) ≡ drop 4 t =
     ap (λ (u : List Marked). drop 1 (drop 1 u)) (drop-drop 1 1 t) ∙ (ap (drop 1) (drop-drop 1 2 t) ∙ drop-drop 1 3 t) in
     subst (λ (u : List Marked). Behind r5 [] u) e five
@@ -201,15 +202,15 @@ r-next closed x e l u i = r-start x l u i
 raise-safe : (s : Seen) (p : ℕ) (x : Marked) (t : List Marked) → seenEdge s ≡ not (isIdent p) → endsLive (x ∷ t) ≡ true → Guarded s (x ∷ t)
     → wordHere isWord (ascii "RAISE") p (x ∷ t) ≡ true
     → safeBehind (drop 4 t) ≡ true
-unfolding wordHere frontLive startsIgnoringCase isWord upper isIdent isLower isUpper isDigit within
+unfolding wordHere frontLive startsIgnoringCase upper isLower within
 raise-safe s p x t e h r w =
     let l = and-left (isLive x) _ w in
     let w1 = and-right (isLive x) _ w in
     let m = and-left (startsIgnoringCase (ascii "RAISE") (x ∷ t)) _ w1 in
     let w2 = and-right (startsIgnoringCase (ascii "RAISE") (x ∷ t)) _ w1 in
-    let left = or-left (isIdent p) (eqb p 36) (no (isWord p) (and-left (not (isWord p)) _ w2)) in
-    let right = or-left (isIdent (frontByte (drop 4 t))) (eqb (frontByte (drop 4 t)) 36) (no (isWord (frontByte (drop 4 t))) (and-right (not (isWord p)) _ w2)) in
-    let u = capital 82 refl refl refl (byte x) (and-left (eqb (upper (byte x)) (upper 82)) (startsIgnoringCase (ascii "AISE") t) m) in
+    let left = not-word p (no (isWord p) (and-left (not (isWord p)) _ w2)) in
+    let right = not-word (frontByte (drop 4 t)) (no (isWord (frontByte (drop 4 t))) (and-right (not (isWord p)) _ w2)) in
+    let u = capital 82 refl (letter-ident 82 refl) (letter-ident 114 refl) (byte x) (and-left (eqb (upper (byte x)) (upper 82)) (startsIgnoringCase (ascii "AISE") t) m) in
     let n = r-next s x (e ∙ yes (isIdent p) left) l (u .0) (u .1) in
     let b =
     aise t

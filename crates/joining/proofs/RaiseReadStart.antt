@@ -5,13 +5,14 @@ use mathlib.Core.List.{List, [], _∷_}
 use Prim.Native.Nat.{ℕ}
 use lib.Dec.{eqb}
 use lib.ListN.{length, drop}
+use Rattle.spec.proofs.ByteSets.{sign-not-ident, ident-not-w}
 use Rattle.spec.proofs.Choice.{by, cond-case, and-left, and-right, and-both, or-cases}
-use Rattle.spec.specs.Bytes.{ascii, within, isDigit, isLower, isUpper, isIdent, upper}
+use Rattle.spec.specs.Bytes.{ascii, within, isLower, isIdent, upper}
 use Rattle.spec.specs.Lists.{dropWhile}
 use Rattle.spec.specs.Map.{Marked, byte, isLive, frontByte, frontLive, ofByte}
 use Rattle.spec.specs.Search.{startsIgnoringCase, wordHere}
 use Rattle.spec.specs.Closed.{endsWord, isFollowed, raisesFollowed}
-use Rattle.joining.proofs.Bools.{no, at, other, ident-not-white}
+use Rattle.joining.proofs.Bools.{no, at, other}
 use Rattle.joining.proofs.RaiseRead.{Seen, edge, inWord, r1, r2, r3, r4, r5, gap, paren, inLevel, closed, levelLetter, level-letter, wordStart, letterNext, seenNext, seenOk, seenEdge, RaiseRead}
 
 -- where w stands in front and no identifier byte behind it, what follows is as *closed* says
@@ -127,11 +128,11 @@ level-known x t k =
 -- behind the space
 gap-known : (p : ℕ) (x : Marked) (t : List Marked) → isIdent p ≡ false → raisesFollowed p (x ∷ t) ≡ true → Known gap (x ∷ t)
     → (seenOk false gap x ≡ true) × Known (seenNext gap x) t
-unfolding seenNext frontByte dropWhile ofByte isIdent isLower isUpper isDigit within
+unfolding seenNext frontByte dropWhile ofByte
 gap-known p x t n h k =
     let i = and-left (isIdent (byte x)) _ k in
     let d = and-right (isIdent (byte x)) _ k in (
-      rw (ident-not-white (byte x) i, other isIdent 59 (byte x) refl i) refl,
+      rw (ident-not-w (byte x) i, other isIdent 59 (byte x) (sign-not-ident 59 refl) i) refl,
       cond-case (λ (z : Seen). Known z t) (levelLetter (byte x)) inLevel (wordStart x) (λ _. rw i at d) (λ _. start-known p x t n h),
     )
 

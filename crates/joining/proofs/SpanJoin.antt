@@ -10,10 +10,11 @@ use borrow.Author.Tests.{eqb-true}
 use lib.Dec.{eqb}
 use lib.ListN.{length, take, drop, replicate, length-drop, List·getD-append}
 use lib.Seq.{length-take-le, take-append-le, drop-append-le}
+use Rattle.spec.proofs.ByteSets.{sign-not-ident}
 use Rattle.spec.proofs.Choice.{cond-case}
 use Rattle.spec.proofs.SpanLaws.{seek-le, prefix-len, opens-in, by-kind, span-pos, span-le}
 use Rattle.spec.proofs.MapLaws.{map-append, map-length, map-step, spanFlag}
-use Rattle.spec.specs.Bytes.{within, isDigit, isLower, isUpper, isIdent, isPair, isPrefix}
+use Rattle.spec.specs.Bytes.{isIdent, isPair, isPrefix}
 use Rattle.spec.specs.Spans.{lineLen, commentLen, blockLen, escapes, quoteLen, quotedLen, tagLen, seekLen, opensDollar, dollarOf, code, kindAt, spanOf, spanAt, spanLen, Lexeme, lexemeAt, lexemesFrom, lexemes}
 use Rattle.spec.specs.Map.{regionOf, regionsOf, flag, mapOf, Marked, live, quoted, mark, marked, markedText, isLiveByte}
 use Rattle.spec.specs.Closed.{endsLive}
@@ -245,9 +246,9 @@ ends-one (suc k) c h = absurd (false≢true h)
 
 -- a tag ends before that `;`
 ends-tag : (k : ℕ) (xs : List ℕ) → endsLive (marksFrom k xs) ≡ true → tagLen xs < length xs
-unfolding marksFrom endsLive tagLen isIdent isLower isUpper isDigit within
+unfolding marksFrom endsLive tagLen
 ends-tag k [] h = absurd (false≢true h)
-ends-tag k (c ∷ []) h = rw (ends-one k c h .1) (suc-le-suc zero-le)
+ends-tag k (c ∷ []) h = rw (ends-one k c h .1, sign-not-ident 59 refl) (suc-le-suc zero-le)
 ends-tag zero (c ∷ d ∷ cs) h =
     let m = spanLen (spanAt (c ∷ d ∷ cs)) - 1 in
     let r = ends-tag m (d ∷ cs) (ends-rest (mark (spanFlag (spanAt (c ∷ d ∷ cs))) c) m d cs h) in

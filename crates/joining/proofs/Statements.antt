@@ -1,11 +1,12 @@
 -- A text that ends in a live `;`, cut into statements and put together again. Assumes nothing.
-use mathlib.Core.Path.{_≡_, refl, ap, _∙_, subst}
+use mathlib.Core.Path.{_≡_, refl, sym, ap, _∙_, subst}
 use mathlib.Core.Bool.{Bool, true, false≢true}
 use mathlib.Core.List.{List, [], _∷_, _++_}
 use Prim.Native.Nat.{ℕ}
 use borrow.Author.Tests.{eqb-true}
+use Rattle.spec.proofs.ByteSets.{sign-not-ident}
 use Rattle.spec.proofs.Choice.{by}
-use Rattle.spec.specs.Bytes.{within, isDigit, isLower, isUpper, isIdent}
+use Rattle.spec.specs.Bytes.{isIdent}
 use Rattle.spec.specs.Map.{Marked, live, quoted, byte, isLiveByte}
 use Rattle.spec.specs.Search.{byteHere, ontoFirst, piecesFrom, pieces}
 use Rattle.spec.specs.Closed.{endsLive}
@@ -32,8 +33,8 @@ ends-rest x (y ∷ t) h n = h
 
 -- the last byte is a `;`, no identifier byte
 pub ends-ident : (x : Marked) (t : List Marked) → isIdent (byte x) ≡ true → endsLive (x ∷ t) ≡ true → endsLive t ≡ true
-unfolding endsLive isIdent isLower isUpper isDigit within
-ends-ident x [] i h = absurd (false≢true (subst (λ (y : Marked). isIdent (byte y) ≡ true) (is-live 59 x h) i))
+unfolding endsLive
+ends-ident x [] i h = absurd (false≢true (sym (sign-not-ident 59 refl) ∙ subst (λ (y : Marked). isIdent (byte y) ≡ true) (is-live 59 x h) i))
 ends-ident x (y ∷ t) i h = h
 
 module _ (k : Reading) where

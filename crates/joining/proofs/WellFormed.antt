@@ -9,10 +9,11 @@ use native.Mathlib.Omega.{arith}
 use borrow.Author.Tests.{eqb-true}
 use lib.Dec.{eqb}
 use lib.ListN.{length, take, drop, getD, replicate}
+use Rattle.spec.proofs.ByteSets.{sign-not-ident}
 use Rattle.spec.proofs.Choice.{by, and-left, and-right, or-left, or-right}
 use Rattle.spec.proofs.SpanLaws.{span-le}
 use Rattle.spec.proofs.MapLaws.{spanFlag, map-step}
-use Rattle.spec.specs.Bytes.{within, isDigit, isLower, isUpper, isIdent, isQuote, isPair}
+use Rattle.spec.specs.Bytes.{within, isDigit, isIdent, isQuote, isPair}
 use Rattle.spec.specs.Spans.{escapes, quoteLen, quotedLen, tagLen, opensDollar, single, double, code, kindAt, spanOf, spanAt, spanLen}
 use Rattle.spec.specs.Map.{Marked, live, quoted, byte, mark, marked, markedText, mapOf, bytes}
 use Rattle.spec.specs.SelectInto.{quoteAfter, quoteWalk}
@@ -128,8 +129,8 @@ pub record Formed (t : List Marked) : Type 0 where
   pub out : isOut (leaves wellNext clear t) ≡ true
 
 pub next-ident : (s : Open) (c : ℕ) → isIdent c ≡ true → liveNext s c ≡ tagged s c
-unfolding liveNext isIdent isLower isUpper isDigit within
-next-ident s c h = rw (other isIdent 45 c refl h, other isIdent 47 c refl h, other isIdent 36 c refl h, h) refl
+unfolding liveNext
+next-ident s c h = rw (other isIdent 45 c (sign-not-ident 45 refl) h, other isIdent 47 c (sign-not-ident 47 refl) h, other isIdent 36 c (sign-not-ident 36 refl) h, h) refl
 
 pub live-quote : (s : Open) (c : ℕ) → liveOk s c ≡ true → isQuote c ≡ false
 live-quote clear c h = no (isQuote c) h
@@ -169,17 +170,17 @@ opens-tag c cs =
     ap (λ (n : ℕ). eqb c 36 && (not (isDigit (getD cs 0 0)) && eqb (getD (c ∷ cs) n 0) 36)) e
 
 front-tag : (t : List Marked) → Well tag t → closesTag (bytes t) ≡ false
-unfolding bytes closesTag tagLen isIdent isLower isUpper isDigit within
+unfolding bytes closesTag tagLen
 front-tag [] o = refl
 front-tag (live c ∷ t) o =
     by (isIdent c)
     (λ e. rw e (front-tag t (rw (next-ident tag c e) at (o .1))))
     (λ e. rw e (no (eqb c 36) (and-right (not (isQuote c)) (not (eqb c 36)) (o .0))))
-front-tag (quoted c ∷ t) o = quotes (λ (n : ℕ). eqb (getD (n ∷ bytes t) (tagLen (n ∷ bytes t)) 0) 36 ≡ false) c (o .0) refl refl
+front-tag (quoted c ∷ t) o = quotes (λ (n : ℕ). eqb (getD (n ∷ bytes t) (tagLen (n ∷ bytes t)) 0) 36 ≡ false) c (o .0) (rw (sign-not-ident 39 refl) refl) (rw (sign-not-ident 34 refl) refl)
 
 quote-tag : (c : ℕ) (cs : List ℕ) → isQuote c ≡ true → isTag (c ∷ cs) ≡ false
-unfolding isTag closesTag tagLen isIdent isLower isUpper isDigit within
-quote-tag c cs e = quotes (λ (n : ℕ). isTag (n ∷ cs) ≡ false) c e refl refl
+unfolding isTag closesTag tagLen isDigit within
+quote-tag c cs e = quotes (λ (n : ℕ). isTag (n ∷ cs) ≡ false) c e (rw (sign-not-ident 39 refl) refl) (rw (sign-not-ident 34 refl) refl)
 
 front-sign : (t : List Marked) → Well sign t → isTag (bytes t) ≡ false
 unfolding bytes isTag closesTag tagLen isDigit within

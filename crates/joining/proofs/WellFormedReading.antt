@@ -4,6 +4,7 @@ use mathlib.Core.Bool.{true, false, cond, not, _||_, false≢true}
 use mathlib.Core.List.{List, [], _∷_}
 use Prim.Native.Nat.{ℕ}
 use lib.Dec.{eqb}
+use Rattle.spec.proofs.ByteSets.{sign-not-w, gap-w, w-not-ident}
 use Rattle.spec.proofs.Choice.{by, or-left, or-right}
 use Rattle.spec.specs.Bytes.{ascii, within, isDigit, isLower, isUpper, isIdent, isQuote, isW}
 use Rattle.spec.specs.Map.{Marked, live, quoted, byte, lives}
@@ -62,8 +63,8 @@ weaken (quoted c ∷ u) s h r =
     ((sym (q .0) ∙ r .0, subst (λ (z : Open). Well z u) (q .1) (r .1)), (λ z. subst (λ (y : Open). isOut (leaves wellNext y u) ≡ true) (q .1) z))
 
 pub well-newline : (s : Open) (x : Marked) → byte x ≡ 10 → wellOk s x ≡ true → wellNext s x ≡ clear
-unfolding liveNext isIdent isLower isUpper isDigit within isQuote
-well-newline s (live c) e o = rw e refl
+unfolding liveNext isQuote
+well-newline s (live c) e o = rw (e, w-not-ident 10 (gap-w 10 refl)) refl
 well-newline s (quoted c) e o = absurd (none s (subst (λ (n : ℕ). quotedOk s n ≡ true) e o))
   where
     none : (s : Open) → quotedOk s 10 ≡ true → ⊥
@@ -76,9 +77,9 @@ well-newline s (quoted c) e o = absurd (none s (subst (λ (n : ℕ). quotedOk s 
     none inDouble h = false≢true h
 
 pub well-white : (x : Marked) → isW (byte x) ≡ true → wellOk clear x ≡ true → wellNext clear x ≡ clear
-unfolding liveNext isW within
+unfolding liveNext
 well-white (live c) w o =
-    rw (other isW 45 c refl w, other isW 47 c refl w, other isW 36 c refl w)
+    rw (other isW 45 c (sign-not-w 45 refl) w, other isW 47 c (sign-not-w 47 refl) w, other isW 36 c (sign-not-w 36 refl) w)
     (by (isIdent c) (λ i. rw i refl) (λ i. rw i refl))
 well-white (quoted c) w o = clash (sym o ∙ white-no-quote c w)
 
@@ -93,8 +94,7 @@ semi-ok inSingle h = h
 semi-ok inDouble h = h
 
 end-no-quote : (c : ℕ) → (isW c || eqb c 59) ≡ true → isQuote c ≡ false
-unfolding isW within
-end-no-quote c h = no-quote (λ n. isW n || eqb n 59) c refl refl h
+end-no-quote c h = no-quote (λ n. isW n || eqb n 59) c (rw (sign-not-w 39 refl) refl) (rw (sign-not-w 34 refl) refl) h
 
 pub well-tail : (s : Open) (x : Marked) → (isW (byte x) || eqb (byte x) 59) ≡ true → wellOk s x ≡ true → wellOk (wellNext s x) (live 59) ≡ true
     → wellOk s (live 59) ≡ true

@@ -1,4 +1,3 @@
-pub mod TextLaws
 pub mod ContentLaws
 pub mod MessageLaws
 pub mod UsingLaws

@@ -1,25 +1,25 @@
 -- The message in a content: where a `'` literal closes, and the words up to a comma. Assumes nothing.
 use mathlib.Core.Path.{_≡_, refl, ap, _∙_}
-use mathlib.Core.Bool.{Bool, false, cond, not, _&&_}
+use mathlib.Core.Bool.{false, cond, not, _&&_}
 use mathlib.Core.List.{List, [], _∷_}
 use Prim.Native.Nat.{ℕ, suc, _+_, _-_, _≤_, _<_, zero-le, suc-le-suc}
 use native.Mathlib.Omega.{arith}
 use borrow.Author.Tests.{eq-eqb, ne-eqb, eqb-true, eqb-false}
 use lib.Dec.{eqb}
 use lib.ListN.{length, take, drop, getD, length-take, length-drop, drop-of-length-le}
-use Rattle.spec.proofs.BytesLaws.{bytes-lives, front-bytes, bytes-while, bytes-skip, bytes-end, bytes-take, bytes-drop}
+use Rattle.spec.proofs.BytesLaws.{bytes-lives, front-bytes, bytes-while, bytes-take, bytes-drop}
 use Rattle.spec.proofs.RefusalBounds.{bytes-length}
 use Rattle.spec.proofs.AheadLaws.{drop-one, drop-two, tail-one}
 use Rattle.spec.proofs.Choice.{by, cond-case, cond-le, and-left}
-use Rattle.spec.proofs.ListLaws.{drop-end-le, drop-while-le}
+use Rattle.spec.proofs.MessagePlaces.{noComma}
 use Rattle.spec.proofs.SpanLaws.{seen}
 use Rattle.spec.proofs.WalkLaws.{while-length}
-use Rattle.spec.specs.Bytes.{isW}
-use Rattle.spec.specs.Lists.{takeWhile, dropWhile, dropEnd}
+use Rattle.spec.specs.Lists.{takeWhile}
 use Rattle.spec.specs.Map.{Marked, byte, bytes, lives, ofByte}
-use Rattle.spec.specs.Assignments.{trim, trimEnd}
 use Rattle.spec.specs.Raise.{closeLen, message}
-use Rattle.messages.specs.Readings.{trimmed, literalLen}
+use Rattle.messages.specs.Readings.{literalLen}
+use Rattle.runs.specs.Sets.{trimmed}
+use Rattle.runs.proofs.RunLaws.{trimmed-le, trim-bytes}
 
 -- ---- where a literal closes
 
@@ -130,14 +130,6 @@ literal-le xs =
 
 -- ---- the message
 
--- a byte before the first comma
-abbrev pub noComma : ℕ → Bool
-noComma c = not (eqb c 44)
-
-pub bytes-trim : (t : List Marked) → bytes (trim t) ≡ trimmed (bytes t)
-unfolding trim trimEnd trimmed
-bytes-trim t = bytes-end isW (dropWhile (ofByte isW) t) ∙ ap (dropEnd isW) (bytes-skip isW t)
-
 -- the message by the bytes: a closed literal in front, else the trimmed text up to the first comma
 abbrev pub messageIn : List ℕ → List ℕ
 messageIn xs = cond (eqb (literalLen xs) 0) (trimmed (takeWhile noComma xs)) (take (literalLen xs) xs)
@@ -150,7 +142,7 @@ message-is t xs e =
     rw (same, front-bytes t, e)
     (by (eqb (getD xs 0 0) 39 && not (eqb m 0))
     (λ q. rw (q, ne-eqb (1 + m) 0 (λ z. omega arith)) (bytes-take (1 + m) t ∙ ap (take (1 + m)) e))
-    (λ q. rw q (bytes-trim (takeWhile (ofByte noComma) t) ∙ ap trimmed (bytes-while noComma t ∙ ap (takeWhile noComma) e))))
+    (λ q. rw q (trim-bytes (takeWhile (ofByte noComma) t) ∙ ap trimmed (bytes-while noComma t ∙ ap (takeWhile noComma) e))))
 
 module _ (t : List Marked) (xs : List ℕ) (e : bytes t ≡ xs) where
   -- a closed literal in front is the message
@@ -160,10 +152,6 @@ module _ (t : List Marked) (xs : List ℕ) (e : bytes t ≡ xs) where
   -- else it is the trimmed text up to the first comma
   pub message-words : literalLen xs ≡ 0 → bytes (message t) ≡ trimmed (takeWhile noComma xs)
   message-words h = message-is t xs e ∙ rw (eq-eqb (literalLen xs) 0 h)
-
-pub trimmed-le : (xs : List ℕ) → length (trimmed xs) ≤ length xs
-unfolding trimmed
-trimmed-le xs = omega (arith, drop-end-le isW (dropWhile isW xs), drop-while-le isW xs)
 
 -- it is no longer than the text
 pub message-le : (xs : List ℕ) → length (messageIn xs) ≤ length xs

@@ -22,10 +22,11 @@ use Rattle.spec.specs.Outcome.{accepted, forget}
 use Rattle.spec.specs.Raise.{Level, exception, notice, warning, debug, log, info, levelWords, levelIn, endsLevel, isException, levelLen, actionOf, contentOf, actionFate, fateText, raisedAt}
 use Rattle.messages.specs.declared.RaiseLevel.the-variants as level
 use Rattle.messages.specs.declared.RaiseFate.the-variants.{Aborts, Dropped, Passed}
-use Rattle.messages.specs.Readings.{levelFound, trimmed, contentIn, abortOf, Reads}
-use Rattle.messages.proofs.TextLaws.{runEnd}
+use Rattle.messages.specs.Readings.{levelFound, contentIn, abortOf, Reads}
+use Rattle.spec.proofs.RunPlaces.{endFrom}
+use Rattle.runs.specs.Sets.{trimmed}
+use Rattle.runs.proofs.RunLaws.{trim-bytes}
 use Rattle.messages.proofs.ContentLaws.{content-bytes}
-use Rattle.messages.proofs.MessageLaws.{bytes-trim}
 use Rattle.messages.proofs.UsingLaws.{abort-marks}
 
 -- ---- the level
@@ -105,7 +106,7 @@ module _ (t : List Marked) (xs : List ℕ) (e : bytes t ≡ xs) where
 
   -- another level: the statement is dropped
   pub reads-other : (l : Level) → isException l ≡ false → (k n : ℕ)
-      → k ≡ runEnd (λ (c : ℕ). not (endsLevel c)) xs 6
+      → k ≡ endFrom (λ (c : ℕ). not (endsLevel c)) xs 6
       → n ≡ min (k + length (contentIn (drop k xs)) + 1) (length xs)
       → Reads t (some l) xs (record { end = n; fate = Dropped })
   unfolding raisedAt levelLen forget fateText actionFate actionOf bytes
@@ -133,6 +134,6 @@ module _ (t : List Marked) (xs : List ℕ) (e : bytes t ≡ xs) where
       let z : length u ≡ 15 + k - 15 = omega arith in
       let same : bytes u ≡ bytes (lives ys) = content-bytes (drop 15 xs) ∙ (ap (λ (m : ℕ). take m (drop 15 xs)) z ∙ sym (bytes-lives ys)) in
       record {
-        text = rw (content-at 15) (abort-marks (trim u) (trim (lives ys)) (bytes-trim u ∙ (ap trimmed same ∙ sym (bytes-trim (lives ys)))));
+        text = rw (content-at 15) (abort-marks (trim u) (trim (lives ys)) (trim-bytes u ∙ (ap trimmed same ∙ sym (trim-bytes (lives ys)))));
         ends = rw (content-at 15, ← p) h;
       }

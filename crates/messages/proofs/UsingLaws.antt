@@ -4,12 +4,15 @@ use mathlib.Core.Bool.{Bool, true, false, cond, _&&_}
 use mathlib.Core.List.{List, _++_}
 use Prim.Native.Nat.{ℕ, _+_, _-_}
 use native.Mathlib.Omega.{arith}
+use borrow.Author.Tests.{eq-eqb, ne-eqb, leb-true, leb-false}
 use lib.Dec.{eqb, leb}
-use lib.ListN.{length, drop, getD}
-use lib.Seq.{drop-drop, getD-drop}
-use Rattle.spec.proofs.BytesLaws.{bytes-lives, bytes-append, front-bytes, bytes-drop}
+use lib.ListN.{length, drop, getD, length-drop}
+use lib.Seq.{drop-drop}
+use Rattle.spec.proofs.BytesLaws.{bytes-lives, bytes-append, bytes-drop}
 use Rattle.spec.proofs.Choice.{by}
+use Rattle.spec.proofs.ListLaws.{empty-length}
 use Rattle.spec.proofs.RefusalBounds.{bytes-length}
+use Rattle.spec.proofs.RunPlaces.{byte-ahead, endFrom, ahead-at}
 use Rattle.spec.proofs.WalkLaws.{prefixBy, starts-case}
 use Rattle.spec.specs.Bytes.{ascii, upper, isW}
 use Rattle.spec.specs.Lists.{isEmpty, dropWhile}
@@ -18,7 +21,6 @@ use Rattle.spec.specs.Search.{startsIgnoringCase}
 use Rattle.spec.specs.Outcome.{usingClause, accepted, refused, Rewriting, forget}
 use Rattle.spec.specs.Raise.{message, rewritten, refusedClause, usingFate, abortFate, fateText}
 use Rattle.messages.specs.Readings.{aborting}
-use Rattle.messages.proofs.TextLaws.{runEnd, skip-to, empty-drop}
 use Rattle.messages.proofs.MessageLaws.{messageIn, message-is}
 
 -- the text of a message
@@ -41,34 +43,37 @@ unfolding forget fateText
 chosen true m c = rewritten-text m
 chosen false m c = refl
 
+-- nothing is left from i on exactly if the list ends there
+empty-drop : {A : Type 0} (t : List A) (i : ℕ) → isEmpty (drop i t) ≡ leb (length t) i
+empty-drop t i =
+    let n = length-drop i t in
+    empty-length (drop i t)
+    ∙ by (leb (length t) i)
+    (λ e. eq-eqb (length (drop i t)) 0 (omega (arith, leb-true (length t) i e)) ∙ sym e)
+    (λ e. ne-eqb (length (drop i t)) 0 (λ z. omega (arith, leb-false (length t) i e)) ∙ sym e)
+
 module _ (t : List Marked) (xs : List ℕ) (e : bytes t ≡ xs) where
   -- the tests at an offset are of the bytes
   starts-at : (w : List ℕ) (i : ℕ) → startsIgnoringCase w (drop i t) ≡ prefixBy upper w (drop i xs)
   starts-at w i = starts-case w (drop i t) ∙ ap (λ (l : List ℕ). prefixBy upper w l) (bytes-drop i t ∙ ap (drop i) e)
 
   front-at : (i : ℕ) → frontByte (drop i t) ≡ getD xs i 0
-  front-at i =
-      let z : i + 0 ≡ i = omega arith in
-      front-bytes (drop i t)
-      ∙ (ap (λ (l : List ℕ). getD l 0 0) (bytes-drop i t ∙ ap (drop i) e)
-      ∙ (getD-drop i xs 0 0 ∙ ap (λ (n : ℕ). getD xs n 0) z))
+  front-at i = let b = byte-ahead t i in rw e at b
 
   message-at : (i : ℕ) → bytes (message (drop i t)) ≡ messageIn (drop i xs)
   message-at i = message-is (drop i t) (drop i xs) (bytes-drop i t ∙ ap (drop i) e)
 
-  skip-at : (i k : ℕ) → dropWhile (ofByte isW) (drop k (drop i t)) ≡ drop (runEnd isW xs (i + k)) t
-  skip-at i k =
-      ap (dropWhile (ofByte isW)) (drop-drop k i t)
-      ∙ (skip-to isW t (i + k) ∙ ap (λ (l : List ℕ). drop (runEnd isW l (i + k)) t) e)
+  skip-at : (i k : ℕ) → dropWhile (ofByte isW) (drop k (drop i t)) ≡ drop (endFrom isW xs (i + k)) t
+  skip-at i k = ap (dropWhile (ofByte isW)) (drop-drop k i t) ∙ ahead-at isW t xs e (i + k) (endFrom isW xs (i + k)) refl .rest
 
-  rest-empty : (i k : ℕ) → isEmpty (dropWhile (ofByte isW) (drop k (drop i t))) ≡ leb (length xs) (runEnd isW xs (i + k))
+  rest-empty : (i k : ℕ) → isEmpty (dropWhile (ofByte isW) (drop k (drop i t))) ≡ leb (length xs) (endFrom isW xs (i + k))
   rest-empty i k =
       ap isEmpty (skip-at i k)
-      ∙ (empty-drop t (runEnd isW xs (i + k))
-      ∙ ap (λ (n : ℕ). leb n (runEnd isW xs (i + k))) (sym (bytes-length t) ∙ ap length e))
+      ∙ (empty-drop t (endFrom isW xs (i + k))
+      ∙ ap (λ (n : ℕ). leb n (endFrom isW xs (i + k))) (sym (bytes-length t) ∙ ap length e))
 
   -- behind USING the W end at a, behind MESSAGE at b, behind `=` at c, where the message m starts
-  module _ (a b c : ℕ) (m : List ℕ) (pa : a ≡ runEnd isW xs 5) (pb : b ≡ runEnd isW xs (a + 7)) (pc : c ≡ runEnd isW xs (b + 1)) (pm : m ≡ messageIn (drop c xs)) where
+  module _ (a b c : ℕ) (m : List ℕ) (pa : a ≡ endFrom isW xs 5) (pb : b ≡ endFrom isW xs (a + 7)) (pc : c ≡ endFrom isW xs (b + 1)) (pm : m ≡ messageIn (drop c xs)) where
     at-a : dropWhile (ofByte isW) (drop 5 t) ≡ drop a t
     at-a = skip-at 0 5 ∙ ap (λ (n : ℕ). drop n t) (sym pa)
 
@@ -86,7 +91,7 @@ module _ (t : List Marked) (xs : List ℕ) (e : bytes t ≡ xs) where
 
     -- MESSAGE, `=` and a `'` stand there, and only W behind the message
     abbrev fits : Bool
-    fits = prefixBy upper (ascii "MESSAGE") (drop a xs) && (eqb (getD xs b 0) 61 && (eqb (getD xs c 0) 39 && leb (length xs) (runEnd isW xs (c + length m))))
+    fits = prefixBy upper (ascii "MESSAGE") (drop a xs) && (eqb (getD xs b 0) 61 && (eqb (getD xs c 0) 39 && leb (length xs) (endFrom isW xs (c + length m))))
 
     using-is : becomes t ≡ cond fits (accepted (aborting m)) (refused (usingClause xs))
     unfolding usingFate
@@ -105,7 +110,7 @@ module _ (t : List Marked) (xs : List ℕ) (e : bytes t ≡ xs) where
         pub no-quote : eqb (getD xs c 0) 39 ≡ false → becomes t ≡ refused (usingClause xs)
         no-quote r = using-is ∙ simp (p, q, r)
 
-        pub at-quote : eqb (getD xs c 0) 39 ≡ true → becomes t ≡ cond (leb (length xs) (runEnd isW xs (c + length m))) (accepted (aborting m)) (refused (usingClause xs))
+        pub at-quote : eqb (getD xs c 0) 39 ≡ true → becomes t ≡ cond (leb (length xs) (endFrom isW xs (c + length m))) (accepted (aborting m)) (refused (usingClause xs))
         at-quote r = using-is ∙ simp (p, q, r)
 
   -- a content that starts with USING, and one that does not

@@ -7,8 +7,8 @@ use mathlib.Core.Option.{Option, none, some}
 use Prim.Native.Nat.{ℕ, _+_, _-_, _≤_, min}
 use lib.Dec.{eqb}
 use lib.ListN.{length, take, drop, getD}
-use Rattle.spec.specs.Bytes.{ascii, isW}
-use Rattle.spec.specs.Lists.{takeWhile, dropWhile, dropEnd}
+use Rattle.spec.specs.Bytes.{ascii}
+use Rattle.spec.specs.Lists.{takeWhile}
 use Rattle.spec.specs.Map.{Marked, lives, markedText, isLiveByte}
 use Rattle.spec.specs.Outcome.{usingClause, accepted, refused, Rewriting, forget}
 use Rattle.spec.specs.Raise.{closeLen, Level, exception, notice, warning, debug, log, info, abort, actionOf, actionFate, fateText, raisedAt}
@@ -35,10 +35,6 @@ abbrev pub levelReach : RaiseLevel → ℕ
 levelReach level.Exception = 9
 levelReach level.Other = 0
 levelReach level.Nothing = 0
-
--- without W at both ends
-unfoldable pub trimmed : List ℕ → List ℕ
-trimmed xs = dropEnd isW (dropWhile isW xs)
 
 -- a span whose first byte is b ends the statement
 abbrev pub endsStatement : Span → ℕ → Bool

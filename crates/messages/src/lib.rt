@@ -1,24 +1,23 @@
 // Pass 5's reading of a RAISE: its level, its statement's content, and the message in it.
 use classes::byte_at;
-use classes::is_w;
+use runs::Set;
+use runs::run_end;
+use runs::trim;
 use scanner::starts_ignoring_case;
 use spans::Cursor;
 use spans::Step;
 use spec::Span;
 ghost use mathlib.Core.Path.{_≡_};
-ghost use mathlib.Core.Bool.{false, cond, not};
+ghost use mathlib.Core.Bool.{false, cond};
 ghost use mathlib.Core.List.{List};
 ghost use mathlib.Core.Option.{some};
 ghost use Prim.Native.Nat.{_+_, _≤_, _<_, min};
-ghost use lib.Dec.{eqb};
 ghost use lib.ListN.{length, drop};
-ghost use Rattle.spec.specs.Bytes.{isW};
-ghost use Rattle.spec.specs.Lists.{takeWhile, dropEnd};
 ghost use Rattle.spec.specs.Map.{Marked, bytes, lives};
 ghost use Rattle.spec.specs.Outcome.{forget};
-ghost use Rattle.spec.specs.Raise.{closeLen, message, usingFate, Level, exception, levelWords, levelIn, endsLevel, isException, fateText};
+ghost use Rattle.spec.specs.Raise.{closeLen, message, usingFate, Level, exception, levelWords, levelIn, isException, fateText};
 ghost use Rattle.messages.specs.declared.RaiseLevel.the-variants as level;
-ghost use Rattle.messages.specs.Readings.{levelFound, levelReach, trimmed, endsStatement, contentIn, literalLen, abortOf, abortIn, FateWithin, Reads};
+ghost use Rattle.messages.specs.Readings.{levelFound, levelReach, endsStatement, contentIn, literalLen, abortOf, abortIn, FateWithin, Reads};
 
 // The level behind a RAISE and its separator.
 enum RaiseLevel {
@@ -76,62 +75,6 @@ fn level_at(rest: &[u8]) -> RaiseLevel
     } else {
         RaiseLevel::Nothing
     }
-}
-
-// Where the level at `from` ends that runs to W or `;`.
-fn level_end(text: &[u8], from: usize) -> usize
-    ensures { λ r. ⌜ r ≡ from + length (takeWhile (λ c. not (endsLevel c)) (drop from (now (text .entry)))) ⌝ }
-{
-    let mut i = from;
-    while i < text.len() {
-        let b = text[i];
-        if is_w(b) {
-            return i;
-        }
-        if b == b';' {
-            return i;
-        }
-        i += 1;
-    }
-    i
-}
-
-// Where the W from `from` on end.
-fn skip_w(text: &[u8], from: usize) -> usize
-    ensures { λ r. ⌜ r ≡ from + length (takeWhile isW (drop from (now (text .entry)))) ⌝ }
-{
-    let mut i = from;
-    while i < text.len() {
-        if is_w(text[i]) {
-            i += 1;
-        } else {
-            return i;
-        }
-    }
-    i
-}
-
-// The length without the W at the end.
-fn trimmed_len(text: &[u8]) -> usize
-    ensures { λ r. ⌜ r ≡ length (dropEnd isW (now (text .entry))) ⌝ }
-{
-    let mut k = text.len();
-    while 0 < k {
-        if is_w(text[k - 1]) {
-            k -= 1;
-        } else {
-            return k;
-        }
-    }
-    0
-}
-
-// The text without W at both ends.
-fn trim<'a>(text: &'a [u8]) -> &'a [u8]
-    ensures { λ r. ⌜ now r ≡ trimmed (now (text .entry)) ⌝ }
-{
-    let rest = &text[skip_w(text, 0)..];
-    &rest[..trimmed_len(rest)]
 }
 
 // Whether the span s, whose first byte is b, ends a statement.
@@ -201,20 +144,6 @@ fn literal_len(content: &[u8]) -> usize
     }
 }
 
-// How many bytes stand before the first comma.
-fn comma_len(text: &[u8]) -> usize
-    ensures { λ r. ⌜ r ≡ length (takeWhile (λ c. not (eqb c 44)) (now (text .entry))) ⌝ }
-{
-    let mut i: usize = 0;
-    while i < text.len() {
-        if text[i] == b',' {
-            return i;
-        }
-        i += 1;
-    }
-    i
-}
-
 // The message of a content: the closed literal in front, else the trimmed text up to the first comma.
 pub fn extract_first_string_literal<'a>(content: &'a [u8]) -> &'a [u8]
     requires { ⌜ length (now content) ≤ 65536 ⌝ }
@@ -222,7 +151,7 @@ pub fn extract_first_string_literal<'a>(content: &'a [u8]) -> &'a [u8]
 {
     let k = literal_len(content);
     if k == 0 {
-        let words = &content[..comma_len(content)];
+        let words = &content[..run_end(content, Set::Except(b','), 0)];
         trim(words)
     } else {
         &content[..k]
@@ -238,20 +167,20 @@ fn using_message<'a>(content: &'a [u8], refused: &mut bool) -> &'a [u8]
     ensures { λ r. ⌜ length (now r) ≤ length (now (content .entry)) ⌝ }
 {
     *refused = true;
-    let a = skip_w(content, 5);
+    let a = run_end(content, Set::W, 5);
     if !starts_ignoring_case(&content[a..], b"MESSAGE") {
         return content;
     }
-    let b = skip_w(content, a + 7);
+    let b = run_end(content, Set::W, a + 7);
     if byte_at(content, b) != b'=' {
         return content;
     }
-    let from = skip_w(content, b + 1);
+    let from = run_end(content, Set::W, b + 1);
     if byte_at(content, from) != b'\'' {
         return content;
     }
     let message = extract_first_string_literal(&content[from..]);
-    if skip_w(content, from + message.len()) < content.len() {
+    if run_end(content, Set::W, from + message.len()) < content.len() {
         return content;
     }
     *refused = false;
@@ -301,7 +230,8 @@ fn read_other(rest: &[u8]) -> RaiseRead
     ensures { λ r. ⌜ ((t : List Marked) (l : Level) → bytes t ≡ now (rest .entry) → isException l ≡ false → Reads t (some l) (now (rest .entry)) r) ⌝ }
     ensures { λ r. ⌜ FateWithin (r .fate) 15 (r .end) ⌝ }
 {
-    let k = level_end(rest, 6);
+    // The level runs to W or `;`.
+    let k = run_end(rest, Set::NotWNor(b';'), 6);
     let stop = k + content_len(&rest[k..]);
     RaiseRead {
         end: behind(stop, rest.len()),

@@ -1,44 +1,26 @@
 -- Keywords outside parentheses: each stands within the text, and one found from another's place on stands behind it and a
 -- byte. Assumes nothing.
 use mathlib.Core.Path.{_≡_, refl, sym, ap, _∙_}
-use mathlib.Core.Bool.{true, false, not, false≢true}
+use mathlib.Core.Bool.{true, not, false≢true}
 use mathlib.Core.List.{List, [], _∷_, reverse}
 use Prim.Native.Nat.{ℕ, zero, suc, _+_, _-_, _≤_, _<_}
 use native.Mathlib.Nat.{le-of-suc-le-suc}
 use native.Mathlib.Omega.{arith}
-use borrow.Author.Tests.{eqb-true, eqb-false, ltb-true, ltb-false, leb-true, le-leb}
-use lib.Dec.{eqb, ltb, leb}
-use lib.ListN.{length, take, drop, getD, length-drop, length-map}
+use borrow.Author.Tests.{eqb-true, eqb-false, ltb-true, ltb-false}
+use lib.Dec.{eqb, ltb}
+use lib.ListN.{length, take, drop, getD, length-drop}
 use lib.Seq.{getD-drop}
-use Rattle.spec.proofs.Choice.{by, and-left, and-right, and-both}
+use Rattle.spec.proofs.Choice.{by, and-left, and-right}
 use Rattle.spec.proofs.FirstLaws.{first-least}
+use Rattle.spec.proofs.ByteSets.{ident-upper}
 use Rattle.spec.proofs.LengthLaws.{word-in}
 use Rattle.spec.proofs.WalkLaws.{starts-length, back-step}
-use Rattle.spec.specs.Bytes.{within, isLower, isUpper, isIdent, upper}
+use Rattle.spec.specs.Bytes.{isIdent, upper}
 use Rattle.spec.specs.Lists.{all}
-use Rattle.spec.specs.Map.{Marked, live, byte, bytes, frontByte, frontLive}
+use Rattle.spec.specs.Map.{Marked, live, byte, frontByte, frontLive}
 use Rattle.spec.specs.Search.{first, startsIgnoringCase, wordHere}
 use Rattle.spec.specs.SelectInto.{depthOf, topWordHere}
 use Rattle.spec.specs.declared.Found.the-variants.{At}
-
-lower-upper : (x : ℕ) → isLower x ≡ true → isUpper (x - 32) ≡ true
-unfolding isLower isUpper within
-lower-upper x e =
-    let a = leb-true 97 x (and-left (leb 97 x) (leb x 122) e) in
-    let b = leb-true x 122 (and-right (leb 97 x) (leb x 122) e) in
-    and-both (leb 65 (x - 32)) (leb (x - 32) 90) (le-leb 65 (x - 32) (omega arith)) (le-leb (x - 32) 90 (omega arith))
-
-upper-other : (x : ℕ) → isLower x ≡ false → upper x ≡ x
-unfolding upper
-upper-other x e = rw e refl
-
--- letter case does not matter for identifier bytes
-ident-upper : (x : ℕ) → isIdent x ≡ isIdent (upper x)
-unfolding isIdent upper
-ident-upper x =
-    by (isLower x)
-    (λ e. rw (e, lower-upper x e) (by (isLower (x - 32)) (λ f. rw f refl) (λ f. rw f refl)))
-    (λ e. ap isIdent (sym (upper-other x e)))
 
 -- the bytes of a word of identifier bytes are identifier bytes
 word-ident : (w : List ℕ) (t : List Marked) (k : ℕ) → all isIdent w ≡ true → startsIgnoringCase w t ≡ true → k < length w

@@ -1,8 +1,10 @@
 // What pass 4 reads: a map that knows `'` and `"` only, and keywords and lists outside parentheses and those quotes.
 use classes::byte_at;
 use classes::is_ident_byte;
-use classes::is_w;
 use classes::upper_of;
+use runs::Set;
+use runs::run_end;
+use runs::run_start;
 use scanner::starts_ignoring_case;
 use spec::Found;
 ghost use mathlib.Core.Path.{_≡_};
@@ -11,8 +13,8 @@ ghost use mathlib.Core.List.{reverse};
 ghost use Prim.Native.Nat.{_+_, _-_, _^_, _≤_, _<_};
 ghost use lib.Dec.{eqb};
 ghost use lib.ListN.{length, getD, take, drop};
-ghost use Rattle.spec.specs.Bytes.{isIdent, isQuote, isW};
-ghost use Rattle.spec.specs.Lists.{isEmpty, takeWhile, dropEnd};
+ghost use Rattle.spec.specs.Bytes.{isIdent, isQuote};
+ghost use Rattle.spec.specs.Lists.{isEmpty};
 ghost use Rattle.spec.specs.Map.{mark, marked, lives, frontByte};
 ghost use Rattle.spec.specs.Search.{first, wordHere};
 ghost use Rattle.spec.specs.SelectInto.{quoteAfter, depthAfter, depthOf, topWordHere, commaHere, placeOr, hasLimit};
@@ -196,36 +198,6 @@ fn comma_at(text: &[u8], map: &[u8]) -> usize
     i
 }
 
-// How many bytes of W stand in front.
-pub fn leading_w(text: &[u8]) -> usize
-    ensures { λ r. ⌜ r ≡ length (takeWhile isW (now (text .entry))) ⌝ }
-{
-    let mut i: usize = 0;
-    while i < text.len() {
-        if is_w(text[i]) {
-            i += 1;
-        } else {
-            return i;
-        }
-    }
-    i
-}
-
-// How long the text is without W at its end.
-pub fn trimmed_len(text: &[u8]) -> usize
-    ensures { λ r. ⌜ r ≡ length (dropEnd isW (now (text .entry))) ⌝ }
-{
-    let mut n = text.len();
-    while 0 < n {
-        if is_w(text[n - 1]) {
-            n -= 1;
-        } else {
-            return n;
-        }
-    }
-    n
-}
-
 // The first part from offset `from` on of the list that the text is: its parts stand between commas outside parentheses and
 // quotes, are trimmed of W, and are not empty.
 pub fn next_item(text: &[u8], map: &[u8], from: usize) -> Item
@@ -235,9 +207,10 @@ pub fn next_item(text: &[u8], map: &[u8], from: usize) -> Item
     let mut at = from;
     while at < text.len() {
         let end = at + comma_at(&text[at..], &map[at..]);
-        let start = at + leading_w(&text[at..end]);
+        let start = at + run_end(&text[at..end], Set::W, 0);
         if start < end {
-            let k = trimmed_len(&text[start..end]);
+            let rest = &text[start..end];
+            let k = run_start(rest, Set::W, rest.len());
             return Item::Part(start, k, end + 1);
         }
         at = end + 1;

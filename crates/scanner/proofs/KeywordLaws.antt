@@ -1,18 +1,19 @@
 -- A keyword at an offset of a text and its map. Assumes nothing.
-use mathlib.Core.Path.{_≡_, refl, sym, ap, _∙_}
-use mathlib.Core.Bool.{Bool, true, false, cond, not, _&&_, false≢true, and-false}
-use mathlib.Core.List.{List, [], _∷_, reverse}
-use Prim.Native.Nat.{ℕ, zero, suc, _+_, _-_, _≤_, _<_, zero-le, suc-le-suc}
+use mathlib.Core.Path.{_≡_, refl, ap, _∙_}
+use mathlib.Core.Bool.{Bool, true, false, cond, not, _&&_, and-false}
+use mathlib.Core.List.{List, reverse}
+use Prim.Native.Nat.{ℕ, zero, suc, _+_, _-_, _≤_, _<_}
 use native.Mathlib.Omega.{arith}
 use borrow.Author.Tests.{ne-eqb}
 use lib.Dec.{eqb}
 use lib.ListN.{length, take, drop, getD, length-drop}
 use lib.Seq.{drop-drop}
-use Rattle.spec.proofs.Choice.{by, and-right}
+use Rattle.spec.proofs.ByteSets.{sign-not-word}
+use Rattle.spec.proofs.Choice.{by}
 use Rattle.spec.proofs.MapLaws.{marked-length}
 use Rattle.spec.proofs.WalkLaws.{prefix-by-len, prefixBy, prefix-hit, starts-case-at, passesAt, front-live, front-byte, byte-before, first-hit, first-miss}
 use Rattle.spec.proofs.FirstLaws.{none-first}
-use Rattle.spec.specs.Bytes.{within, isDigit, isLower, isUpper, isIdent, isWord, upper}
+use Rattle.spec.specs.Bytes.{isWord, upper}
 use Rattle.spec.specs.Map.{marked, frontByte}
 use Rattle.spec.specs.Search.{first, wordHere, keywordHere}
 use Rattle.spec.specs.declared.Found.the-variants.{At, Nothing}
@@ -28,8 +29,8 @@ next-byte f w xs i j a b e =
 -- a word byte before offset i
 word-back : (xs ms : List ℕ) (i : ℕ) → i ≤ length xs
     → isWord (frontByte (reverse (take i (marked xs ms)))) ≡ cond (eqb i 0) false (isWord (getD xs (i - 1) 0))
-unfolding frontByte isWord isIdent isLower isUpper isDigit within
-word-back xs ms zero h = refl
+unfolding frontByte
+word-back xs ms zero h = sign-not-word 0 refl refl
 word-back xs ms (suc i) h =
     let n : suc i ≡ 0 → ⊥ = omega arith in
     rw (ne-eqb (suc i) 0 n) (ap isWord (byte-before xs ms (suc i) (omega arith) h))

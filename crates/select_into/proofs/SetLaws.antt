@@ -7,6 +7,7 @@ use native.Mathlib.Omega.{arith}
 use borrow.Author.Tests.{eqb-false}
 use lib.Dec.{eqb, leb}
 use lib.ListN.{length, getD, length-append, length-map}
+use Rattle.spec.proofs.ByteSets.{gap-w}
 use Rattle.spec.proofs.BytesLaws.{bytes-append, bytes-lives, bytes-end, bytes-while, bytes-reverse}
 use Rattle.spec.proofs.Choice.{by, cond-case, cond-le}
 use Rattle.spec.specs.Bytes.{ascii, isW, upper, isLower, within}
@@ -40,12 +41,12 @@ query-bytes w f c =
 
 -- a space with nothing but W behind it goes, and any other stays
 space-gone : (f : List ℕ) → dropEnd isW f ≡ [] → dropEnd isW (32 ∷ f) ≡ []
-unfolding dropEnd isEmpty isW within
-space-gone f e = rw e refl
+unfolding dropEnd isEmpty
+space-gone f e = rw (e, gap-w 32 refl) refl
 
 space-kept : (f g : List ℕ) (x : ℕ) → dropEnd isW f ≡ x ∷ g → dropEnd isW (32 ∷ f) ≡ 32 ∷ x ∷ g
-unfolding dropEnd isEmpty isW within
-space-kept f g x e = rw e refl
+unfolding dropEnd isEmpty
+space-kept f g x e = rw (e, gap-w 32 refl) refl
 
 module _ (w c : List ℕ) (trimmed : dropEnd isW c ≡ c) (some : 0 < length c) where
   ends : (b u : List ℕ) → dropEnd isW b ≡ u → 0 < length u → dropEnd isW (w ++ (select ++ b)) ≡ w ++ (select ++ u)

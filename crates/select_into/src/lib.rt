@@ -3,7 +3,8 @@
 use output::put_all;
 use quotes::find_top_keyword;
 use quotes::limit_after;
-use quotes::trimmed_len;
+use runs::Set;
+use runs::run_start;
 use scanner::find_byte_in;
 use set_lines::pairs_up;
 use set_lines::put_set_lines;
@@ -11,15 +12,14 @@ use spec::Found;
 ghost use mathlib.Core.Path.{_≡_};
 ghost use mathlib.Core.Bool.{cond};
 ghost use Prim.Native.Nat.{_+_, _-_, _^_, _≤_, _<_};
-ghost use lib.Dec.{eqb, ltb};
-ghost use lib.ListN.{length, drop};
+ghost use lib.Dec.{ltb};
+ghost use lib.ListN.{length};
 ghost use lib.Seq.{sets};
-ghost use Rattle.spec.specs.Lists.{dropEnd};
 ghost use Rattle.spec.specs.Map.{marked, bytes};
 ghost use Rattle.spec.specs.declared.Found.the-variants.{At};
 ghost use Rattle.spec.specs.SelectInto.{listed, placeOr, frontPlace, selectCut, intoAt, selectAt, selectStatement, selectInto};
 ghost use Rattle.set_lines.specs.Writes.{counted, Puts};
-ghost use Rattle.select_into.specs.Pairs.{lastLine, fromText, pairsText};
+ghost use Rattle.select_into.specs.Pairs.{fromText, pairsText};
 
 // All of src, counted no further than to 65537.
 fn put_text(out: &mut [u8], n: usize, src: &[u8]) -> usize
@@ -30,41 +30,12 @@ fn put_text(out: &mut [u8], n: usize, src: &[u8]) -> usize
     if 65536 < r { 65537 } else { r }
 }
 
-// How long the text is without `;` at its end.
-fn without_semicolons(text: &[u8]) -> usize
-    ensures { λ r. ⌜ r ≡ length (dropEnd (λ c. eqb c 59) (now (text .entry))) ⌝ }
-{
-    let mut n = text.len();
-    while 0 < n {
-        if text[n - 1] == b';' {
-            n -= 1;
-        } else {
-            return n;
-        }
-    }
-    n
-}
-
 // How long the FROM part is that stands in front of the text.
 fn from_len(text: &[u8]) -> usize
     ensures { λ r. ⌜ r ≡ length (fromText (now (text .entry))) ⌝ }
 {
-    without_semicolons(&text[..trimmed_len(text)])
-}
-
-// Where the last line starts.
-fn line_start(text: &[u8]) -> usize
-    ensures { λ r. ⌜ r ≤ length (now (text .entry)) ⌝ }
-    ensures { λ r. ⌜ lastLine (now (text .entry)) ≡ drop r (now (text .entry)) ⌝ }
-{
-    let mut n = text.len();
-    while 0 < n {
-        if text[n - 1] == b'\n' {
-            return n;
-        }
-        n -= 1;
-    }
-    n
+    let trimmed = run_start(text, Set::W, text.len());
+    run_start(text, Set::Only(b';'), trimmed)
 }
 
 // What stands before the WITH part, and the lines; SELECT stands at s and FROM at f.
@@ -94,8 +65,8 @@ fn put_pairs(
     let end = f + from_len(&text[f..]);
     let from = &text[f..end];
     let tail = limit_after(1, from) == 7;
-    let trimmed = &from[..trimmed_len(from)];
-    let indent = &text[line_start(&text[..front])..front];
+    let trimmed = &from[..run_start(from, Set::W, from.len())];
+    let indent = &text[run_start(text, Set::Except(b'\n'), front)..front];
     put_set_lines(
         out,
         o,

@@ -1,11 +1,12 @@
 // The columns and the variables of a SELECT INTO: whether they pair up, and the SET lines of the pairs. There may be many long
 // lines, so the writer stops once it is past 65536 bytes.
-use classes::is_w;
 use output::put;
 use output::put_all;
 use quotes::Item;
 use quotes::limit_after;
 use quotes::next_item;
+use runs::Set;
+use runs::has;
 ghost use mathlib.Core.Path.{_≡_};
 ghost use mathlib.Core.Bool.{not};
 ghost use mathlib.Core.List.{List};
@@ -126,20 +127,6 @@ fn list_len(text: &[u8], map: &[u8]) -> usize
     }
 }
 
-// Whether W stands in the text.
-fn has_w(text: &[u8]) -> bool
-    ensures { λ r. ⌜ r ≡ any isW (now (text .entry)) ⌝ }
-{
-    let mut i: usize = 0;
-    while i < text.len() {
-        if is_w(text[i]) {
-            return true;
-        }
-        i += 1;
-    }
-    false
-}
-
 // Whether W stands in a part of the list.
 fn has_w_inside(text: &[u8], map: &[u8]) -> bool
     requires { ⌜ length (now text) ≤ length (now map) ⌝ }
@@ -152,7 +139,7 @@ fn has_w_inside(text: &[u8], map: &[u8]) -> bool
             return false;
         };
         let end = start + len;
-        if has_w(&text[start..end]) {
+        if has(&text[start..end], Set::W) {
             return true;
         }
         from = next;

@@ -16,7 +16,7 @@ use Rattle.spec.proofs.FirstTarget.{Exactly, choice-exactly, walk-exact
 use Rattle.spec.proofs.ListLaws.{empty-length}
 use Rattle.spec.proofs.RefusalBounds.{bytes-length}
 use Rattle.spec.proofs.RunPlaces.{flags-length, marked-flags, byte-inside, byte-behind, back-rest, Behind, behind, start-same}
-use Rattle.spec.proofs.RunPlaces.{ident-no-white, white-no-ident, dot-no-ident, colon-no-ident}
+use Rattle.spec.proofs.ByteSets.{sign-not-ident, ident-not-w, w-not-ident}
 use Rattle.spec.proofs.SearchLaws.{prefix-at, at-prefix}
 use Rattle.spec.proofs.TargetPlaces.{flags, byteAt, part, IsRun, IsAssignAt, IsNameBefore, IsAssignTarget, FirstFrom, NoPlace}
 use Rattle.spec.proofs.WalkLaws.{drop-step, back-step, live-inside, needle-at, prefixBy}
@@ -69,17 +69,17 @@ assign-says t i = (sound, complete)
 -- ---- the name before it
 
 -- W back from i starts at m, a run of identifier bytes back from m at s, and one back from the byte before s at a
-module _ (t : List Marked) (i m s a : ℕ) (h : i ≤ length t) (edge : isIdent (byteAt t i) ≡ false)
-    (w : Behind isW t m i) (n : Behind isIdent t s m) (q : Behind isIdent t a (s - 1)) where
+module _ (t : List Marked) (i m s a : ℕ) (h : i ≤ length t) (w : Behind isW t m i) (n : Behind isIdent t s m)
+    (q : Behind isIdent t a (s - 1)) where
   abbrev found : Target
   found = record { qualifier = part t a (s - 1); name = part t s m }
 
   abbrev test : Bool
   test = not (eqb (m - s) 0) && (eqb (frontByte (reverse (take s t))) 46 && not (eqb (s - 1 - a) 0))
 
-  value : targetBefore (reverse (take i t)) ≡ cond test (some found) none
+  pub before-value : targetBefore (reverse (take i t)) ≡ cond test (some found) none
   unfolding targetBefore
-  value =
+  before-value =
       rw (
         w .rest,
         empty-length (takeWhile (ofByte isIdent) (reverse (take m t))),
@@ -93,74 +93,75 @@ module _ (t : List Marked) (i m s a : ℕ) (h : i ≤ length t) (edge : isIdent 
       )
       refl
 
-  name-run : s < m → IsRun isIdent t s m
-  name-run l =
-      record {
-        nonempty = l;
-        fits = omega (arith, w .upto);
-        all = n .all;
-        before = n .stops;
-        behind = λ _.
-            by (eqb m i)
-            (λ z. ap (λ (j : ℕ). isIdent (byteAt t j)) (eqb-true m i z) ∙ edge)
-            (λ z. white-no-ident (byteAt t m) (w .all m (omega arith) (omega (arith, w .upto, eqb-false m i z))));
-      }
+  module _ (edge : isIdent (byteAt t i) ≡ false) where
+    name-run : s < m → IsRun isIdent t s m
+    name-run l =
+        record {
+          nonempty = l;
+          fits = omega (arith, w .upto);
+          all = n .all;
+          before = n .stops;
+          behind = λ _.
+              by (eqb m i)
+              (λ z. ap (λ (j : ℕ). isIdent (byteAt t j)) (eqb-true m i z) ∙ edge)
+              (λ z. w-not-ident (byteAt t m) (w .all m (omega arith) (omega (arith, w .upto, eqb-false m i z))));
+        }
 
-  qualifier-run : a < s - 1 → byteAt t (s - 1) ≡ 46 → IsRun isIdent t a (s - 1)
-  qualifier-run l d =
-      record {
-        nonempty = l;
-        fits = omega (arith, w .upto, n .upto);
-        all = q .all;
-        before = q .stops;
-        behind = λ _. ap isIdent d ∙ dot-no-ident;
-      }
+    qualifier-run : a < s - 1 → byteAt t (s - 1) ≡ 46 → IsRun isIdent t a (s - 1)
+    qualifier-run l d =
+        record {
+          nonempty = l;
+          fits = omega (arith, w .upto, n .upto);
+          all = q .all;
+          before = q .stops;
+          behind = λ _. ap isIdent d ∙ sign-not-ident 46 refl;
+        }
 
-  built : (r : Target) → s < m → a < s - 1 → byteAt t (s - 1) ≡ 46 → s - 1 + 1 ≡ s → r ≡ found → IsNameBefore t i r
-  built r x y d k g =
-      record {
-        start = a;
-        dot = s - 1;
-        stop = m;
-        named = record { qualifier = qualifier-run y d; dot = d; name = rw k (name-run x); target = rw k g };
-        between = record { order = w .upto; all = w .all };
-      }
+    built : (r : Target) → s < m → a < s - 1 → byteAt t (s - 1) ≡ 46 → s - 1 + 1 ≡ s → r ≡ found → IsNameBefore t i r
+    built r x y d k g =
+        record {
+          start = a;
+          dot = s - 1;
+          stop = m;
+          named = record { qualifier = qualifier-run y d; dot = d; name = rw k (name-run x); target = rw k g };
+          between = record { order = w .upto; all = w .all };
+        }
 
-  sound : (r : Target) → (test ≡ true) × (r ≡ found) → IsNameBefore t i r
-  sound r (e, g) =
-      let one = not (eqb (m - s) 0) in
-      let two = eqb (frontByte (reverse (take s t))) 46 in
-      let three = not (eqb (s - 1 - a) 0) in
-      let rest = and-right one (two && three) e in
-      let some-name : s < m = omega (arith, eqb-false (m - s) 0 (not-true (eqb (m - s) 0) (and-left one (two && three) e))) in
-      let some-qualifier : a < s - 1 = omega (arith, eqb-false (s - 1 - a) 0 (not-true (eqb (s - 1 - a) 0) (and-right two three rest))) in
-      let front = byte-behind t s (omega arith) (omega (arith, w .upto, n .upto)) in
-      let is-dot = sym front ∙ eqb-true (frontByte (reverse (take s t))) 46 (and-left two three rest) in
-      built r some-name some-qualifier is-dot (omega arith) g
+    sound : (r : Target) → (test ≡ true) × (r ≡ found) → IsNameBefore t i r
+    sound r (e, g) =
+        let one = not (eqb (m - s) 0) in
+        let two = eqb (frontByte (reverse (take s t))) 46 in
+        let three = not (eqb (s - 1 - a) 0) in
+        let rest = and-right one (two && three) e in
+        let some-name : s < m = omega (arith, eqb-false (m - s) 0 (not-true (eqb (m - s) 0) (and-left one (two && three) e))) in
+        let some-qualifier : a < s - 1 = omega (arith, eqb-false (s - 1 - a) 0 (not-true (eqb (s - 1 - a) 0) (and-right two three rest))) in
+        let front = byte-behind t s (omega arith) (omega (arith, w .upto, n .upto)) in
+        let is-dot = sym front ∙ eqb-true (frontByte (reverse (take s t))) 46 (and-left two three rest) in
+        built r some-name some-qualifier is-dot (omega arith) g
 
-  complete : (r : Target) → IsNameBefore t i r → (test ≡ true) × (r ≡ found)
-  complete r p =
-      let d = p .named .name in
-      let c = p .named .qualifier in
-      let white : m ≡ p .stop =
-      start-same isW t i m (p .stop) w (p .between .order) (p .between .all)
-      (λ z. ident-no-white (byteAt t (p .stop - 1)) (d .all (p .stop - 1) (omega (arith, d .nonempty)) (omega arith))) in
-      let front : s ≡ p .dot + 1 =
-      start-same isIdent t m s (p .dot + 1) n (omega (arith, d .nonempty)) (λ k x y. d .all k x (omega arith)) (d .before) in
-      let back : a ≡ p .start =
-      start-same isIdent t (s - 1) a (p .start) q (omega (arith, c .nonempty)) (λ k x y. c .all k x (omega arith)) (c .before) in
-      let dot : s - 1 ≡ p .dot = omega arith in
-      let before = byte-behind t s (omega arith) (omega (arith, w .upto, n .upto)) in
-      let is-dot = before ∙ (ap (λ (j : ℕ). byteAt t j) dot ∙ p .named .dot) in
-      let some-name = ne-eqb (m - s) 0 (λ z. omega (arith, d .nonempty)) in
-      let some-qualifier = ne-eqb (s - 1 - a) 0 (λ z. omega (arith, c .nonempty)) in
-      let dot-test = eq-eqb (frontByte (reverse (take s t))) 46 is-dot in
-      (rw (some-name, dot-test, some-qualifier) refl, rw (dot, back, white, front) (p .named .target))
+    complete : (r : Target) → IsNameBefore t i r → (test ≡ true) × (r ≡ found)
+    complete r p =
+        let d = p .named .name in
+        let c = p .named .qualifier in
+        let white : m ≡ p .stop =
+        start-same isW t i m (p .stop) w (p .between .order) (p .between .all)
+        (λ z. ident-not-w (byteAt t (p .stop - 1)) (d .all (p .stop - 1) (omega (arith, d .nonempty)) (omega arith))) in
+        let front : s ≡ p .dot + 1 =
+        start-same isIdent t m s (p .dot + 1) n (omega (arith, d .nonempty)) (λ k x y. d .all k x (omega arith)) (d .before) in
+        let back : a ≡ p .start =
+        start-same isIdent t (s - 1) a (p .start) q (omega (arith, c .nonempty)) (λ k x y. c .all k x (omega arith)) (c .before) in
+        let dot : s - 1 ≡ p .dot = omega arith in
+        let before = byte-behind t s (omega arith) (omega (arith, w .upto, n .upto)) in
+        let is-dot = before ∙ (ap (λ (j : ℕ). byteAt t j) dot ∙ p .named .dot) in
+        let some-name = ne-eqb (m - s) 0 (λ z. omega (arith, d .nonempty)) in
+        let some-qualifier = ne-eqb (s - 1 - a) 0 (λ z. omega (arith, c .nonempty)) in
+        let dot-test = eq-eqb (frontByte (reverse (take s t))) 46 is-dot in
+        (rw (some-name, dot-test, some-qualifier) refl, rw (dot, back, white, front) (p .named .target))
 
-  at-offsets : Exactly (targetBefore (reverse (take i t))) (IsNameBefore t i)
-  at-offsets r =
-      let x = choice-exactly test found r in
-      ((λ e. sound r (x .0 (sym value ∙ e))), (λ p. value ∙ x .1 (complete r p)))
+    at-offsets : Exactly (targetBefore (reverse (take i t))) (IsNameBefore t i)
+    at-offsets r =
+        let x = choice-exactly test found r in
+        ((λ e. sound r (x .0 (sym before-value ∙ e))), (λ p. before-value ∙ x .1 (complete r p)))
 
 -- `q.n` before an offset whose byte is no identifier byte
 before-exactly : (t : List Marked) (i : ℕ) → i ≤ length t → isIdent (byteAt t i) ≡ false
@@ -169,7 +170,7 @@ before-exactly t i h edge =
     let w = behind isW t i h in
     let n = behind isIdent t (w .0) (omega (arith, w .1 .upto)) in
     let q = behind isIdent t (n .0 - 1) (omega (arith, w .1 .upto, n .1 .upto)) in
-    at-offsets t i (w .0) (n .0) (q .0) h edge (w .1) (n .1) (q .1)
+    at-offsets t i (w .0) (n .0) (q .0) h (w .1) (n .1) (q .1) edge
 
 -- ---- the walk
 
@@ -182,7 +183,7 @@ assigned-exactly t i h r =
     cond-case (λ (o : Option Target). (o ≡ some r) ↔ IsAssignTarget t i r) (assignHere (reverse (take i t)) (drop i t)) _ _
     (λ e.
     let c = assign-says t i .0 e in
-    let b = before-exactly t i (omega arith) (ap isIdent (c .colon) ∙ colon-no-ident) r in
+    let b = before-exactly t i (omega arith) (ap isIdent (c .colon) ∙ sign-not-ident 58 refl) r in
     ((λ s. record { operator = c; before = b .0 s }), (λ p. b .1 (p .before))))
     (λ e. ((λ s. absurd (apart (cc))), (λ p. absurd (false≢true (sym e ∙ assign-says t i .1 (p .operator))))))
 

@@ -1,13 +1,13 @@
 -- The end of a list, by a test on its elements. Assumes nothing.
 use mathlib.Core.Path.{_≡_, refl, sym, ap, _∙_}
 use mathlib.Core.Bool.{Bool, true, false, _&&_, and-false}
-use mathlib.Core.List.{List, [], _∷_, _++_}
-use Prim.Native.Nat.{ℕ, suc, _-_, _≤_, _<_}
+use mathlib.Core.List.{List, [], _∷_, _++_, reverse, append-nil, append-assoc, reverse-cons, reverse-reverse}
+use Prim.Native.Nat.{ℕ, suc, _+_, _-_, _≤_, _<_}
 use native.Mathlib.Omega.{arith}
-use lib.ListN.{length, take, getD}
-use lib.Seq.{take-suc}
+use lib.ListN.{length, take, drop, getD, length-append, length-reverse}
+use lib.Seq.{take-suc, drop-at}
 use Rattle.spec.proofs.Choice.{by}
-use Rattle.spec.specs.Lists.{isEmpty, dropEnd}
+use Rattle.spec.specs.Lists.{isEmpty, takeWhile, dropEnd}
 
 module _ {A : Type 0} (f : A → Bool) where
   -- what is left is a front of the list
@@ -36,6 +36,34 @@ module _ {A : Type 0} (f : A → Bool) where
   unfolding dropEnd
   last-fails x [] e = simp e
   last-fails x (y ∷ l) e = rw (last-fails x l e, not-empty x l, and-false (f y)) refl
+
+  back-split : (l : List A) → dropEnd f (reverse l) ++ reverse (takeWhile f l) ≡ reverse l
+  unfolding dropEnd takeWhile
+  back-split [] = refl
+  back-split (x ∷ l) =
+      by (f x)
+      (λ e.
+      rw (reverse-cons x l, last-passes x (reverse l) e, e, reverse-cons x (takeWhile f l))
+      (sym (append-assoc (dropEnd f (reverse l)) (reverse (takeWhile f l)) (x ∷ [])) ∙ ap (λ (u : List A). u ++ (x ∷ [])) (back-split l)))
+      (λ e. rw (reverse-cons x l, last-fails x (reverse l) e, e) (append-nil (reverse l ++ (x ∷ []))))
+
+  -- what is left and the end that passes, found by reading backwards, are the list
+  pub end-split : (t : List A) → dropEnd f t ++ reverse (takeWhile f (reverse t)) ≡ t
+  end-split t = let e = back-split (reverse t) in rw reverse-reverse at e
+
+  pub end-sum : (t : List A) → length (dropEnd f t) + length (takeWhile f (reverse t)) ≡ length t
+  end-sum t =
+      omega (
+        arith,
+        length-append (dropEnd f t) (reverse (takeWhile f (reverse t))),
+        length-reverse (takeWhile f (reverse t)),
+        ap length (end-split t),
+      )
+
+  pub end-drop : (t : List A) → reverse (takeWhile f (reverse t)) ≡ drop (length (dropEnd f t)) t
+  end-drop t =
+      sym (drop-at (dropEnd f t) (reverse (takeWhile f (reverse t))) (length (dropEnd f t)) refl)
+      ∙ ap (drop (length (dropEnd f t))) (end-split t)
 
   -- of the front of n elements nothing is left where n is 0
   pub drop-end-zero : (xs : List A) (n : ℕ) → n ≡ 0 → length (dropEnd f (take n xs)) ≡ 0

@@ -1,7 +1,7 @@
 -- How long the results of passes 1 to 3 can be, and the lengths of pieces. A text is weighed byte by byte: a `'` as 2, every
 -- other byte as some n. Assumes nothing.
 use mathlib.Core.Path.{_≡_, refl, sym, ap, _∙_, subst}
-use mathlib.Core.Bool.{Bool, true, false, cond, not, _&&_, _||_, false≢true}
+use mathlib.Core.Bool.{Bool, true, false, cond, not, _&&_, false≢true}
 use mathlib.Core.List.{List, [], _∷_, _++_, map, reverse, reverseAux}
 use mathlib.Core.Option.{Option, none, some}
 use Prim.Native.Nat.{ℕ, zero, suc, _+_, _-_, _*_, _≤_, _<_, zero-le, suc-le-suc}
@@ -11,15 +11,16 @@ use borrow.Author.Tests.{eqb-true, eqb-false, eq-eqb, le-ltb}
 use lib.Dec.{eqb}
 use lib.ListN.{length, take, drop, length-append, length-map, length-reverse}
 use lib.Seq.{length-take-le, drop-drop}
+use Rattle.spec.proofs.ByteSets.{sign-not-ident}
 use Rattle.spec.proofs.Choice.{by, cond-case, cond-le, and-left, and-right, and-both, or-left, or-right}
 use Rattle.spec.proofs.ListLaws.{while-all, total, total-append, total-reverse, total-cut, total-while, total-le, total-map, total-const, drop-end-le, drop-while-le}
 use Rattle.spec.proofs.SpanLaws.{by-kind, span-pos, dollar-le, opens-in}
 use Rattle.spec.proofs.MapLaws.{text-bytes, text-length}
 use Rattle.spec.proofs.Apart.{apart}
 use Rattle.spec.proofs.RefusalLaws.{targetIn, assign-done, assign-refused}
-use Rattle.spec.specs.Bytes.{ascii, within, upper, isIdent, isWord, isW, isDigit, isLower, isUpper}
+use Rattle.spec.specs.Bytes.{ascii, within, upper, isIdent, isWord, isW, isDigit, isLower}
 use Rattle.spec.specs.Lists.{isEmpty, takeWhile, dropWhile, dropEnd, any, all, keep, concat}
-use Rattle.spec.specs.Spans.{tagLen, dollarOf, Kind, line, block, single, double, dollar, code, spanOf, spanAt, spanLen, lexemeAt, lexemesFrom, lexemes}
+use Rattle.spec.specs.Spans.{tagLen, dollarOf, Kind, line, block, single, double, code, spanOf, spanAt, spanLen, lexemeAt, lexemesFrom, lexemes}
 use Rattle.spec.specs.Map.{Marked, live, quoted, byte, bytes, lives, markedText, frontByte, frontLive, ofByte, isLiveByte}
 use Rattle.spec.specs.Search.{Test, firstFrom, first, startsIgnoringCase, starts, wordHere, needleHere, byteHere, ontoFirst, piecesFrom, pieces, startsFrom, splitInCode}
 use Rattle.spec.specs.Requote.{doubled, singleQuoted, requoteSpan, requoteLexeme, requoted}
@@ -332,9 +333,8 @@ unfolding first
 first-case p P t h n = first-from p P [] t (λ j e. subst (λ (m : ℕ). P (At m)) (sym (zero-add j)) (h j e)) n
 
 ident-other : (c : ℕ) → isIdent c ≡ true → eqb c 39 ≡ false
-unfolding isIdent isLower isUpper isDigit within
 ident-other c h =
-    by (eqb c 39) (λ e. absurd (false≢true (rw (eqb-true c 39 e) at h))) (λ e. e)
+    by (eqb c 39) (λ e. absurd (false≢true (sym (ap isIdent (eqb-true c 39 e) ∙ sign-not-ident 39 refl) ∙ h))) (λ e. e)
 
 ident-weight : (n : ℕ) (t : List Marked) → all (ofByte isIdent) t ≡ true → total (markWeight n) t ≡ total (λ x. n) t
 unfolding total all ofByte
@@ -343,8 +343,8 @@ ident-weight n (x ∷ t) h =
     omega (arith, weight-other n (byte x) (ident-other (byte x) (and-left (isIdent (byte x)) _ h)), ident-weight n t (and-right (isIdent (byte x)) _ h))
 
 name-some : (t : List Marked) → startsName t ≡ true → 1 ≤ length t
-unfolding startsName frontByte isIdent isLower isUpper isDigit within
-name-some [] h = absurd (false≢true h)
+unfolding startsName frontByte
+name-some [] h = absurd (false≢true (sym (sign-not-ident 0 refl) ∙ and-left (isIdent 0) (not (isDigit 0)) h))
 name-some (x ∷ t) h = suc-le-suc zero-le
 
 pub trim-le : (t : List Marked) → length (trim t) ≤ length t

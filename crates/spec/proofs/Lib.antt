@@ -1,6 +1,7 @@
 pub mod Rows
 pub mod ClosedRows
 pub mod Choice
+pub mod ByteSets
 pub mod SpanLaws
 pub mod MapLaws
 pub mod AheadLaws

@@ -18,7 +18,8 @@ use Rattle.spec.proofs.FirstTarget.{Exactly, walk-exactly, walk-none}
 use Rattle.spec.proofs.MarkingWords.{marking, IsMarking, case, end, opening, one-marking, not-both, case-other, end-other}
 use Rattle.spec.proofs.MarkingWords.{met, Met, word, nothing, met-here, cases, open-cases, open-same}
 use Rattle.spec.proofs.RefusalBounds.{bytes-length}
-use Rattle.spec.proofs.RunPlaces.{flags-length, no-word-no-ident}
+use Rattle.spec.proofs.ByteSets.{not-word}
+use Rattle.spec.proofs.RunPlaces.{flags-length}
 use Rattle.spec.proofs.TargetPlaces.{flags, byteAt, StandsAt, OpensStatement, IsMarkedTarget, FirstFrom, NoPlace}
 use Rattle.spec.proofs.WalkLaws.{drop-step, back-step, live-inside}
 use Rattle.spec.specs.Map.{Marked, live, byte, frontByte}
@@ -29,7 +30,7 @@ use Rattle.spec.specs.Assignments.{casesBehind, targetPast, targetBehind
 
 -- behind a keyword no run of identifier bytes goes on
 word-edge : (t : List Marked) (w : List ℕ) (k : ℕ) → StandsAt w t k → NoRunOver t (k + length w)
-word-edge t w k s z h = no-word-no-ident (byteAt t (k + length w)) (s .behind)
+word-edge t w k s z h = not-word (byteAt t (k + length w)) (s .behind)
 
 -- what is found at k
 abbrev markedAt : List Marked → ℕ → Option Target

@@ -9,10 +9,11 @@ use Prim.Native.Nat.{ℕ, zero, suc, _+_, _-_, _<_}
 use native.Mathlib.Omega.{arith}
 use lib.Dec.{eqb}
 use lib.ListN.{length, take, drop, getD}
+use Rattle.spec.proofs.ByteSets.{sign-not-word}
 use Rattle.spec.proofs.Apart.{apart}
 use Rattle.spec.proofs.Choice.{cond-case}
 use Rattle.spec.proofs.RunPlaces.{flags-length, marked-flags}
-use Rattle.spec.proofs.SearchLaws.{word-sound, word-complete, zero-no-word}
+use Rattle.spec.proofs.SearchLaws.{word-sound, word-complete}
 use Rattle.spec.proofs.TargetPlaces.{flags, byteAt, StandsAt, OpensStatement, begin, then, else, loop}
 use Rattle.spec.proofs.TargetPlaces.{OpenCases, starts, opens, closes, not-below, stays}
 use Rattle.spec.specs.Bytes.{ascii, upper, within, isLower, isWord}
@@ -80,7 +81,7 @@ word-says : (t : List Marked) (w : List ℕ) (k : ℕ)
     → (wordHere isWord w (frontByte (reverse (take k t))) (drop k t) ≡ true) ↔ StandsAt w t k
 word-says t w k = (
   (λ h. word-sound isWord (bytes t) (flags t) w (flags-length t) k (sym here ∙ h)),
-  (λ s. here ∙ word-complete isWord (bytes t) (flags t) w (flags-length t) k zero-no-word s),
+  (λ s. here ∙ word-complete isWord (bytes t) (flags t) w (flags-length t) k (sign-not-word 0 refl refl) s),
 )
   where
     here : wordHere isWord w (frontByte (reverse (take k t))) (drop k t)

@@ -10,13 +10,14 @@ use borrow.Author.Tests.{eqb-true, eqb-false, eq-eqb, ne-eqb, not-true, not-fals
 use lib.Dec.{eqb}
 use lib.ListN.{length, take, drop, getD, length-append}
 use lib.Seq.{getD-take, length-take-le}
+use Rattle.spec.proofs.ByteSets.{sign-not-w}
 use Rattle.spec.proofs.BytesLaws.{bytes-take, while-length-bytes}
 use Rattle.spec.proofs.Choice.{by, and-left, and-right, and-both}
 use Rattle.spec.proofs.LiteralLaws.{IsLiteral, literal-exactly}
 use Rattle.spec.proofs.SpanLaws.{seen}
-use Rattle.spec.proofs.TrimLaws.{while-exactly, IsTrimmed, trimmed-some, trimmed-part, part-of-front}
-use Rattle.spec.proofs.WalkLaws.{while-take, while-length, while-passes, while-fails}
-use Rattle.spec.specs.Bytes.{isW, within}
+use Rattle.spec.proofs.TrimLaws.{IsTrimmed, trimmed-some, trimmed-part, part-of-front}
+use Rattle.spec.proofs.WalkLaws.{while-take, while-length, while-passes, while-fails, while-exactly}
+use Rattle.spec.specs.Bytes.{isW}
 use Rattle.spec.specs.Lists.{takeWhile}
 use Rattle.spec.specs.Map.{Marked, bytes, frontByte, ofByte}
 use Rattle.spec.specs.Assignments.{trim}
@@ -35,7 +36,7 @@ pub data IsMessage (xs : List ℕ) : ℕ → ℕ → Type 0 where
 
 -- ---- up to the first comma
 
-abbrev noComma : ℕ → Bool
+abbrev pub noComma : ℕ → Bool
 noComma c = not (eqb c 44)
 
 comma-some : (xs : List ℕ) → IsCommaEnd xs (length (takeWhile noComma xs))
@@ -127,7 +128,6 @@ message-within xs i j (words {e} none ends w) =
 
 -- and starts where a quote does
 pub message-quote : (xs : List ℕ) (i j : ℕ) → IsMessage xs i j → getD xs 0 0 ≡ 39 → i ≡ 0
-unfolding isW within
 message-quote xs i j (literal l) h = refl
 message-quote xs i j (words {e} none ends w) h =
     let some = seen xs 0 38 h in
@@ -141,4 +141,4 @@ message-quote xs i j (words {e} none ends w) h =
     by (eqb i 0) (λ r. eqb-true i 0 r)
     (λ r.
     let f = w .front 0 (omega arith) (omega (arith, eqb-false i 0 r)) in
-    absurd (false≢true (rw z at f))))
+    absurd (false≢true (sym (ap isW z ∙ sign-not-w 39 refl) ∙ f))))

@@ -17,9 +17,9 @@ use Rattle.spec.proofs.Choice.{by}
 use Rattle.spec.proofs.FirstLaws.{LeastOf, NoneOf}
 use Rattle.spec.proofs.MapLaws.{text-bytes, text-length}
 use Rattle.spec.proofs.SearchLaws.{IsByteAt, byte-says}
-use Rattle.spec.proofs.TrimLaws.{while-exactly, IsTrimmed, trimmed-some, trimmed-part, part-of-front}
+use Rattle.spec.proofs.TrimLaws.{IsTrimmed, trimmed-some, trimmed-part, part-of-front}
 use Rattle.spec.proofs.UsingPlaces.{MatchesAt, IsRefusedContent, starts-matches, matches-starts, abort-refused-exactly}
-use Rattle.spec.proofs.WalkLaws.{drop-step, passesAt, while-take, while-length, while-passes, while-fails, while-passes-at, while-fails-at}
+use Rattle.spec.proofs.WalkLaws.{drop-step, passesAt, while-take, while-length, while-passes, while-fails, while-passes-at, while-fails-at, while-exactly}
 use Rattle.spec.specs.Bytes.{ascii, upper, isLower, within}
 use Rattle.spec.specs.Lists.{takeWhile}
 use Rattle.spec.specs.Map.{Marked, live, bytes, markedText, ofByte, isLiveByte}

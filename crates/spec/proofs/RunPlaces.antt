@@ -1,23 +1,23 @@
 -- Runs of bytes that pass a test, forwards and backwards from an offset of a statement: where they end and start, and that
 -- there is one such place only. Assumes nothing.
-use mathlib.Core.Path.{_≡_, refl, sym, ap, _∙_}
-use mathlib.Core.Bool.{Bool, true, false, not, _&&_, _||_}
+use mathlib.Core.Path.{_≡_, refl, sym, ap, _∙_, subst}
+use mathlib.Core.Bool.{Bool, true, false}
 use mathlib.Core.List.{List, [], _∷_, _++_, reverse, reverse-cons}
 use Prim.Native.Nat.{ℕ, zero, suc, _+_, _-_, _≤_, _<_}
 use native.Mathlib.Numerals.{add-one}
 use native.Mathlib.Omega.{arith}
-use borrow.Author.Tests.{ltb-true, ltb-false, leb-true, eqb-true}
-use lib.Dec.{eqb, ltb, leb}
+use borrow.Author.Tests.{ltb-true, ltb-false}
+use lib.Dec.{ltb}
 use lib.ListN.{length, take, drop, getD, length-drop, length-map, List·getD-map, List·getD-eq-default}
-use lib.Seq.{take-suc, getD-drop, drop-drop}
-use Rattle.spec.proofs.BytesLaws.{bytes-drop, front-bytes}
-use Rattle.spec.proofs.Choice.{by, neither-less, and-left, and-right, or-left, or-cases}
+use lib.Seq.{take-suc, getD-drop, drop-drop, length-take-le}
+use Rattle.spec.proofs.BytesLaws.{bytes-take, bytes-drop, front-bytes, while-length-bytes, end-length-bytes}
+use Rattle.spec.proofs.Choice.{by, neither-less}
+use Rattle.spec.proofs.EndLaws.{end-sum}
 use Rattle.spec.proofs.FirstLaws.{fails-not}
 use Rattle.spec.proofs.RefusalBounds.{bytes-length}
 use Rattle.spec.proofs.TargetPlaces.{flagOf, flags, byteAt, part}
 use Rattle.spec.proofs.WalkLaws.{back-step, while-take, while-drop, while-length, while-passes-at, while-fails-at}
-use Rattle.spec.specs.Bytes.{within, isDigit, isLower, isUpper, isIdent, isWord, isW, isN}
-use Rattle.spec.specs.Lists.{takeWhile, dropWhile}
+use Rattle.spec.specs.Lists.{takeWhile, dropWhile, dropEnd}
 use Rattle.spec.specs.Map.{Marked, live, quoted, byte, bytes, marked, frontByte, ofByte}
 
 -- ---- a statement is its bytes beside its map
@@ -70,6 +70,15 @@ back-rest t (suc i) h =
 
 -- ---- runs
 
+module _ {A : Type 0} (f : A → Bool) (xs : List A) (i : ℕ) where
+  -- where the run from i on ends
+  abbrev pub endFrom : ℕ
+  endFrom = i + length (takeWhile f (drop i xs))
+
+  -- where the run before i starts
+  abbrev pub startFrom : ℕ
+  startFrom = length (dropEnd f (take i xs))
+
 module _ (f : ℕ → Bool) (t : List Marked) where
   -- what passes from i on ends at e
   pub record Ahead (i e : ℕ) : Type 0 where
@@ -82,10 +91,7 @@ module _ (f : ℕ → Bool) (t : List Marked) where
     pub rest : dropWhile (ofByte f) (drop i t) ≡ drop e t
 
   -- such an end there is
-  abbrev pub endFrom : ℕ → ℕ
-  endFrom i = i + length (takeWhile (ofByte f) (drop i t))
-
-  pub ahead : (i : ℕ) → Ahead i (endFrom i)
+  pub ahead : (i : ℕ) → Ahead i (endFrom (ofByte f) t i)
   unfolding ofByte
   ahead i =
       let n = length (takeWhile (ofByte f) (drop i t)) in
@@ -109,6 +115,14 @@ module _ (f : ℕ → Bool) (t : List Marked) where
       neither-less e a
       (λ l. fails-not (g e (r .from) l) (r .stops (omega arith)))
       (λ l. fails-not (r .all a h l) (s (omega (arith, r .fits (omega arith)))))
+
+  -- by the bytes xs of t
+  pub ahead-at : (xs : List ℕ) → bytes t ≡ xs → (i e : ℕ) → e ≡ endFrom f xs i → Ahead i e
+  ahead-at xs same i e h =
+      let n : length (takeWhile (ofByte f) (drop i t)) ≡ length (takeWhile f (drop i xs)) =
+      while-length-bytes f (drop i t) ∙ ap (λ (l : List ℕ). length (takeWhile f l)) (bytes-drop i t ∙ ap (drop i) same) in
+      let k : endFrom (ofByte f) t i ≡ e = omega arith in
+      subst (λ (m : ℕ). Ahead i m) k (ahead i)
 
   -- what passes back from i starts at s
   pub record Behind (s i : ℕ) : Type 0 where
@@ -181,6 +195,16 @@ module _ (f : ℕ → Bool) (t : List Marked) where
       let r = behind i (omega arith) in
       by (f (byteAt t i)) (λ e. (r .0, longer i h e (r .0) (r .1))) (λ e. (suc i, empty i h e))
 
+  -- by the bytes xs of t
+  pub behind-at : (xs : List ℕ) → bytes t ≡ xs → (i s : ℕ) → i ≤ length xs → s ≡ startFrom f xs i → Behind s i
+  behind-at xs same i s h e =
+      let fits : i ≤ length t = omega (arith, bytes-length t, ap length same) in
+      let r = behind i fits in
+      let n : startFrom (ofByte f) t i ≡ startFrom f xs i =
+      end-length-bytes f (take i t) ∙ ap (λ (l : List ℕ). length (dropEnd f l)) (bytes-take i t ∙ ap (take i) same) in
+      let k : r .0 ≡ s = omega (arith, end-sum (ofByte f) (take i t), length-take-le i t fits, r .1 .upto, r .1 .long) in
+      subst (λ (m : ℕ). Behind m i) k (r .1)
+
   -- and only one
   pub start-same : (i s a : ℕ) → Behind s i → a ≤ i
       → ((k : ℕ) → a ≤ k → k < i → f (byteAt t k) ≡ true)
@@ -190,56 +214,3 @@ module _ (f : ℕ → Bool) (t : List Marked) where
       neither-less s a
       (λ l. fails-not (r .all (a - 1) (omega arith) (omega arith)) (e (omega arith)))
       (λ l. fails-not (g (s - 1) (omega arith) (omega (arith, r .upto))) (r .stops (omega arith)))
-
--- ---- the sets are apart
-
--- an identifier byte is at least 48, a byte of W at most 32
-pub ident-least : (c : ℕ) → isIdent c ≡ true → 48 ≤ c
-unfolding isIdent isLower isUpper isDigit within
-ident-least c h =
-    or-cases (leb 97 c && leb c 122) ((leb 65 c && leb c 90) || ((leb 48 c && leb c 57) || eqb c 95)) h
-    (λ e. low 97 122 e (omega arith))
-    (λ h. or-cases (leb 65 c && leb c 90) ((leb 48 c && leb c 57) || eqb c 95) h
-    (λ e. low 65 90 e (omega arith))
-    (λ h. or-cases (leb 48 c && leb c 57) (eqb c 95) h
-    (λ e. low 48 57 e (omega arith))
-    (λ e. let r = eqb-true c 95 e in omega arith)))
-  where
-    low : (a b : ℕ) → (leb a c && leb c b) ≡ true → 48 ≤ a → 48 ≤ c
-    low a b e l = let r = leb-true a c (and-left (leb a c) (leb c b) e) in omega arith
-
-pub white-most : (c : ℕ) → isW c ≡ true → c ≤ 32
-unfolding isW within
-white-most c h =
-    or-cases (leb 9 c && leb c 13) (eqb c 32) h
-    (λ e. let r = leb-true c 13 (and-right (leb 9 c) (leb c 13) e) in omega arith)
-    (λ e. let r = eqb-true c 32 e in omega arith)
-
-pub ident-no-white : (c : ℕ) → isIdent c ≡ true → isW c ≡ false
-ident-no-white c h = by (isW c) (λ e. absurd (omega (arith, ident-least c h, white-most c e))) (λ e. e)
-
-pub white-no-ident : (c : ℕ) → isW c ≡ true → isIdent c ≡ false
-white-no-ident c h = by (isIdent c) (λ e. absurd (omega (arith, ident-least c e, white-most c h))) (λ e. e)
-
-pub large-no-n : (c : ℕ) → 33 ≤ c → isN c ≡ false
-unfolding isN
-large-no-n c h =
-    by (isN c) (λ e. absurd (omega (arith, white-most c (and-left (isW c) (not (eqb c 11)) e)))) (λ e. e)
-
-pub n-no-ident : (c : ℕ) → isN c ≡ true → isIdent c ≡ false
-unfolding isN
-n-no-ident c h = white-no-ident c (and-left (isW c) (not (eqb c 11)) h)
-
--- a byte that is no word byte is no identifier byte
-pub no-word-no-ident : (c : ℕ) → isWord c ≡ false → isIdent c ≡ false
-unfolding isWord
-no-word-no-ident c h = or-left (isIdent c) (eqb c 36) h
-
--- nor is `.`, nor `:`
-pub dot-no-ident : isIdent 46 ≡ false
-unfolding isIdent isLower isUpper isDigit within
-dot-no-ident = refl
-
-pub colon-no-ident : isIdent 58 ≡ false
-unfolding isIdent isLower isUpper isDigit within
-colon-no-ident = refl

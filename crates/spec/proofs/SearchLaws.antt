@@ -7,15 +7,16 @@ use mathlib.Core.Logic.{_⊎_, inl, inr, ⊎-elim}
 use Prim.Native.Nat.{ℕ, zero, suc, _+_, _-_, _≤_, _<_, zero-le, suc-le-suc}
 use native.Mathlib.Nat.{le-of-suc-le-suc}
 use native.Mathlib.Omega.{arith}
-use borrow.Author.Tests.{eqb-true, eqb-false, eq-eqb, ne-eqb, ltb-true, ltb-false, lt-ltb, le-ltb, leb-true, not-true, not-false}
-use lib.Dec.{eqb, ltb, leb, eqb·suc-zero}
+use borrow.Author.Tests.{eqb-true, eqb-false, eq-eqb, ne-eqb, ltb-true, ltb-false, lt-ltb, le-ltb, not-true, not-false}
+use lib.Dec.{eqb, ltb, eqb·suc-zero}
 use lib.ListN.{length, take, drop, getD, length-drop, length-map}
 use lib.Seq.{getD-drop, drop-drop}
-use Rattle.spec.proofs.Choice.{by, cond-case, and-left, and-right, and-both}
+use Rattle.spec.proofs.ByteSets.{sign-not-word, word-not-n}
+use Rattle.spec.proofs.Choice.{by, cond-case, and-left, and-right, and-both, or-cases}
 use Rattle.spec.proofs.MapLaws.{map-length, marked-length, text-length}
-use Rattle.spec.proofs.WalkLaws.{climb, any-default, map-take, mark-skipped, mark-word, marked-at, live-inside, word-at, needle-at, byte-at, byte-before, bytes-drop, prefixBy, prefix-by-len, starts-case, passesAt, while-take, while-drop, while-length, while-passes, while-fails, while-least, while-passes-at, while-fails-at, while-least-at, while-hit, cutsFrom, cutsAt, starts-cuts, cuts-end, cuts-hit, cuts-miss}
+use Rattle.spec.proofs.WalkLaws.{climb, any-default, map-take, mark-skipped, mark-word, marked-at, live-inside, word-at, needle-at, byte-at, byte-before, bytes-drop, prefixBy, prefix-by-len, starts-case, passesAt, while-take, while-drop, while-length, while-passes, while-fails, while-passes-at, while-fails-at, while-exactly, while-exactly-at, while-hit, cutsFrom, cutsAt, starts-cuts, cuts-end, cuts-hit, cuts-miss}
 use Rattle.spec.proofs.FirstLaws.{apart, LeastOf, NoneOf, Says, found-least, least-found, found-none, none-found, sought-least, least-sought, sought-none, none-sought}
-use Rattle.spec.specs.Bytes.{ascii, within, isDigit, isLower, isUpper, isIdent, isWord, isW, isN, isHigh, upper}
+use Rattle.spec.specs.Bytes.{ascii, isWord, isN, isHigh, upper}
 use Rattle.spec.specs.Lists.{isEmpty, takeWhile, dropWhile, any, keep}
 use Rattle.spec.specs.Spans.{Lexeme, lexemes}
 use Rattle.spec.specs.Map.{Marked, live, byte, mark, mapOf, marked, markedText, bytes, frontByte, isLiveByte}
@@ -117,11 +118,6 @@ module _ (set : ℕ → Bool) (xs ms w : List ℕ) (e : length ms ≡ length xs)
 
 -- ---- `find_keyword`
 
--- 0, which stands for no byte, is no word byte
-pub zero-no-word : isWord 0 ≡ false
-unfolding isWord isIdent isLower isUpper isDigit within
-zero-no-word = refl
-
 -- j is live, w matches there ignoring ASCII case, and no word byte stands on either side
 abbrev pub IsKeywordAt : List ℕ → List ℕ → ℕ → Type 0
 IsKeywordAt xs w j = IsWordAt isWord xs (mapOf xs) w j
@@ -132,7 +128,7 @@ unfolding keywordHere markedText
 keyword-says xs w =
     record {
       sound = λ k. word-sound isWord xs (mapOf xs) w (map-length xs) k;
-      complete = λ k. word-complete isWord xs (mapOf xs) w (map-length xs) k zero-no-word;
+      complete = λ k. word-complete isWord xs (mapOf xs) w (map-length xs) k (sign-not-word 0 refl refl);
       inside = λ k r. omega (arith, live-inside (mapOf xs) k (r .is-live), map-length xs, marked-length xs (mapOf xs));
     }
 
@@ -305,41 +301,6 @@ pub record IsNextWord (xs : List ℕ) (i j n : ℕ) : Type 0 where
   pub words : (k : ℕ) → j ≤ k → k < j + n → IsWordByteAt xs k
   pub ends : IsWordByteAt xs (j + n) → ⊥
 
-or-cases : (a b : Bool) → (a || b) ≡ true → (a ≡ true) ⊎ (b ≡ true)
-or-cases true b h = inl refl
-or-cases false b h = inr h
-
-within-low : (lo hi b : ℕ) → within lo hi b ≡ true → lo ≤ b
-unfolding within
-within-low lo hi b h = leb-true lo b (and-left (leb lo b) (leb b hi) h)
-
-within-high : (lo hi b : ℕ) → within lo hi b ≡ true → b ≤ hi
-unfolding within
-within-high lo hi b h = leb-true b hi (and-right (leb lo b) (leb b hi) h)
-
--- a word byte is none of N
-pub word-not-space : (c : ℕ) → isWord c ≡ true → isN c ≡ false
-unfolding isWord isIdent isLower isUpper isDigit isN isW
-word-not-space c h =
-    by (isN c) (λ e. absurd (omega (arith, low, high (and-left (isW c) (not (eqb c 11)) e)))) (λ e. e)
-  where
-    low : 36 ≤ c
-    low =
-        ⊎-elim
-        (λ a. ⊎-elim (λ l. omega (arith, within-low 97 122 c l))
-        (λ b. ⊎-elim (λ l. omega (arith, within-low 65 90 c l))
-        (λ d. ⊎-elim (λ l. omega (arith, within-low 48 57 c l)) (λ u. omega (arith, eqb-true c 95 u))
-        (or-cases (within 48 57 c) (eqb c 95) d))
-        (or-cases (within 65 90 c) (within 48 57 c || eqb c 95) b))
-        (or-cases (within 97 122 c) (within 65 90 c || (within 48 57 c || eqb c 95)) a))
-        (λ u. omega (arith, eqb-true c 36 u))
-        (or-cases (isIdent c) (eqb c 36) h)
-
-    high : isW c ≡ true → c ≤ 32
-    high e =
-        ⊎-elim (λ l. omega (arith, within-high 9 13 c l)) (λ u. omega (arith, eqb-true c 32 u))
-        (or-cases (within 9 13 c) (eqb c 32) e)
-
 empty-length : {A : Type 0} (l : List A) → isEmpty l ≡ eqb (length l) 0
 unfolding isEmpty
 empty-length [] = refl
@@ -453,8 +414,8 @@ module _ (xs : List ℕ) (i : ℕ) where
       let stop : isSkipped (getD t j (live 0)) ≡ false =
       ap (λ (x : Marked). isSkipped x) (text-at xs j h (live 0))
       ∙ (mark-skipped (getD (mapOf xs) j 1) (getD xs j 0)
-      ∙ rw (eq-eqb (getD (mapOf xs) j 1) 0 (r .is-live)) (word-not-space (getD xs j 0) (r .is-word))) in
-      let same : wordStart ≡ j = while-least-at isSkipped t (live 0) i j a m (λ k b c. skipped-complete xs k (omega arith) (live 0) (s k b c)) stop in
+      ∙ rw (eq-eqb (getD (mapOf xs) j 1) 0 (r .is-live)) (word-not-n (getD xs j 0) (r .is-word))) in
+      let same : wordStart ≡ j = while-exactly-at isSkipped t (live 0) i j a (omega arith) (λ k b c. skipped-complete xs k (omega arith) (live 0) (s k b c)) (λ _. stop) in
       let w = ap length (while-hit isWordMark t j (live 0) m (word-byte-complete xs j h (live 0) r)) in
       let n : 0 < length (wordText xs i) = omega (arith, word-length ∙ (ap (λ (k : ℕ). length (takeWhile isWordMark (drop k t))) same ∙ w)) in
       word-place n ∙ ap At same
@@ -501,7 +462,7 @@ word-stopped xs i j c s n w =
     (λ k a t r.
     let h : k < length xs = omega (arith, live-inside (mapOf xs) k (r .is-live), map-length xs) in
     by (ltb k j)
-    (λ e. false≢true (sym (word-not-space (getD xs k 0) (r .is-word)) ∙ s k a (ltb-true k j e) (r .is-live)))
+    (λ e. false≢true (sym (word-not-n (getD xs k 0) (r .is-word)) ∙ s k a (ltb-true k j e) (r .is-live)))
     (λ e.
     by (eqb k j)
     (λ q. w (rw (eqb-true k j q) at r))
@@ -704,10 +665,7 @@ pub any-found : {A : Type 0} (f : A → Bool) (d : A) (l : List A) → any f l �
 unfolding any
 any-found f d [] h = absurd (false≢true h)
 any-found f d (x ∷ l) h =
-    ⊎-elim {C = (k : ℕ) × (k < length (x ∷ l)) × (f (getD (x ∷ l) k d) ≡ true)}
-    (λ e. (0, omega arith, e))
-    (λ e. let r = any-found f d l e in (suc (r .0), suc-le-suc (r .1), r .2))
-    (or-cases (f x) (any f l) h)
+    or-cases (f x) (any f l) h (λ e. (0, omega arith, e)) (λ e. let r = any-found f d l e in (suc (r .0), suc-le-suc (r .1), r .2))
 
 pub found-any : {A : Type 0} (f : A → Bool) (d : A) (l : List A) (k : ℕ) → k < length l → f (getD l k d) ≡ true → any f l ≡ true
 unfolding any
@@ -781,7 +739,7 @@ module _ (xs : List ℕ) where
   pub found-high : (i : ℕ) → IsFirstHigh xs i → firstHigh xs ≡ At i
   unfolding firstHigh lowLen
   found-high i r =
-      let n : lowLen ≡ i = while-least (λ (b : ℕ). not (isHigh b)) xs 0 i (r .inside) (λ k h. ap not (r .none k h)) (ap not (r .high)) in
+      let n : lowLen ≡ i = while-exactly (λ (b : ℕ). not (isHigh b)) xs 0 i (omega (arith, r .inside)) (λ k h. ap not (r .none k h)) (λ _. ap not (r .high)) in
       rw (n, lt-ltb i (length xs) (r .inside)) refl
 
   pub none-high : NoHigh xs → firstHigh xs ≡ Nothing

@@ -1,4 +1,4 @@
--- A front that passes a test, and a text without W at both ends, by offsets: the definitions give exactly these. Assumes nothing.
+-- An end that passes a test, and a text without W at both ends, by offsets: the definitions give exactly these. Assumes nothing.
 use mathlib.Core.Path.{_≡_, refl, sym, ap, _∙_}
 use mathlib.Core.Bool.{Bool, true, false, cond, _&&_, and-false}
 use mathlib.Core.List.{List, [], _∷_}
@@ -15,7 +15,7 @@ use Rattle.spec.proofs.Choice.{by, neither-less}
 use Rattle.spec.proofs.EndLaws.{drop-end-take}
 use Rattle.spec.proofs.FirstLaws.{fails-not}
 use Rattle.spec.proofs.ListLaws.{empty-length, drop-end-le}
-use Rattle.spec.proofs.WalkLaws.{while-drop, while-length, while-passes, while-fails}
+use Rattle.spec.proofs.WalkLaws.{while-drop, while-length, while-passes, while-fails, while-exactly}
 use Rattle.spec.specs.Bytes.{isW}
 use Rattle.spec.specs.Lists.{isEmpty, takeWhile, dropWhile, dropEnd}
 use Rattle.spec.specs.Map.{Marked, bytes, ofByte}
@@ -24,16 +24,6 @@ use Rattle.spec.specs.Assignments.{trim, trimEnd}
 -- ---- for every test
 
 module _ {A : Type 0} (f : A → Bool) where
-  -- the front that passes is as long as n: all before n passes, and what stands at n, if anything, does not
-  pub while-exactly : (t : List A) (d : A) (n : ℕ) → n ≤ length t → ((k : ℕ) → k < n → f (getD t k d) ≡ true)
-      → (n < length t → f (getD t n d) ≡ false)
-      → length (takeWhile f t) ≡ n
-  while-exactly t d n h g e =
-      let m = length (takeWhile f t) in
-      neither-less m n
-      (λ b. fails-not (g m b) (while-fails f t d (omega arith)))
-      (λ b. fails-not (while-passes f t d n b) (e (omega (arith, while-length f t))))
-
   end-step : (x : A) (t : List A)
       → length (dropEnd f (x ∷ t)) ≡ cond (f x && eqb (length (dropEnd f t)) 0) 0 (suc (length (dropEnd f t)))
   unfolding dropEnd

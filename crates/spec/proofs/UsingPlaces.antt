@@ -6,23 +6,24 @@ use mathlib.Core.Logic.{_↔_}
 use mathlib.Core.List.{List}
 use Prim.Native.Nat.{ℕ, _+_, _-_, _≤_, _<_}
 use native.Mathlib.Omega.{arith}
-use borrow.Author.Tests.{eqb-true, eq-eqb, lt-leb}
+use borrow.Author.Tests.{eqb-true, eq-eqb}
 use lib.Dec.{eqb}
 use lib.ListN.{length, take, drop, getD, length-drop}
 use lib.Seq.{drop-drop, getD-drop, length-take-le}
 use Rattle.spec.proofs.Apart.{apart}
-use Rattle.spec.proofs.BytesLaws.{bytes-drop, while-length-bytes}
+use Rattle.spec.proofs.ByteSets.{sign-not-w, letter-not-w, upper-cases}
+use Rattle.spec.proofs.BytesLaws.{bytes-drop}
 use Rattle.spec.proofs.Choice.{by, and-left, and-right, and-both}
 use Rattle.spec.proofs.ListLaws.{empty-length, while-sum}
 use Rattle.spec.proofs.MessagePlaces.{IsMessage, message-some, message-part, message-within, message-quote}
 use Rattle.spec.proofs.RefusalBounds.{bytes-length}
-use Rattle.spec.proofs.RunPlaces.{byte-ahead, white-most}
+use Rattle.spec.proofs.RunPlaces.{byte-ahead, Ahead, endFrom, ahead-at}
 use Rattle.spec.proofs.SearchLaws.{Same, prefix-at, at-prefix}
 use Rattle.spec.proofs.SpanLaws.{seen}
-use Rattle.spec.proofs.TrimLaws.{while-exactly, AllW}
-use Rattle.spec.proofs.WalkLaws.{prefixBy, prefix-by-len, starts-case, while-drop, while-passes-at, while-least-at}
+use Rattle.spec.proofs.TrimLaws.{AllW}
+use Rattle.spec.proofs.WalkLaws.{prefixBy, prefix-by-len, starts-case, while-passes-at, while-exactly, while-exactly-at}
 use Rattle.spec.specs.Bytes.{ascii, upper, isW, isLower, within}
-use Rattle.spec.specs.Lists.{isEmpty, takeWhile, dropWhile}
+use Rattle.spec.specs.Lists.{isEmpty, dropWhile}
 use Rattle.spec.specs.Map.{Marked, bytes, ofByte}
 use Rattle.spec.specs.Search.{startsIgnoringCase}
 use Rattle.spec.specs.Raise.{message, Fate, rewritten, dropped, passed, refusedClause, usingFate, abortFate}
@@ -64,31 +65,13 @@ module _ (t : List Marked) (w : List ℕ) (j : ℕ) where
   pub matches-starts : MatchesAt w (bytes t) j → startsIgnoringCase w (drop j t) ≡ true
   matches-starts s = starts-case w (drop j t) ∙ (ap (prefixBy upper w) (bytes-drop j t) ∙ at-prefix upper w (bytes t) j s)
 
--- where the W from i on end
-abbrev runEnd : List ℕ → ℕ → ℕ
-runEnd xs i = i + length (takeWhile isW (drop i xs))
-
-run-long : (t : List Marked) (i : ℕ) → length (takeWhile (ofByte isW) (drop i t)) ≡ length (takeWhile isW (drop i (bytes t)))
-run-long t i = while-length-bytes isW (drop i t) ∙ ap (λ (l : List ℕ). length (takeWhile isW l)) (bytes-drop i t)
-
-skip-to : (t : List Marked) (i : ℕ) → dropWhile (ofByte isW) (drop i t) ≡ drop (runEnd (bytes t) i) t
-skip-to t i =
-    while-drop (ofByte isW) (drop i t)
-    ∙ (ap (λ (n : ℕ). drop n (drop i t)) (run-long t i) ∙ drop-drop (length (takeWhile isW (drop i (bytes t)))) i t)
+-- W from i on
+run : (t : List Marked) (i : ℕ) → Ahead isW t i (endFrom isW (bytes t) i)
+run t i = ahead-at isW t (bytes t) refl i (endFrom isW (bytes t) i) refl
 
 -- a byte that is a letter of a word, or another that is no W, ends them
-run-at : (xs : List ℕ) (i j : ℕ) → i ≤ j → AllW xs i j → j < length xs → isW (getD xs j 0) ≡ false → runEnd xs i ≡ j
-run-at xs i j h w b e = while-least-at isW xs 0 i j h b w e
-
-letter-no-w : (c l : ℕ) → upper c ≡ l → 65 ≤ l → isW c ≡ false
-unfolding upper isLower within
-letter-no-w c l p h =
-    by (isW c)
-    (λ e.
-    let low = white-most c e in
-    let same : c ≡ l = rw (lt-leb 97 c (omega arith)) at p in
-    absurd (omega arith))
-    (λ e. e)
+run-at : (xs : List ℕ) (i j : ℕ) → i ≤ j → AllW xs i j → j < length xs → isW (getD xs j 0) ≡ false → endFrom isW xs i ≡ j
+run-at xs i j h w b e = while-exactly-at isW xs 0 i j h (omega arith) w (λ _. e)
 
 -- all of the rest is W exactly if nothing is left of it
 module _ (t : List Marked) (i : ℕ) where
@@ -97,7 +80,7 @@ module _ (t : List Marked) (i : ℕ) where
       let left = dropWhile (ofByte isW) (drop i t) in
       let none : length left ≡ 0 = eqb-true (length left) 0 (sym (empty-length left) ∙ h) in
       let n = while-sum (ofByte isW) (drop i t) in
-      while-passes-at isW (bytes t) 0 i k a (omega (arith, run-long t i, length-drop i t, bytes-length t))
+      while-passes-at isW (bytes t) 0 i k a (omega (arith, run t i .long, length-drop i t, bytes-length t))
 
   w-rest : AllW (bytes t) i (length (bytes t)) → isEmpty (dropWhile (ofByte isW) (drop i t)) ≡ true
   w-rest h =
@@ -108,30 +91,28 @@ module _ (t : List Marked) (i : ℕ) where
       (λ k b. ap isW (getD-drop i (bytes t) k 0) ∙ h (i + k) (omega arith) (omega arith))
       (λ b. absurd (omega arith)) in
       let n = while-sum (ofByte isW) (drop i t) in
-      empty-length left ∙ eq-eqb (length left) 0 (omega (arith, run-long t i, length-drop i t, bytes-length t))
+      empty-length left ∙ eq-eqb (length left) 0 (omega (arith, run t i .long, length-drop i t, bytes-length t))
 
 -- ---- the clause
 
 -- the offsets are where the runs of W end
 module _ (xs : List ℕ) (a b c d : ℕ) (w : IsMessageClause xs a b c d) where
-  place-message : runEnd xs 5 ≡ a
+  place-message : endFrom isW xs 5 ≡ a
   unfolding upper isLower within
   place-message =
       let fits = w .at-message .fits in
       let m : upper (getD xs (a + 0) 0) ≡ 77 = w .at-message .same 0 (omega arith) in
       let z : a + 0 ≡ a = omega arith in
       run-at xs 5 a (w .from-using) (w .behind-using) (omega arith)
-      (ap (λ (n : ℕ). isW (getD xs n 0)) (sym z) ∙ letter-no-w (getD xs (a + 0) 0) 77 m (omega arith))
+      (ap (λ (n : ℕ). isW (getD xs n 0)) (sym z) ∙ upper-cases (λ (n : ℕ). isW n ≡ false) (getD xs (a + 0) 0) 77 m (letter-not-w 77 refl) (letter-not-w 109 refl))
 
-  place-equals : runEnd xs (a + 7) ≡ b
-  unfolding isW within
+  place-equals : endFrom isW xs (a + 7) ≡ b
   place-equals =
-      run-at xs (a + 7) b (w .from-message) (w .behind-message) (seen xs b 60 (w .at-equals)) (rw (w .at-equals))
+      run-at xs (a + 7) b (w .from-message) (w .behind-message) (seen xs b 60 (w .at-equals)) (ap isW (w .at-equals) ∙ sign-not-w 61 refl)
 
-  place-quote : runEnd xs (b + 1) ≡ c
-  unfolding isW within
+  place-quote : endFrom isW xs (b + 1) ≡ c
   place-quote =
-      run-at xs (b + 1) c (w .from-equals) (w .behind-equals) (seen xs c 38 (w .at-quote)) (rw (w .at-quote))
+      run-at xs (b + 1) c (w .from-equals) (w .behind-equals) (seen xs c 38 (w .at-quote)) (ap isW (w .at-quote) ∙ sign-not-w 39 refl)
 
 -- the message of the text from c on
 module _ (t : List Marked) (c : ℕ) where
@@ -157,7 +138,7 @@ module _ (t : List Marked) (c : ℕ) where
       rw (message-from (w .1) u .1) u
 
 module _ (t : List Marked) (a b c : ℕ)
-    (pa : runEnd (bytes t) 5 ≡ a) (pb : runEnd (bytes t) (a + 7) ≡ b) (pc : runEnd (bytes t) (b + 1) ≡ c) where
+    (pa : endFrom isW (bytes t) 5 ≡ a) (pb : endFrom isW (bytes t) (a + 7) ≡ b) (pc : endFrom isW (bytes t) (b + 1) ≡ c) where
   abbrev fits : Bool
   fits =
       startsIgnoringCase (ascii "MESSAGE") (drop a t)
@@ -168,13 +149,13 @@ module _ (t : List Marked) (a b c : ℕ)
   unfolding usingFate
   using-is =
       rw (
-        skip-to t 5,
+        run t 5 .rest,
         pa,
         drop-drop 7 a t,
-        skip-to t (a + 7),
+        run t (a + 7) .rest,
         pb,
         drop-drop 1 b t,
-        skip-to t (b + 1),
+        run t (b + 1) .rest,
         pc,
         byte-ahead t b,
         byte-ahead t c,
@@ -246,13 +227,13 @@ module _ (t : List Marked) where
 
   -- where the runs of W end
   abbrev aEnd : ℕ
-  aEnd = runEnd (bytes t) 5
+  aEnd = endFrom isW (bytes t) 5
 
   abbrev bEnd : ℕ
-  bEnd = runEnd (bytes t) (aEnd + 7)
+  bEnd = endFrom isW (bytes t) (aEnd + 7)
 
   abbrev cEnd : ℕ
-  cEnd = runEnd (bytes t) (bEnd + 1)
+  cEnd = endFrom isW (bytes t) (bEnd + 1)
 
   abort-gives : (f : Fate) → AbortCondition t f → abortFate t ≡ f
   abort-gives (rewritten m) (of-clause {a} {b} {c} {d} w e) =

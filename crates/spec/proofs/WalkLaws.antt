@@ -11,7 +11,7 @@ use borrow.Author.Tests.{ltb-true, ltb-false, eq-eqb, ne-eqb}
 use lib.Dec.{eqb, ltb, eqb·suc-zero}
 use lib.ListN.{length, take, drop, getD, length-reverse, length-drop, drop-of-length-le, List·getD-eq-default}
 use lib.Seq.{length-take-le, take-suc, drop-cons, drop-nil, getD-drop, drop-drop}
-use Rattle.spec.proofs.Choice.{by, and-right}
+use Rattle.spec.proofs.Choice.{by, neither-less, and-right}
 use Rattle.spec.proofs.MapLaws.{mark-byte, map-length, marked-length, marked-bytes}
 use Rattle.spec.specs.Bytes.{upper, isWord, isN}
 use Rattle.spec.specs.Lists.{takeWhile, dropWhile}
@@ -376,13 +376,15 @@ module _ {A : Type 0} (f : A → Bool) where
       (λ e. rw e (while-fails t d (omega (arith, ap length (take-front x t e)))))
       (λ e. rw e e)
 
-  -- the front is the longest that passes: what passes up to a place that fails is that front
-  pub while-least : (t : List A) (d : A) (n : ℕ) → n < length t → ((k : ℕ) → k < n → f (getD t k d) ≡ true) → f (getD t n d) ≡ false → length (takeWhile f t) ≡ n
-  while-least [] d n h g e = absurd (omega arith)
-  while-least (x ∷ t) d zero h g e = ap length (take-stop x t e)
-  while-least (x ∷ t) d (suc n) h g e =
-      ap length (take-front x t (g 0 (omega arith)))
-      ∙ ap suc (while-least t d n (le-of-suc-le-suc h) (λ k j. g (suc k) (suc-le-suc j)) e)
+  -- it is as long as n: all before n passes, and what stands at n, if anything, fails
+  pub while-exactly : (t : List A) (d : A) (n : ℕ) → n ≤ length t → ((k : ℕ) → k < n → f (getD t k d) ≡ true)
+      → (n < length t → f (getD t n d) ≡ false)
+      → length (takeWhile f t) ≡ n
+  while-exactly t d n h g e =
+      let m = length (takeWhile f t) in
+      neither-less m n
+      (λ b. false≢true (sym (while-fails t d (omega arith)) ∙ g m b))
+      (λ b. false≢true (sym (e (omega (arith, while-length t))) ∙ while-passes t d n b))
 
   -- one step from i on: past the end, at an element that passes, at one that fails
   module _ (t : List A) (i : ℕ) where
@@ -429,12 +431,15 @@ module _ {A : Type 0} (f : A → Bool) where
   while-fails-at t d i h =
       ap f (sym (getD-drop i t (length (takeWhile f (drop i t))) d)) ∙ while-fails (drop i t) d (omega (arith, length-drop i t))
 
-  pub while-least-at : (t : List A) (d : A) (i j : ℕ) → i ≤ j → j < length t → ((k : ℕ) → i ≤ k → k < j → f (getD t k d) ≡ true) → f (getD t j d) ≡ false → i + length (takeWhile f (drop i t)) ≡ j
-  while-least-at t d i j a h g e =
+  pub while-exactly-at : (t : List A) (d : A) (i j : ℕ) → i ≤ j → j ≤ length t → ((k : ℕ) → i ≤ k → k < j → f (getD t k d) ≡ true)
+      → (j < length t → f (getD t j d) ≡ false)
+      → i + length (takeWhile f (drop i t)) ≡ j
+  while-exactly-at t d i j a h g e =
       let s : i + (j - i) ≡ j = omega arith in
-      let n = while-least (drop i t) d (j - i) (omega (arith, length-drop i t))
+      let n = while-exactly (drop i t) d (j - i) (omega (arith, length-drop i t))
       (λ k b. ap f (getD-drop i t k d) ∙ g (i + k) (omega arith) (omega arith))
-      (ap f (getD-drop i t (j - i) d) ∙ (ap (λ (m : ℕ). f (getD t m d)) s ∙ e)) in
+      (λ b.
+      ap f (getD-drop i t (j - i) d) ∙ (ap (λ (m : ℕ). f (getD t m d)) s ∙ e (omega (arith, length-drop i t)))) in
       omega arith
 
 -- ---- pieces, at an index

@@ -1,27 +1,23 @@
 -- A qualified name before an operator and ahead of a lone `=`, by the offsets of its parts. Assumes nothing.
 use mathlib.Core.Path.{_≡_, refl, sym, ap, _∙_}
 use mathlib.Core.Bool.{true, false, cond, not, _&&_, _||_, false≢true}
-use mathlib.Core.List.{List, _∷_, reverse}
-use mathlib.Core.Option.{Option, none, some}
-use Prim.Native.Nat.{ℕ, _+_, _-_, _≤_, _<_}
+use mathlib.Core.List.{List, reverse}
+use mathlib.Core.Option.{Option, none}
+use Prim.Native.Nat.{ℕ, _+_, _-_, _≤_}
 use native.Mathlib.Omega.{arith}
-use borrow.Author.Tests.{ltb-true, ltb-false, eq-eqb, ne-eqb}
-use lib.Dec.{eqb, ltb}
-use lib.ListN.{length, take, drop, getD, List·getD-eq-default}
-use lib.Seq.{drop-drop}
-use Rattle.spec.proofs.ListLaws.{empty-length}
+use borrow.Author.Tests.{eq-eqb, ne-eqb}
+use lib.Dec.{eqb}
+use lib.ListN.{length, take, drop, getD}
 use Rattle.spec.proofs.RefusalBounds.{bytes-length}
 use Rattle.spec.specs.Bytes.{isIdent, isW, isN}
-use Rattle.spec.specs.Lists.{isEmpty, takeWhile}
-use Rattle.spec.specs.Map.{Marked, live, bytes, frontByte, ofByte}
+use Rattle.spec.specs.Map.{Marked, bytes, frontByte}
 use Rattle.spec.specs.Assignments.{Target, orElse, targetBefore, loneEquals, equalsTarget}
-use Rattle.spec.proofs.Choice.{by}
-use Rattle.spec.proofs.WalkLaws.{back-step}
-use Rattle.targets.specs.Tells.{isTarget, targetIn, Tells}
+use Rattle.spec.proofs.AssignTargets.{before-value}
+use Rattle.spec.proofs.EqualsTargets.{lone-at, equals-value}
+use Rattle.spec.proofs.RunPlaces.{endFrom, startFrom, byte-behind, Behind, ahead-at, behind-at}
+use Rattle.targets.specs.Tells.{isTarget, targetIn, Inside, Tells}
 use Rattle.targets.specs.declared.TargetFound.{TargetFound}
 use Rattle.targets.specs.declared.TargetFound.the-variants.{At, Nothing}
-use Rattle.targets.proofs.ByteLaws.{byte-at, byte-before}
-use Rattle.targets.proofs.RunLaws.{endFrom, longBefore, run-long, run-part, run-rest, back-long, back-part, back-rest}
 
 -- ---- one check, then another
 
@@ -37,11 +33,9 @@ module _ (t : List Marked) (o more : Option Target) where
   tells-next (At a k b n) h w = absurd (false≢true (sym h))
   tells-next Nothing h w = ap (λ (p : Option Target). orElse p more) (w .target)
 
--- a `.` stands within the text
-pub dot-inside : (xs : List ℕ) (i : ℕ) → getD xs i 0 ≡ 46 → i < length xs
-dot-inside xs i e =
-    by (ltb i (length xs)) (λ q. ltb-true i (length xs) q)
-    (λ q. absurd (omega (arith, List·getD-eq-default xs 0 (ltb-false i (length xs) q))))
+-- a qualifier from q up to the `.` at k and a name from s up to m, as a target's offsets and lengths
+pub parts-inside : (q k s m l : ℕ) → s ≡ k + 1 → q ≤ k → s ≤ m → m ≤ l → Inside l (At q (k - q) s (m - s))
+parts-inside q k s m l e a b d = (omega arith, omega arith)
 
 -- ---- a marked text t that has the bytes xs
 
@@ -50,35 +44,19 @@ module _ (xs : List ℕ) (t : List Marked) (e : bytes t ≡ xs) where
   same-length = sym (bytes-length t) ∙ ap length e
 
   -- a lone `=` at i
-  pub lone-at : (i : ℕ) → loneEquals (drop i t) ≡ (eqb (getD xs i 0) 61 && not (eqb (getD xs (i + 1) 0) 61 || eqb (getD xs (i + 1) 0) 62))
-  unfolding loneEquals
-  lone-at i = rw (drop-drop 1 i t, byte-at t i, byte-at t (i + 1), e) refl
+  pub lone-bytes : (i : ℕ) → loneEquals (drop i t) ≡ (eqb (getD xs i 0) 61 && not (eqb (getD xs (i + 1) 0) 61 || eqb (getD xs (i + 1) 0) 62))
+  lone-bytes i = let v = lone-at t i in rw e at v
 
   -- N from i on ends at a, and the qualifier at b
   module _ (i a b : ℕ) (ha : a ≡ endFrom isN xs i) (hb : b ≡ endFrom isIdent xs a) where
     -- the name behind the `.` ends at m, and N behind it at d
-    pub equals-at : (m d : ℕ) → m ≡ endFrom isIdent xs (b + 1) → d ≡ endFrom isN xs m
+    equals-at : (m d : ℕ) → m ≡ endFrom isIdent xs (b + 1) → d ≡ endFrom isN xs m
         → equalsTarget (drop i t)
         ≡ cond (not (eqb (b - a) 0) && (eqb (getD xs b 0) 46 && (not (eqb (m - (b + 1)) 0) && loneEquals (drop d t))))
         (targetIn t (At a (b - a) (b + 1) (m - (b + 1)))) none
-    unfolding equalsTarget
     equals-at m d hm hd =
-        rw (
-          run-rest isN xs t e i a ha,
-          empty-length (takeWhile (ofByte isIdent) (drop a t)),
-          run-long isIdent xs t e a b hb,
-          run-part isIdent xs t e a b hb,
-          run-rest isIdent xs t e a b hb,
-          byte-at t b,
-          e,
-          drop-drop 1 b t,
-          empty-length (takeWhile (ofByte isIdent) (drop (b + 1) t)),
-          run-long isIdent xs t e (b + 1) m hm,
-          run-part isIdent xs t e (b + 1) m hm,
-          run-rest isIdent xs t e (b + 1) m hm,
-          run-rest isN xs t e m d hd,
-        )
-        refl
+        let v = equals-value t i a b m d (ahead-at isN t xs e i a ha) (ahead-at isIdent t xs e a b hb) (ahead-at isIdent t xs e (b + 1) m hm) (ahead-at isN t xs e m d hd) in
+        rw e at v
 
     pub equals-no-qualifier : a ≡ b → equalsTarget (drop i t) ≡ none
     equals-no-qualifier h = equals-at _ _ refl refl ∙ simp (eq-eqb (b - a) 0 (omega arith))
@@ -105,68 +83,58 @@ module _ (xs : List ℕ) (t : List Marked) (e : bytes t ≡ xs) where
             ∙ simp (some-qualifier, eq-eqb (getD xs b 0) 46 p, ne-eqb (m - (b + 1)) 0 (λ z. n (omega arith)))
 
   -- the name before W before i ends at m and starts at s
-  module _ (i m s : ℕ) (w : i ≤ length xs) (hm : i ≡ m + longBefore isW xs i) (hs : m ≡ s + longBefore isIdent xs m) where
-    before-name : targetBefore (reverse (take i t))
-        ≡ cond
-        (not (eqb (m - s) 0)
-        && (eqb (frontByte (reverse (take s t))) 46 && not (isEmpty (takeWhile (ofByte isIdent) (drop 1 (reverse (take s t)))))))
-        (some record { qualifier = reverse (takeWhile (ofByte isIdent) (drop 1 (reverse (take s t)))); name = take (m - s) (drop s t) })
-        none
-    unfolding targetBefore
-    before-name =
-        rw (
-          back-rest isW xs t e i m w hm,
-          empty-length (takeWhile (ofByte isIdent) (reverse (take m t))),
-          back-long isIdent xs t e m s (omega arith) hs,
-          back-part isIdent xs t e m s (omega arith) hs,
-          back-rest isIdent xs t e m s (omega arith) hs,
-        )
-        refl
+  module _ (i m s : ℕ) (w : i ≤ length xs) (hm : m ≡ startFrom isW xs i) (hs : s ≡ startFrom isIdent xs m) where
+    white : Behind isW t m i
+    white = behind-at isW t xs e i m w hm
+
+    name : Behind isIdent t s m
+    name = behind-at isIdent t xs e m s (omega (arith, white .upto)) hs
+
+    -- the qualifier before the byte before the name starts at q
+    before-at : (q : ℕ) → q ≡ startFrom isIdent xs (s - 1)
+        → targetBefore (reverse (take i t))
+        ≡ cond (not (eqb (m - s) 0) && (eqb (frontByte (reverse (take s t))) 46 && not (eqb (s - 1 - q) 0)))
+        (targetIn t (At q (s - 1 - q) s (m - s))) none
+    before-at q hq =
+        before-value t i m s q (omega (arith, same-length)) white name
+        (behind-at isIdent t xs e (s - 1) q (omega (arith, white .upto, name .upto)) hq)
 
     pub before-no-name : s ≡ m → targetBefore (reverse (take i t)) ≡ none
-    before-no-name h = before-name ∙ simp (eq-eqb (m - s) 0 (omega arith))
+    before-no-name h = before-at _ refl ∙ simp (eq-eqb (m - s) 0 (omega arith))
 
     module _ (n : s ≡ m → ⊥) where
       some-name : eqb (m - s) 0 ≡ false
-      some-name = ne-eqb (m - s) 0 (λ z. n (omega arith))
+      some-name = ne-eqb (m - s) 0 (λ z. n (omega (arith, name .upto)))
 
       pub before-front : s ≡ 0 → targetBefore (reverse (take i t)) ≡ none
       unfolding frontByte
       before-front h =
           let z : frontByte (reverse (take s t)) ≡ 0 = rw h refl in
-          before-name ∙ simp (some-name, z)
+          before-at _ refl ∙ simp (some-name, z)
 
       -- the byte before the name stands at k
       module _ (k : ℕ) (hk : s ≡ k + 1) where
-        back : reverse (take s t) ≡ getD t k (live 0) ∷ reverse (take k t)
-        back = ap (λ (j : ℕ). reverse (take j t)) hk ∙ back-step t k (live 0) (omega (arith, same-length))
+        before : s - 1 ≡ k
+        before = omega arith
 
         dot : frontByte (reverse (take s t)) ≡ getD xs k 0
         dot =
-            ap (λ (j : ℕ). frontByte (reverse (take j t))) hk
-            ∙ (byte-before t k (omega (arith, same-length)) ∙ ap (λ (l : List ℕ). getD l k 0) e)
+            let b = byte-behind t s (omega arith) (omega (arith, same-length, white .upto, name .upto)) in
+            rw (before, e) at b
 
         pub before-no-dot : (getD xs k 0 ≡ 46 → ⊥) → targetBefore (reverse (take i t)) ≡ none
-        before-no-dot h = before-name ∙ simp (some-name, dot, ne-eqb (getD xs k 0) 46 h)
+        before-no-dot h = before-at _ refl ∙ simp (some-name, dot, ne-eqb (getD xs k 0) 46 h)
 
         -- the qualifier starts at q
-        module _ (p : getD xs k 0 ≡ 46) (q : ℕ) (hq : k ≡ q + longBefore isIdent xs k) where
-          before-at : targetBefore (reverse (take i t)) ≡ cond (not (eqb (k - q) 0)) (targetIn t (At q (k - q) s (m - s))) none
-          before-at =
-              before-name
-              ∙ rw (
-                some-name,
-                dot,
-                eq-eqb (getD xs k 0) 46 p,
-                back,
-                empty-length (takeWhile (ofByte isIdent) (reverse (take k t))),
-                back-long isIdent xs t e k q (omega arith) hq,
-                back-part isIdent xs t e k q (omega arith) hq,
-              )
-              refl
+        module _ (p : getD xs k 0 ≡ 46) (q : ℕ) (hq : q ≡ startFrom isIdent xs k) where
+          before-dot : targetBefore (reverse (take i t)) ≡ cond (not (eqb (k - q) 0)) (targetIn t (At q (k - q) s (m - s))) none
+          before-dot =
+              let v = before-at q (rw before hq) in
+              let d = rw before at v in
+              d ∙ simp (some-name, dot, eq-eqb (getD xs k 0) 46 p)
 
           pub before-no-qualifier : q ≡ k → targetBefore (reverse (take i t)) ≡ none
-          before-no-qualifier h = before-at ∙ simp (eq-eqb (k - q) 0 (omega arith))
+          before-no-qualifier h = before-dot ∙ simp (eq-eqb (k - q) 0 (omega arith))
 
-          pub before-found : (q ≡ k → ⊥) → targetBefore (reverse (take i t)) ≡ targetIn t (At q (k - q) s (m - s))
-          before-found h = before-at ∙ simp (ne-eqb (k - q) 0 (λ z. h (omega arith)))
+          pub before-found : (q ≡ k → ⊥) → q ≤ k → targetBefore (reverse (take i t)) ≡ targetIn t (At q (k - q) s (m - s))
+          before-found h l = before-dot ∙ simp (ne-eqb (k - q) 0 (λ z. h (omega arith)))

@@ -1,9 +1,9 @@
 // The check of a statement: whether it assigns to a qualified target `q.n`, and where that stands.
 use classes::byte_at;
-use classes::is_ident_byte;
-use classes::is_n;
-use classes::is_w;
 use classes::is_word_byte;
+use runs::Set;
+use runs::run_end;
+use runs::run_start;
 use scanner::find_str_in;
 use scanner::starts_ignoring_case;
 use spec::Found;
@@ -13,11 +13,9 @@ ghost use mathlib.Core.List.{List, [], reverse};
 ghost use Prim.Native.Nat.{_+_, _^_, _≤_, _<_};
 ghost use lib.ListN.{length, take, drop, getD};
 ghost use Rattle.spec.specs.Bytes.{isWord, upper};
-ghost use Rattle.spec.specs.Lists.{takeWhile};
 ghost use Rattle.spec.specs.Map.{Marked, marked, bytes};
 ghost use Rattle.spec.proofs.WalkLaws.{prefixBy};
 ghost use Rattle.spec.specs.Assignments.{targetBefore, assignTarget, loneEquals, equalsTarget, markings, markingHere, markedTarget, orElse, statementTarget};
-ghost use Rattle.targets.specs.Sets.{inSet};
 ghost use Rattle.targets.specs.Tells.{Tells, isTarget};
 ghost use Rattle.targets.specs.Words.{entries, blank, metOf, lenMet, casesAfter, casesMet, targetPast, targetMet};
 
@@ -30,14 +28,6 @@ pub enum TargetFound {
         name_len: usize,
     },
     Nothing,
-}
-
-// A set of bytes.
-pub enum Set {
-    W,
-    N,
-    Ident,
-    Semicolon,
 }
 
 // What a marking word does: CASE opens one, END closes one, a statement may follow the others.
@@ -92,49 +82,6 @@ const MARKINGS: [Marking; 6] = [
         mark: Mark::OpensStatement,
     },
 ];
-
-// Whether b is in the set.
-fn is_in(set: Set, b: u8) -> bool
-    ensures { λ r. ⌜ r ≡ inSet set b ⌝ }
-{
-    match set {
-        Set::W => is_w(b),
-        Set::N => is_n(b),
-        Set::Ident => is_ident_byte(b),
-        Set::Semicolon => b == b';',
-    }
-}
-
-// Where the bytes of the set from `from` on end.
-pub fn run_end(text: &[u8], set: Set, from: usize) -> usize
-    ensures { λ r. ⌜ r ≡ from + length (takeWhile (inSet set) (drop from (now (text .entry)))) ⌝ }
-{
-    let mut i = from;
-    while i < text.len() {
-        if is_in(set, text[i]) {
-            i += 1;
-        } else {
-            return i;
-        }
-    }
-    i
-}
-
-// Where the bytes of the set that end at `end` start.
-pub fn run_start(text: &[u8], set: Set, end: usize) -> usize
-    requires { ⌜ end ≤ length (now text) ⌝ }
-    ensures { λ r. ⌜ end ≡ r + length (takeWhile (inSet set) (reverse (take end (now (text .entry))))) ⌝ }
-{
-    let mut i = end;
-    while 0 < i {
-        if is_in(set, text[i - 1]) {
-            i -= 1;
-        } else {
-            return i;
-        }
-    }
-    i
-}
 
 // Whether a target is found.
 fn is_target(f: TargetFound) -> bool

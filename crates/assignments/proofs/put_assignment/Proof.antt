@@ -42,7 +42,7 @@ right-short c =
 name-told : (c : tie.After-starts-name) (t : List Marked) → bytes t ≡ c .before .before .before .before .before .before .before .before .args .statement .now → c .starts-name .result ≡ startsName (take (c .before .before .before .before .before .run-start .result - c .before .before .before .before .run-start2 .result) (drop (c .before .before .before .before .run-start2 .result) t))
 name-told c t e =
     let a = c .before .before .before .before .before .before .before .before .args in
-    c .starts-name .ensures _ (name-bytes (a .statement .now) t e (a .at) _ _ (omega arith) (c .before .before .before .before .before .run-start .ensures) (c .before .before .before .before .run-start2 .ensures))
+    c .starts-name .ensures _ (name-bytes (a .statement .now) t e (a .at) _ _ (omega arith) (c .before .before .before .before .before .run-start .ensures .0) (c .before .before .before .before .run-start2 .ensures .0))
 
 run-start-requires : tie.Need-run-start-requires
 run-start-requires c κs = search needs
@@ -100,7 +100,7 @@ returns : tie.Need-returns
 returns c =
     let a = c .before .before .before .before .before .before .before .before .before .before .before .before .before .before .args in
     λ t e.
-    rw (no-right (a .statement .now) t e (a .at) _ _ (omega arith) (c .before .before .before .before .before .before .before .before .before .before .before .run-start .ensures) (c .before .before .before .before .before .before .before .before .before .before .run-start2 .ensures) _ (right-bytes (c .before .before .before .before .before .before .before) t e) (sym (name-told (c .before .before .before .before .before .before) t e) ∙ c .before .before .before .before .before .if1 .taken) (c .before .before .before .before .if2 .taken))
+    rw (no-right (a .statement .now) t e (a .at) _ _ (omega arith) (c .before .before .before .before .before .before .before .before .before .before .before .run-start .ensures .0) (c .before .before .before .before .before .before .before .before .before .before .run-start2 .ensures .0) _ (right-bytes (c .before .before .before .before .before .before .before) t e) (sym (name-told (c .before .before .before .before .before .before) t e) ∙ c .before .before .before .before .before .if1 .taken) (c .before .before .before .before .if2 .taken))
     (record { counted = c .before .before .put-all .ensures .0; stored = c .before .before .put-all .ensures .1 })
 
 same-length-2 : tie.Need-same-length-2
@@ -110,7 +110,7 @@ returns-2 : tie.Need-returns-2
 returns-2 c =
     let a = c .before .before .before .before .before .before .before .before .before .before .before .before .before .before .before .args in
     λ t e.
-    rw (set-bytes (a .statement .now) t e (a .at) _ _ (omega arith) (c .before .before .before .before .before .before .before .before .before .before .before .before .run-start .ensures) (c .before .before .before .before .before .before .before .before .before .before .before .run-start2 .ensures) _ (right-bytes (c .before .before .before .before .before .before .before .before) t e) (sym (name-told (c .before .before .before .before .before .before .before) t e) ∙ c .before .before .before .before .before .before .if1 .taken) (c .before .before .before .before .before .if2 .left))
+    rw (set-bytes (a .statement .now) t e (a .at) _ _ (omega arith) (c .before .before .before .before .before .before .before .before .before .before .before .before .run-start .ensures .0) (c .before .before .before .before .before .before .before .before .before .before .before .run-start2 .ensures .0) _ (right-bytes (c .before .before .before .before .before .before .before .before) t e) (sym (name-told (c .before .before .before .before .before .before .before) t e) ∙ c .before .before .before .before .before .before .if1 .taken) (c .before .before .before .before .before .if2 .left))
     (c .before .before .put-set .ensures)
 
 same-length-3 : tie.Need-same-length-3
@@ -120,7 +120,7 @@ returns-3 : tie.Need-returns-3
 returns-3 c =
     let a = c .before .before .before .before .before .before .before .before .before .before .before .before .before .args in
     λ t e.
-    rw (no-name (a .statement .now) t e (a .at) _ _ (omega arith) (c .before .before .before .before .before .before .before .before .before .before .run-start .ensures) (c .before .before .before .before .before .before .before .before .before .run-start2 .ensures) (sym (name-told (c .before .before .before .before .before) t e) ∙ c .before .before .before .before .if1 .left))
+    rw (no-name (a .statement .now) t e (a .at) _ _ (omega arith) (c .before .before .before .before .before .before .before .before .before .before .run-start .ensures .0) (c .before .before .before .before .before .before .before .before .before .run-start2 .ensures .0) (sym (name-told (c .before .before .before .before .before) t e) ∙ c .before .before .before .before .if1 .left))
     (record { counted = c .before .before .put-all2 .ensures .0; stored = c .before .before .put-all2 .ensures .1 })
 
 pub put-assignment-spec : {M : Type 1} → statement M

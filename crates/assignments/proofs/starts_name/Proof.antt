@@ -1,6 +1,6 @@
 use mathlib.Core.Path.{sym, ap, _∙_}
 use Rattle.spec.specs.Bytes.{isIdent, isDigit}
-use Rattle.assignments.proofs.TrimLaws.{name-at}
+use Rattle.assignments.proofs.SetLaws.{name-at}
 use borrow.Author.Needs.{needs}
 use Rattle.assignments.proofs.starts_name.Statement.{statement}
 use Rattle.assignments.proofs.starts_name.Tie as tie

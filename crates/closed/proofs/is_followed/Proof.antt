@@ -18,11 +18,11 @@ byte-at-requires-2 c κs = search needs
 is-ident-byte-requires : tie.Need-is-ident-byte-requires
 is-ident-byte-requires c κs = search needs
 
-add-ident-end : tie.Need-add-ident-end
-add-ident-end c = search needs
+add-run-end : tie.Need-add-run-end
+add-run-end c = search needs
 
-ident-end-requires : tie.Need-ident-end-requires
-ident-end-requires c κs = search needs
+run-end-requires : tie.Need-run-end-requires
+run-end-requires c κs = search needs
 
 byte-at-requires-3 : tie.Need-byte-at-requires-3
 byte-at-requires-3 c κs = search needs
@@ -31,7 +31,7 @@ ends-word-requires : tie.Need-ends-word-requires
 ends-word-requires c κs = search needs
 
 returns : tie.Need-returns
-returns c = sym (followed-by (c .before .before .before .before .before .before .before .before .before .args .text .now) (c .before .before .before .before .before .before .before .before .before .args .i) (sym (c .before .before .before .before .before .before .before .byte-at .ensures) ∙ c .before .before .before .before .before .before .if1 .taken) (ap isIdent (sym (c .before .before .before .before .before .byte-at2 .ensures)) ∙ (sym (c .before .before .before .before .is-ident-byte .ensures) ∙ c .before .before .before .if2 .taken)) _ (c .before .before .ident-end .ensures) ∙ (ap endsWord (sym (c .before .byte-at3 .ensures)) ∙ sym (c .ends-word .ensures)))
+returns c = sym (followed-by (c .before .before .before .before .before .before .before .before .before .args .text .now) (c .before .before .before .before .before .before .before .before .before .args .i) (sym (c .before .before .before .before .before .before .before .byte-at .ensures) ∙ c .before .before .before .before .before .before .if1 .taken) (ap isIdent (sym (c .before .before .before .before .before .byte-at2 .ensures)) ∙ (sym (c .before .before .before .before .is-ident-byte .ensures) ∙ c .before .before .before .if2 .taken)) _ (c .before .before .run-end .ensures .0) ∙ (ap endsWord (sym (c .before .byte-at3 .ensures)) ∙ sym (c .ends-word .ensures)))
 
 returns-2 : tie.Need-returns-2
 returns-2 c = sym (followed-no-word (c .before .before .before .before .before .before .args .text .now) (c .before .before .before .before .before .before .args .i) (ap isIdent (sym (c .before .before .byte-at2 .ensures)) ∙ (sym (c .before .is-ident-byte .ensures) ∙ c .if2 .left)))
@@ -47,8 +47,8 @@ is-followed-spec =
     add-byte-at
     byte-at-requires-2
     is-ident-byte-requires
-    add-ident-end
-    ident-end-requires
+    add-run-end
+    run-end-requires
     byte-at-requires-3
     ends-word-requires
     returns

@@ -6,6 +6,7 @@ use lib.Seq.{length-take-le}
 use Prim.Native.Nat.{ℕ}
 use Rattle.spec.specs.Bytes.{isPair}
 use Rattle.spec.specs.Lists.{any}
+use Rattle.runs.proofs.RunLaws.{any-byte}
 use Rattle.closed.proofs.ClosedLaws.{plain-line, plain-block, plain-newline, plain-other}
 use borrow.Author.Needs.{needs}
 use Rattle.closed.proofs.is_plain_span.Statement.{statement}
@@ -39,14 +40,14 @@ returns-2 c = sym (plain-block (c .before .before .before .before .before .befor
 returns-3 : tie.Need-returns-3
 returns-3 c = sym (plain-newline (c .before .before .before .before .before .before .before .before .args .rest .now) (no-line (c .before .before .before)) (no-block (c .before)) (sym (c .before .before .before .before .before .before .byte-at .ensures) ∙ c .if3 .taken))
 
-slice-aggregate-has-byte : tie.Need-slice-aggregate-has-byte
-slice-aggregate-has-byte c = sym (length-take-le (c .before .before .before .before .before .before .before .before .before .args .n) (c .before .before .before .before .before .before .before .before .before .args .rest .now) (c .before .before .before .before .before .before .before .before .before .pre .1))
+slice-aggregate-has : tie.Need-slice-aggregate-has
+slice-aggregate-has c = sym (length-take-le (c .before .before .before .before .before .before .before .before .before .args .n) (c .before .before .before .before .before .before .before .before .before .args .rest .now) (c .before .before .before .before .before .before .before .before .before .pre .1))
 
-has-byte-requires : tie.Need-has-byte-requires
-has-byte-requires c κs = search needs
+has-requires : tie.Need-has-requires
+has-requires c κs = search needs
 
 returns-4 : tie.Need-returns-4
-returns-4 c = ap not (c .has-byte .ensures ∙ ap (λ (n : ℕ). any (eqb 10) (take n (c .before .before .before .before .before .before .before .before .before .before .args .rest .now))) (c .before .before .before .before .before .before .before .before .before .before .pre .0)) ∙ sym (plain-other (c .before .before .before .before .before .before .before .before .before .before .args .rest .now) (no-line (c .before .before .before .before .before)) (no-block (c .before .before .before)) (λ e. c .before .before .if3 .left (c .before .before .before .before .before .before .before .before .byte-at .ensures ∙ e)))
+returns-4 c = ap not (c .has .ensures ∙ any-byte 10 _ ∙ ap (λ (n : ℕ). any (eqb 10) (take n (c .before .before .before .before .before .before .before .before .before .before .args .rest .now))) (c .before .before .before .before .before .before .before .before .before .before .pre .0)) ∙ sym (plain-other (c .before .before .before .before .before .before .before .before .before .before .args .rest .now) (no-line (c .before .before .before .before .before)) (no-block (c .before .before .before)) (λ e. c .before .before .if3 .left (c .before .before .before .before .before .before .before .before .byte-at .ensures ∙ e)))
 
 pub is-plain-span-spec : {M : Type 1} → statement M
 is-plain-span-spec =
@@ -59,6 +60,6 @@ is-plain-span-spec =
     is-pair-requires-2
     returns-2
     returns-3
-    slice-aggregate-has-byte
-    has-byte-requires
+    slice-aggregate-has
+    has-requires
     returns-4)

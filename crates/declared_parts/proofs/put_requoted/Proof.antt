@@ -6,25 +6,25 @@ use lib.Seq.{sets, length-take-le}
 use Rattle.spec.specs.Bytes.{isIdent}
 use Rattle.spec.specs.Requote.{singleQuoted}
 use Rattle.spec.specs.Declarations.{delimiterOf}
-use Rattle.spec.proofs.WalkLaws.{while-length}
+use Rattle.runs.proofs.RunLaws.{end-le}
 use Rattle.declared_parts.proofs.WholeLaws.{delimiter-length, whole-long, whole-text, other-text}
 use borrow.Author.Needs.{needs}
 use Rattle.declared_parts.proofs.put_requoted.Statement.{statement}
 use Rattle.declared_parts.proofs.put_requoted.Tie as tie
 
 -- the delimiter's length
-long : (c : tie.After-ident-end) → c .ident-end .result + 1 ≡ length (delimiterOf (c .before .before .before .args .text .now))
-long c = omega (arith, c .ident-end .ensures, delimiter-length (c .before .before .before .args .text .now))
+long : (c : tie.After-run-end) → c .run-end .result + 1 ≡ length (delimiterOf (c .before .before .before .args .text .now))
+long c = omega (arith, c .run-end .ensures .0, delimiter-length (c .before .before .before .args .text .now))
 
 -- a whole default has two delimiters
-fits : (c : tie.Then1) → 2 * (c .before .before .ident-end .result + 1) ≤ length (c .before .before .before .before .before .args .text .now)
-fits c = whole-long (c .before .before .before .before .before .args .text .now) (c .before .before .ident-end .result + 1) (long (c .before .before)) (sym (c .before .is-whole .ensures) ∙ c .if1 .taken)
+fits : (c : tie.Then1) → 2 * (c .before .before .run-end .result + 1) ≤ length (c .before .before .before .before .before .args .text .now)
+fits c = whole-long (c .before .before .before .before .before .args .text .now) (c .before .before .run-end .result + 1) (long (c .before .before)) (sym (c .before .is-whole .ensures) ∙ c .if1 .taken)
 
-ident-end-requires : tie.Need-ident-end-requires
-ident-end-requires c κs = search needs
+run-end-requires : tie.Need-run-end-requires
+run-end-requires c κs = search needs
 
 add-d : tie.Need-add-d
-add-d c = omega (arith, c .ident-end .ensures, while-length isIdent (drop 1 (c .before .before .before .args .text .now)), length-drop 1 (c .before .before .before .args .text .now))
+add-d c = omega (arith, c .run-end .ensures .0, end-le isIdent (c .before .before .before .args .text .now) 1)
 
 is-whole-requires : tie.Need-is-whole-requires
 is-whole-requires c κs = (long c, omega arith)
@@ -44,7 +44,7 @@ part-put-single-quoted-end c = search needs
 put-single-quoted-requires : tie.Need-put-single-quoted-requires
 put-single-quoted-requires c κs =
     let a = c .before .before .before .before .before .before .before .args in
-    let d = c .before .before .before .before .ident-end .result + 1 in
+    let d = c .before .before .before .before .run-end .result + 1 in
     let e : length (take (length (a .text .now) - d - d) (drop d (a .text .now))) ≡ length (a .text .now) - d - d = length-take-le _ (drop d (a .text .now)) (omega (arith, length-drop d (a .text .now))) in
     omega arith
 
@@ -57,7 +57,7 @@ same-length c = search needs
 returns : tie.Need-returns
 returns c =
     let a = c .before .before .before .before .before .before .before .before .before .before .args in
-    let d = c .before .before .before .before .before .before .before .ident-end .result + 1 in
+    let d = c .before .before .before .before .before .before .before .run-end .result + 1 in
     let p = c .before .before .put-single-quoted in
     let e = whole-text (a .text .now) d (long (c .before .before .before .before .before .before .before)) (sym (c .before .before .before .before .before .before .is-whole .ensures) ∙ c .before .before .before .before .before .if1 .taken) in
     let counted : p .result ≡ a .n + length (singleQuoted (take (length (a .text .now) - d - d) (drop d (a .text .now)))) = p .ensures .0 in
@@ -70,7 +70,7 @@ same-length-2 c = search needs
 returns-2 : tie.Need-returns-2
 returns-2 c =
     let a = c .before .before .before .before .before .before .before .before .before .args in
-    let d = c .before .before .before .before .before .before .ident-end .result + 1 in
+    let d = c .before .before .before .before .before .before .run-end .result + 1 in
     let p = c .before .before .put-all in
     let e = other-text (a .text .now) d (long (c .before .before .before .before .before .before)) (sym (c .before .before .before .before .before .is-whole .ensures) ∙ c .before .before .before .before .if1 .left) in
     (rw e (p .ensures .0), rw e (p .ensures .1))
@@ -79,7 +79,7 @@ pub put-requoted-spec : {M : Type 1} → statement M
 put-requoted-spec =
     tie.close
     (tie.spec
-    ident-end-requires
+    run-end-requires
     add-d
     is-whole-requires
     sub-e

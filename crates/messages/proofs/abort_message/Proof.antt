@@ -12,8 +12,10 @@ use Rattle.spec.specs.Map.{bytes, lives}
 use Rattle.spec.specs.Assignments.{trim}
 use Rattle.spec.specs.Outcome.{accepted}
 use Rattle.spec.specs.Raise.{actionFate}
-use Rattle.messages.specs.Readings.{trimmed, aborting, abortOf}
-use Rattle.messages.proofs.MessageLaws.{bytes-trim, trimmed-le, message-is, message-le}
+use Rattle.runs.specs.Sets.{trimmed}
+use Rattle.runs.proofs.RunLaws.{trimmed-le, trim-bytes}
+use Rattle.messages.specs.Readings.{aborting, abortOf}
+use Rattle.messages.proofs.MessageLaws.{message-is, message-le}
 use Rattle.messages.proofs.UsingLaws.{abort-is}
 use borrow.Author.Needs.{needs}
 use Rattle.messages.proofs.abort_message.Statement.{statement}
@@ -23,7 +25,7 @@ use Rattle.messages.proofs.abort_message.Tie as tie
 content : (c : tie.After-trim) → bytes (trim (lives (c .before .before .args .content .now))) ≡ c .trim .result .now
 content c =
     let xs = c .before .before .args .content .now in
-    bytes-trim (lives xs) ∙ (ap trimmed (bytes-lives xs) ∙ sym (c .trim .ensures))
+    trim-bytes (lives xs) ∙ (ap trimmed (bytes-lives xs) ∙ sym (c .trim .ensures))
 
 -- it is no longer than the content
 shorter : (c : tie.After-trim) → length (c .trim .result .now) ≤ length (c .before .before .args .content .now)

@@ -17,7 +17,7 @@ use Rattle.spec.specs.Map.{Marked, bytes, lives}
 use Rattle.spec.specs.Outcome.{usingClause, accepted, refused, forget}
 use Rattle.spec.specs.Raise.{usingFate, fateText}
 use Rattle.messages.specs.Readings.{aborting}
-use Rattle.messages.proofs.TextLaws.{run-within, run-le}
+use Rattle.runs.proofs.RunLaws.{end-le}
 use Rattle.messages.proofs.MessageLaws.{messageIn, message-is, message-le}
 use Rattle.messages.proofs.UsingLaws.{no-message, no-equals, no-quote, at-quote}
 use borrow.Author.Needs.{needs}
@@ -25,26 +25,26 @@ use Rattle.messages.proofs.using_message.Statement.{statement}
 use Rattle.messages.proofs.using_message.Tie as tie
 
 -- whether MESSAGE stands behind the W
-named : (c : tie.After-starts-ignoring-case) → c .starts-ignoring-case .result ≡ prefixBy upper (ascii "MESSAGE") (drop (c .before .before .before .skip-w .result) (c .before .before .before .before .before .args .content .now))
+named : (c : tie.After-starts-ignoring-case) → c .starts-ignoring-case .result ≡ prefixBy upper (ascii "MESSAGE") (drop (c .before .before .before .run-end .result) (c .before .before .before .before .before .args .content .now))
 named c =
     let skipped = c .before .before .before in
     let xs = skipped .before .before .args .content .now in
-    let a = skipped .skip-w .result in
+    let a = skipped .run-end .result in
     let h : c .starts-ignoring-case .result ≡ prefixBy upper (ascii "MESSAGE") (take (length xs - a) (drop a xs)) = c .starts-ignoring-case .ensures in
     rw rest-of at h
 
 -- it does
-message-named : (c : tie.Else1) → prefixBy upper (ascii "MESSAGE") (drop (c .before .before .before .before .skip-w .result) (c .before .before .before .before .before .before .args .content .now)) ≡ true
+message-named : (c : tie.Else1) → prefixBy upper (ascii "MESSAGE") (drop (c .before .before .before .before .run-end .result) (c .before .before .before .before .before .before .args .content .now)) ≡ true
 message-named c = sym (named (c .before)) ∙ not-false _ (c .if1 .left)
 
-skip-w-requires : tie.Need-skip-w-requires
-skip-w-requires c κs = search needs
+run-end-requires : tie.Need-run-end-requires
+run-end-requires c κs = search needs
 
 sub-starts-ignoring-case : tie.Need-sub-starts-ignoring-case
-sub-starts-ignoring-case c = run-within isW (c .before .before .args .content .now) 5 _ (c .skip-w .ensures) (omega arith)
+sub-starts-ignoring-case c = c .run-end .ensures .1 (omega arith)
 
 part-starts-ignoring-case-start : tie.Need-part-starts-ignoring-case-start
-part-starts-ignoring-case-start c = run-within isW (c .before .before .args .content .now) 5 _ (c .skip-w .ensures) (omega arith)
+part-starts-ignoring-case-start c = c .run-end .ensures .1 (omega arith)
 
 part-starts-ignoring-case-end : tie.Need-part-starts-ignoring-case-end
 part-starts-ignoring-case-end c = search needs
@@ -59,15 +59,15 @@ returns : tie.Need-returns
 returns c =
     let first = c .before .before .before .before in
     let xs = first .before .before .args .content .now in
-    ((λ t e. no-message t xs e _ _ _ _ (first .skip-w .ensures) refl refl refl (sym (named (c .before)) ∙ not-true _ (c .if1 .taken))), omega arith)
+    ((λ t e. no-message t xs e _ _ _ _ (first .run-end .ensures .0) refl refl refl (sym (named (c .before)) ∙ not-true _ (c .if1 .taken))), omega arith)
 
-add-skip-w : tie.Need-add-skip-w
-add-skip-w c =
+add-run-end : tie.Need-add-run-end
+add-run-end c =
     let first = c .before .before .before .before in
-    omega (arith, first .skip-w .ensures, run-le isW (first .before .before .args .content .now) 5)
+    omega (arith, first .run-end .ensures .0, end-le isW (first .before .before .args .content .now) 5)
 
-skip-w-requires-2 : tie.Need-skip-w-requires-2
-skip-w-requires-2 c κs = search needs
+run-end-requires-2 : tie.Need-run-end-requires-2
+run-end-requires-2 c κs = search needs
 
 byte-at-requires : tie.Need-byte-at-requires
 byte-at-requires c κs = search needs
@@ -77,19 +77,19 @@ returns-2 c =
     let test = c .before .before .before in
     let first = test .before .before .before .before in
     let xs = first .before .before .args .content .now in (
-      (λ t e. no-equals t xs e _ _ _ _ (first .skip-w .ensures) (c .before .before .skip-w2 .ensures) refl refl (message-named test) (ne-eqb _ _ (λ q. c .if2 .taken (c .before .byte-at .ensures ∙ q)))),
+      (λ t e. no-equals t xs e _ _ _ _ (first .run-end .ensures .0) (c .before .before .run-end2 .ensures .0) refl refl (message-named test) (ne-eqb _ _ (λ q. c .if2 .taken (c .before .byte-at .ensures ∙ q)))),
       omega arith,
     )
 
-add-skip-w-2 : tie.Need-add-skip-w-2
-add-skip-w-2 c =
+add-run-end-2 : tie.Need-add-run-end-2
+add-run-end-2 c =
     let second = c .before .before in
     let first = second .before .before .before .before .before in
     let xs = first .before .before .args .content .now in
-    omega (arith, second .skip-w2 .ensures, first .skip-w .ensures, run-le isW xs 5, run-le isW xs (first .skip-w .result + 7))
+    omega (arith, second .run-end2 .ensures .0, first .run-end .ensures .0, end-le isW xs 5, end-le isW xs (first .run-end .result + 7))
 
-skip-w-requires-3 : tie.Need-skip-w-requires-3
-skip-w-requires-3 c κs = search needs
+run-end-requires-3 : tie.Need-run-end-requires-3
+run-end-requires-3 c κs = search needs
 
 byte-at-requires-2 : tie.Need-byte-at-requires-2
 byte-at-requires-2 c κs = search needs
@@ -100,7 +100,7 @@ returns-3 c =
     let test = equals .before .before .before in
     let first = test .before .before .before .before in
     let xs = first .before .before .args .content .now in (
-      (λ t e. no-quote t xs e _ _ _ _ (first .skip-w .ensures) (equals .before .before .skip-w2 .ensures) (c .before .before .skip-w3 .ensures) refl (message-named test) (eq-eqb _ _ (sym (equals .before .byte-at .ensures) ∙ equals .if2 .left)) (ne-eqb _ _ (λ q. c .if3 .taken (c .before .byte-at2 .ensures ∙ q)))),
+      (λ t e. no-quote t xs e _ _ _ _ (first .run-end .ensures .0) (equals .before .before .run-end2 .ensures .0) (c .before .before .run-end3 .ensures .0) refl (message-named test) (eq-eqb _ _ (sym (equals .before .byte-at .ensures) ∙ equals .if2 .left)) (ne-eqb _ _ (λ q. c .if3 .taken (c .before .byte-at2 .ensures ∙ q)))),
       omega arith,
     )
 
@@ -114,7 +114,7 @@ content-of c =
 
 -- the quote's place
 abbrev quote-of : tie.Else3 → ℕ
-quote-of c = c .before .before .skip-w3 .result
+quote-of c = c .before .before .run-end3 .result
 
 -- it lies within the content
 quoted-in : (c : tie.Else3) → quote-of c < length (content-of c)
@@ -149,25 +149,25 @@ part-extract-first-string-literal-end c = search needs
 extract-first-string-literal-requires : tie.Need-extract-first-string-literal-requires
 extract-first-string-literal-requires c κs = search needs
 
-add-skip-w-3 : tie.Need-add-skip-w-3
-add-skip-w-3 c = omega (arith, found-in c)
+add-run-end-3 : tie.Need-add-run-end-3
+add-run-end-3 c = omega (arith, found-in c)
 
-skip-w-requires-4 : tie.Need-skip-w-requires-4
-skip-w-requires-4 c κs = search needs
+run-end-requires-4 : tie.Need-run-end-requires-4
+run-end-requires-4 c κs = search needs
 
 -- what it comes to
-judged : (c : tie.After-skip-w4) (t : List Marked) → bytes t ≡ content-of (c .before .before .before)
+judged : (c : tie.After-run-end4) (t : List Marked) → bytes t ≡ content-of (c .before .before .before)
     → let xs = content-of (c .before .before .before) in
     forget (fateText (usingFate t (drop 5 t)))
-    ≡ cond (leb (length xs) (c .skip-w4 .result)) (accepted (aborting (c .before .extract-first-string-literal .result .now))) (refused (usingClause xs))
+    ≡ cond (leb (length xs) (c .run-end4 .result)) (accepted (aborting (c .before .extract-first-string-literal .result .now))) (refused (usingClause xs))
 judged c t e =
     let quote = c .before .before .before in
     let equals = quote .before .before .before in
     let test = equals .before .before .before in
     let first = test .before .before .before .before in
-    rw (c .skip-w4 .ensures)
+    rw (c .run-end4 .ensures .0)
     (at-quote t (first .before .before .args .content .now) e _ _ _ _
-    (first .skip-w .ensures) (equals .before .before .skip-w2 .ensures) (quote .before .before .skip-w3 .ensures) (found (c .before)) (message-named test)
+    (first .run-end .ensures .0) (equals .before .before .run-end2 .ensures .0) (quote .before .before .run-end3 .ensures .0) (found (c .before)) (message-named test)
     (eq-eqb _ _ (sym (equals .before .byte-at .ensures) ∙ equals .if2 .left)) (eq-eqb _ _ (sym (quote .before .byte-at2 .ensures) ∙ quote .if3 .left)))
 
 returns-4 : tie.Need-returns-4
@@ -180,26 +180,26 @@ pub using-message-spec : {M : Type 1} → statement M
 using-message-spec =
     tie.close
     (tie.spec
-    skip-w-requires
+    run-end-requires
     sub-starts-ignoring-case
     part-starts-ignoring-case-start
     part-starts-ignoring-case-end
     slice-aggregate-starts-ignoring-case
     starts-ignoring-case-requires
     returns
-    add-skip-w
-    skip-w-requires-2
+    add-run-end
+    run-end-requires-2
     byte-at-requires
     returns-2
-    add-skip-w-2
-    skip-w-requires-3
+    add-run-end-2
+    run-end-requires-3
     byte-at-requires-2
     returns-3
     sub-extract-first-string-literal
     part-extract-first-string-literal-start
     part-extract-first-string-literal-end
     extract-first-string-literal-requires
-    add-skip-w-3
-    skip-w-requires-4
+    add-run-end-3
+    run-end-requires-4
     returns-4
     returns-5)

@@ -3,10 +3,13 @@ use native.Mathlib.Omega.{arith}
 use mathlib.Core.Path.{_≡_, refl, _∙_}
 use Prim.Native.Nat.{_+_, _-_, _≤_}
 use lib.ListN.{length, take, drop}
+use Rattle.spec.specs.Bytes.{isW}
+use Rattle.spec.specs.Lists.{takeWhile}
 use Rattle.spec.specs.Map.{marked}
 use Rattle.spec.specs.Search.{first}
 use Rattle.spec.specs.SelectInto.{commaHere, listed, placeOr}
 use Rattle.spec.proofs.AheadLaws.{rest-of}
+use Rattle.runs.proofs.RunLaws.{start-whole}
 use Rattle.quotes.proofs.ItemLaws.{commaAt, comma-part, comma-within, lead-within, item-over, item-skip, item-found}
 use Rattle.quotes.proofs.next_item.Statement.{statement}
 use Rattle.quotes.proofs.next_item.Tie as tie
@@ -30,9 +33,14 @@ comma c =
 within : (c : tie.After-comma-at Inv-loop μ-loop) → c .before .before .before .before .loop .at + c .comma-at .result ≤ length (c .before .before .before .before .before .before .before .args .text .now)
 within c = comma-within (c .before .before .before .before .before .before .before .args .text .now) (c .before .before .before .before .before .before .before .args .map .now) (c .before .before .before .before .loop .at) (c .comma-at .result) (omega arith) (comma c)
 
--- and W ends at it or before
-lead : (c : tie.After-leading-w Inv-loop μ-loop) → c .leading-w .result ≤ c .before .before .comma-at .result
-lead c = lead-within (c .before .before .before .before .before .before .before .before .before .args .text .now) (c .before .before .before .before .before .before .before .before .before .args .map .now) (c .before .before .before .before .before .before .loop .at) (c .before .before .comma-at .result) (c .leading-w .result) (omega arith) (comma (c .before .before)) (c .leading-w .ensures)
+-- W in front of it, which ends at it or before
+white : (c : tie.After-run-end Inv-loop μ-loop) → let at-comma = c .before .before in let at = at-comma .before .before .before .before .loop .at in c .run-end .result ≡ length (takeWhile isW (take (at + at-comma .comma-at .result - at) (drop at (at-comma .before .before .before .before .before .before .before .args .text .now))))
+white c = omega (arith, c .run-end .ensures .0)
+
+lead : (c : tie.After-run-end Inv-loop μ-loop) → c .run-end .result ≤ c .before .before .comma-at .result
+lead c =
+    let at-comma = c .before .before in
+    lead-within (at-comma .before .before .before .before .before .before .before .args .text .now) (at-comma .before .before .before .before .before .before .before .args .map .now) (at-comma .before .before .before .before .loop .at) (at-comma .comma-at .result) (c .run-end .result) (omega arith) (comma at-comma) (white c)
 
 loop-holds : tie.Need-loop-holds Inv-loop μ-loop
 loop-holds c = (omega arith, refl)
@@ -61,41 +69,43 @@ comma-at-requires c κs = search needs
 add-end : tie.Need-add-end Inv-loop μ-loop
 add-end c = omega (arith, within c)
 
-sub-leading-w : tie.Need-sub-leading-w Inv-loop μ-loop
-sub-leading-w c = omega (arith, within c)
+sub-run-end : tie.Need-sub-run-end Inv-loop μ-loop
+sub-run-end c = omega (arith, within c)
 
-part-leading-w-start : tie.Need-part-leading-w-start Inv-loop μ-loop
-part-leading-w-start c = omega (arith, within c)
+part-run-end-start : tie.Need-part-run-end-start Inv-loop μ-loop
+part-run-end-start c = omega (arith, within c)
 
-part-leading-w-end : tie.Need-part-leading-w-end Inv-loop μ-loop
-part-leading-w-end c = omega (arith, within c)
+part-run-end-end : tie.Need-part-run-end-end Inv-loop μ-loop
+part-run-end-end c = omega (arith, within c)
 
-leading-w-requires : tie.Need-leading-w-requires Inv-loop μ-loop
-leading-w-requires c κs = search needs
+run-end-requires : tie.Need-run-end-requires Inv-loop μ-loop
+run-end-requires c κs = search needs
 
 add-start : tie.Need-add-start Inv-loop μ-loop
 add-start c = omega (arith, within (c .before .before), lead c)
 
-sub-trimmed-len : tie.Need-sub-trimmed-len Inv-loop μ-loop
-sub-trimmed-len c = omega (arith, within (c .before .before .before), lead (c .before))
+sub-rest : tie.Need-sub-rest Inv-loop μ-loop
+sub-rest c = omega (arith, within (c .before .before .before), lead (c .before))
 
-part-trimmed-len-start : tie.Need-part-trimmed-len-start Inv-loop μ-loop
-part-trimmed-len-start c = omega (arith, within (c .before .before .before), lead (c .before))
+part-rest-start : tie.Need-part-rest-start Inv-loop μ-loop
+part-rest-start c = omega (arith, within (c .before .before .before), lead (c .before))
 
-part-trimmed-len-end : tie.Need-part-trimmed-len-end Inv-loop μ-loop
-part-trimmed-len-end c = omega (arith, within (c .before .before .before), lead (c .before))
+part-rest-end : tie.Need-part-rest-end Inv-loop μ-loop
+part-rest-end c = omega (arith, within (c .before .before .before), lead (c .before))
 
-trimmed-len-requires : tie.Need-trimmed-len-requires Inv-loop μ-loop
-trimmed-len-requires c κs = search needs
+run-start-requires : tie.Need-run-start-requires Inv-loop μ-loop
+run-start-requires c κs = search needs
 
-add-t22 : tie.Need-add-t22 Inv-loop μ-loop
-add-t22 c = omega (arith, within (c .before .before .before .before .before))
+add-t24 : tie.Need-add-t24 Inv-loop μ-loop
+add-t24 c = omega (arith, within (c .before .before .before .before .before))
 
 returns : tie.Need-returns Inv-loop μ-loop
 returns c =
-    let l = c .before .before .before .before .before .before .before .before .before .loop in
-    let a = c .before .before .before .before .before .before .before .before .before .before .before .before .args in
-    item-found (a .text .now) (a .map .now) (l .at) (c .before .before .before .before .before .comma-at .result) (c .before .before .before .leading-w .result) (omega arith) (comma (c .before .before .before .before .before)) (c .before .before .before .leading-w .ensures) (c .trimmed-len .result) (c .trimmed-len .ensures) (a .from) (l .inv .1) (l .inv .0) (c .before .before .if1 .taken)
+    let at-run = c .before .before .before in
+    let at-comma = at-run .before .before in
+    let l = at-comma .before .before .before .before .loop in
+    let a = at-comma .before .before .before .before .before .before .before .args in
+    item-found (a .text .now) (a .map .now) (l .at) (at-comma .comma-at .result) (at-run .run-end .result) (omega arith) (comma at-comma) (white at-run) (c .run-start .result) (start-whole isW _ _ (c .run-start .ensures .0) .0) (a .from) (l .inv .1) (l .inv .0) (c .before .before .if1 .taken)
 
 add-at : tie.Need-add-at Inv-loop μ-loop
 add-at c = omega (arith, within (c .before .before .before))
@@ -105,9 +115,10 @@ loop-less c = omega (arith, within (c .before .before .before))
 
 loop-again : tie.Need-loop-again Inv-loop μ-loop
 loop-again c =
-    let l = c .before .before .before .before .before .before .before .loop in
-    let a = c .before .before .before .before .before .before .before .before .before .before .args in
-    (omega arith, l .inv .1 ∙ item-skip (a .text .now) (a .map .now) (l .at) (c .before .before .before .comma-at .result) (c .before .leading-w .result) (omega arith) (comma (c .before .before .before)) (c .before .leading-w .ensures) (omega (arith, c .if1 .left)))
+    let at-comma = c .before .before .before in
+    let l = at-comma .before .before .before .before .loop in
+    let a = at-comma .before .before .before .before .before .before .before .args in
+    (omega arith, l .inv .1 ∙ item-skip (a .text .now) (a .map .now) (l .at) (at-comma .comma-at .result) (c .before .run-end .result) (omega arith) (comma at-comma) (white (c .before)) (omega (arith, c .if1 .left)))
 
 returns-2 : tie.Need-returns-2 Inv-loop μ-loop
 returns-2 c =
@@ -130,16 +141,16 @@ next-item-spec =
     part-comma-at-end-2
     comma-at-requires
     add-end
-    sub-leading-w
-    part-leading-w-start
-    part-leading-w-end
-    leading-w-requires
+    sub-run-end
+    part-run-end-start
+    part-run-end-end
+    run-end-requires
     add-start
-    sub-trimmed-len
-    part-trimmed-len-start
-    part-trimmed-len-end
-    trimmed-len-requires
-    add-t22
+    sub-rest
+    part-rest-start
+    part-rest-end
+    run-start-requires
+    add-t24
     returns
     add-at
     loop-less

@@ -46,23 +46,23 @@ returns c =
 add-end : tie.Need-add-end Inv-loop μ-loop
 add-end c = let h = given-item c in omega (arith, h .inside, marked-length (c .before .before .before .before .before .before .before .args .text .now) (c .before .before .before .before .before .before .before .args .map .now))
 
-sub-has-w : tie.Need-sub-has-w Inv-loop μ-loop
-sub-has-w c = let h = given-item c in omega arith
+sub-has : tie.Need-sub-has Inv-loop μ-loop
+sub-has c = let h = given-item c in omega arith
 
-part-has-w-start : tie.Need-part-has-w-start Inv-loop μ-loop
-part-has-w-start c = let h = given-item c in omega (arith, h .inside, marked-length (c .before .before .before .before .before .before .before .args .text .now) (c .before .before .before .before .before .before .before .args .map .now))
+part-has-start : tie.Need-part-has-start Inv-loop μ-loop
+part-has-start c = let h = given-item c in omega (arith, h .inside, marked-length (c .before .before .before .before .before .before .before .args .text .now) (c .before .before .before .before .before .before .before .args .map .now))
 
-part-has-w-end : tie.Need-part-has-w-end Inv-loop μ-loop
-part-has-w-end c = let h = given-item c in omega (arith, h .inside, marked-length (c .before .before .before .before .before .before .before .args .text .now) (c .before .before .before .before .before .before .before .args .map .now))
+part-has-end : tie.Need-part-has-end Inv-loop μ-loop
+part-has-end c = let h = given-item c in omega (arith, h .inside, marked-length (c .before .before .before .before .before .before .before .args .text .now) (c .before .before .before .before .before .before .before .args .map .now))
 
-has-w-requires : tie.Need-has-w-requires Inv-loop μ-loop
-has-w-requires c κs = search needs
+has-requires : tie.Need-has-requires Inv-loop μ-loop
+has-requires c κs = search needs
 
 returns-2 : tie.Need-returns-2 Inv-loop μ-loop
 returns-2 c =
     let a = c .before .before .before .before .before .before .before .before .before .before .args in
     let h = given-item (c .before .before .before) in
-    sym (c .before .before .before .before .before .before .before .loop .inv ∙ any-hit (λ (v : List Marked). any (ofByte isW) v) _ _ _ (h .front) (sym (any-part isW (a .text .now) (a .map .now) (c .before .before .before .before .item .given .0 .0) (c .before .before .before .before .item .given .0 .1 .0)) ∙ (sym (c .before .has-w .ensures) ∙ c .if1 .taken)))
+    sym (c .before .before .before .before .before .before .before .loop .inv ∙ any-hit (λ (v : List Marked). any (ofByte isW) v) _ _ _ (h .front) (sym (any-part isW (a .text .now) (a .map .now) (c .before .before .before .before .item .given .0 .0) (c .before .before .before .before .item .given .0 .1 .0)) ∙ (sym (c .before .has .ensures) ∙ c .if1 .taken)))
 
 loop-less : tie.Need-loop-less Inv-loop μ-loop
 loop-less c = let h = given-item (c .before .before .before) in omega (arith, h .behind, h .beyond, h .inside, marked-length (c .before .before .before .before .before .before .before .before .before .before .args .text .now) (c .before .before .before .before .before .before .before .before .before .before .args .map .now))
@@ -71,7 +71,7 @@ loop-again : tie.Need-loop-again Inv-loop μ-loop
 loop-again c =
     let a = c .before .before .before .before .before .before .before .before .before .before .args in
     let h = given-item (c .before .before .before) in
-    c .before .before .before .before .before .before .before .loop .inv ∙ any-miss (λ (v : List Marked). any (ofByte isW) v) _ _ _ (h .front) (sym (any-part isW (a .text .now) (a .map .now) (c .before .before .before .before .item .given .0 .0) (c .before .before .before .before .item .given .0 .1 .0)) ∙ (sym (c .before .has-w .ensures) ∙ c .if1 .left))
+    c .before .before .before .before .before .before .before .loop .inv ∙ any-miss (λ (v : List Marked). any (ofByte isW) v) _ _ _ (h .front) (sym (any-part isW (a .text .now) (a .map .now) (c .before .before .before .before .item .given .0 .0) (c .before .before .before .before .item .given .0 .1 .0)) ∙ (sym (c .before .has .ensures) ∙ c .if1 .left))
 
 pub has-w-inside-spec : {M : Type 1} → statement M
 has-w-inside-spec =
@@ -85,10 +85,10 @@ has-w-inside-spec =
     enum-told
     returns
     add-end
-    sub-has-w
-    part-has-w-start
-    part-has-w-end
-    has-w-requires
+    sub-has
+    part-has-start
+    part-has-end
+    has-requires
     returns-2
     loop-less
     loop-again)

@@ -1,10 +1,9 @@
-use Prim.Native.Nat.{_+_, _≤_}
-use Rattle.targets.proofs.NameLaws.{dot-inside, same-length, equals-no-qualifier, equals-no-dot, equals-no-name, equals-found}
+use Prim.Native.Nat.{_≤_}
+use Rattle.targets.proofs.NameLaws.{same-length, equals-no-qualifier, equals-no-dot, equals-no-name, equals-found}
 use native.Mathlib.Omega.{arith}
 use lib.ListN.{length}
 use mathlib.Core.Path.{sym, _∙_}
-use Rattle.spec.specs.Bytes.{isIdent, isN}
-use Rattle.targets.proofs.RunLaws.{end-within}
+use Rattle.spec.proofs.SpanLaws.{seen}
 use borrow.Author.Needs.{needs}
 use Rattle.targets.proofs.qualified_name_at_with_equals.Statement.{statement}
 use Rattle.targets.proofs.qualified_name_at_with_equals.Tie as tie
@@ -13,8 +12,8 @@ use Rattle.targets.proofs.qualified_name_at_with_equals.Tie as tie
 name-within : (c : tie.After-run-end3) → c .run-end3 .result ≤ length (c .before .before .before .before .before .before .before .args .statement .now)
 name-within c =
     let xs = c .before .before .before .before .before .before .before .args .statement .now in
-    let d = dot-inside xs _ (sym (c .before .before .byte-at .ensures) ∙ c .before .if2 .left) in
-    omega (arith, end-within isIdent xs (c .before .before .before .before .run-end2 .result + 1) (omega arith))
+    let d = seen xs _ 45 (sym (c .before .before .byte-at .ensures) ∙ c .before .if2 .left) in
+    c .run-end3 .ensures .1 (omega arith)
 
 run-end-requires : tie.Need-run-end-requires
 run-end-requires c κs = search needs
@@ -24,33 +23,31 @@ run-end-requires-2 c κs = search needs
 
 returns : tie.Need-returns
 returns c =
-    λ t e. record { target = equals-no-qualifier _ t e _ _ _ (c .before .before .run-end .ensures) (c .before .run-end2 .ensures) (c .if1 .taken); inside = tt }
+    λ t e. record { target = equals-no-qualifier _ t e _ _ _ (c .before .before .run-end .ensures .0) (c .before .run-end2 .ensures .0) (c .if1 .taken); inside = tt }
 
 byte-at-requires : tie.Need-byte-at-requires
 byte-at-requires c κs = search needs
 
 returns-2 : tie.Need-returns-2
 returns-2 c =
-    λ t e. record { target = equals-no-dot _ t e _ _ _ (c .before .before .before .before .run-end .ensures) (c .before .before .before .run-end2 .ensures) (c .before .before .if1 .left) (λ z. c .if2 .taken (c .before .byte-at .ensures ∙ z)); inside = tt }
+    λ t e. record { target = equals-no-dot _ t e _ _ _ (c .before .before .before .before .run-end .ensures .0) (c .before .before .before .run-end2 .ensures .0) (c .before .before .if1 .left) (λ z. c .if2 .taken (c .before .byte-at .ensures ∙ z)); inside = tt }
 
 add-name-start : tie.Need-add-name-start
-add-name-start c = omega (arith, dot-inside (c .before .before .before .before .before .before .args .statement .now) (c .before .before .before .run-end2 .result) (sym (c .before .byte-at .ensures) ∙ c .if2 .left))
+add-name-start c = omega (arith, seen (c .before .before .before .before .before .before .args .statement .now) (c .before .before .before .run-end2 .result) 45 (sym (c .before .byte-at .ensures) ∙ c .if2 .left))
 
 run-end-requires-3 : tie.Need-run-end-requires-3
 run-end-requires-3 c κs = search needs
 
 returns-3 : tie.Need-returns-3
 returns-3 c =
-    λ t e. record { target = equals-no-name _ t e _ _ _ (c .before .before .before .before .before .before .run-end .ensures) (c .before .before .before .before .before .run-end2 .ensures) (c .before .before .before .before .if1 .left) (sym (c .before .before .before .byte-at .ensures) ∙ c .before .before .if2 .left) _ (c .before .run-end3 .ensures) (c .if3 .taken); inside = tt }
+    λ t e. record { target = equals-no-name _ t e _ _ _ (c .before .before .before .before .before .before .run-end .ensures .0) (c .before .before .before .before .before .run-end2 .ensures .0) (c .before .before .before .before .if1 .left) (sym (c .before .before .before .byte-at .ensures) ∙ c .before .before .if2 .left) _ (c .before .run-end3 .ensures .0) (c .if3 .taken); inside = tt }
 
 run-end-requires-4 : tie.Need-run-end-requires-4
 run-end-requires-4 c κs = search needs
 
 lone-equals-requires : tie.Need-lone-equals-requires
 lone-equals-requires c κs =
-    let xs = c .before .before .before .before .before .before .before .before .before .args .statement .now in
-    let w = name-within (c .before .before) in
-    omega (arith, end-within isN xs (c .before .before .run-end3 .result) w)
+    c .run-end4 .ensures .1 (name-within (c .before .before))
 
 sub-t13 : tie.Need-sub-t13
 sub-t13 c = search needs
@@ -61,14 +58,14 @@ sub-t14 c = search needs
 returns-4 : tie.Need-returns-4
 returns-4 c =
     λ t e. record {
-      target = equals-found _ t e _ _ _ (c .before .before .before .before .before .before .before .before .before .run-end .ensures) (c .before .before .before .before .before .before .before .before .run-end2 .ensures) (c .before .before .before .before .before .before .before .if1 .left) (sym (c .before .before .before .before .before .before .byte-at .ensures) ∙ c .before .before .before .before .before .if2 .left) _ (c .before .before .before .before .run-end3 .ensures) (c .before .before .before .if3 .left) _ (c .before .before .run-end4 .ensures) ∙ simp (sym (c .before .lone-equals .ensures t e) ∙ c .if4 .taken);
+      target = equals-found _ t e _ _ _ (c .before .before .before .before .before .before .before .before .before .run-end .ensures .0) (c .before .before .before .before .before .before .before .before .run-end2 .ensures .0) (c .before .before .before .before .before .before .before .if1 .left) (sym (c .before .before .before .before .before .before .byte-at .ensures) ∙ c .before .before .before .before .before .if2 .left) _ (c .before .before .before .before .run-end3 .ensures .0) (c .before .before .before .if3 .left) _ (c .before .before .run-end4 .ensures .0) ∙ simp (sym (c .before .lone-equals .ensures t e) ∙ c .if4 .taken);
       inside = (omega arith, omega (arith, name-within (c .before .before .before .before), same-length _ t e));
     }
 
 returns-5 : tie.Need-returns-5
 returns-5 c =
     λ t e. record {
-      target = equals-found _ t e _ _ _ (c .before .before .before .before .before .before .before .before .before .run-end .ensures) (c .before .before .before .before .before .before .before .before .run-end2 .ensures) (c .before .before .before .before .before .before .before .if1 .left) (sym (c .before .before .before .before .before .before .byte-at .ensures) ∙ c .before .before .before .before .before .if2 .left) _ (c .before .before .before .before .run-end3 .ensures) (c .before .before .before .if3 .left) _ (c .before .before .run-end4 .ensures) ∙ simp (sym (c .before .lone-equals .ensures t e) ∙ c .if4 .left);
+      target = equals-found _ t e _ _ _ (c .before .before .before .before .before .before .before .before .before .run-end .ensures .0) (c .before .before .before .before .before .before .before .before .run-end2 .ensures .0) (c .before .before .before .before .before .before .before .if1 .left) (sym (c .before .before .before .before .before .before .byte-at .ensures) ∙ c .before .before .before .before .before .if2 .left) _ (c .before .before .before .before .run-end3 .ensures .0) (c .before .before .before .if3 .left) _ (c .before .before .run-end4 .ensures .0) ∙ simp (sym (c .before .lone-equals .ensures t e) ∙ c .if4 .left);
       inside = tt;
     }
 

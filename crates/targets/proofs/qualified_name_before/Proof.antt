@@ -1,5 +1,5 @@
 use native.Mathlib.Omega.{arith}
-use Rattle.targets.proofs.NameLaws.{same-length, before-no-name, before-front, before-no-dot, before-no-qualifier, before-found}
+use Rattle.targets.proofs.NameLaws.{parts-inside, same-length, before-no-name, before-front, before-no-dot, before-no-qualifier, before-found}
 use borrow.Author.Needs.{needs}
 use Rattle.targets.proofs.qualified_name_before.Statement.{statement}
 use Rattle.targets.proofs.qualified_name_before.Tie as tie
@@ -12,11 +12,19 @@ run-start-requires-2 c κs = search needs
 
 returns : tie.Need-returns
 returns c =
-    λ t e. record { target = before-no-name _ t e _ _ _ (omega arith) (c .before .before .run-start .ensures) (c .before .run-start2 .ensures) (c .if1 .taken); inside = tt }
+    let runs = c .before in
+    let a = runs .before .before .before .args in
+    λ t e.
+    let none = before-no-name (a .statement .now) t e (a .operator) _ _ (omega arith) (runs .before .run-start .ensures .0) (runs .run-start2 .ensures .0) (c .if1 .taken) in
+    record { target = none; inside = tt }
 
 returns-2 : tie.Need-returns-2
 returns-2 c =
-    λ t e. record { target = before-front _ t e _ _ _ (omega arith) (c .before .before .before .run-start .ensures) (c .before .before .run-start2 .ensures) (c .before .if1 .left) (c .if2 .taken); inside = tt }
+    let runs = c .before .before in
+    let a = runs .before .before .before .args in
+    λ t e.
+    let none = before-front (a .statement .now) t e (a .operator) _ _ (omega arith) (runs .before .run-start .ensures .0) (runs .run-start2 .ensures .0) (c .before .if1 .left) (c .if2 .taken) in
+    record { target = none; inside = tt }
 
 sub-dot : tie.Need-sub-dot
 sub-dot c = search needs
@@ -26,14 +34,24 @@ shared-slice-read-if3 c = search needs
 
 returns-3 : tie.Need-returns-3
 returns-3 c =
-    λ t e. record { target = before-no-dot _ t e _ _ _ (omega arith) (c .before .before .before .before .before .run-start .ensures) (c .before .before .before .before .run-start2 .ensures) (c .before .before .before .if1 .left) _ (omega (arith, c .before .before .if2 .left)) (c .if3 .taken); inside = tt }
+    let runs = c .before .before .before .before in
+    let a = runs .before .before .before .args in
+    let h = c .before .before .if2 .left in
+    λ t e.
+    let none = before-no-dot (a .statement .now) t e (a .operator) _ _ (omega arith) (runs .before .run-start .ensures .0) (runs .run-start2 .ensures .0) (c .before .before .before .if1 .left) _ (omega (arith, h)) (c .if3 .taken) in
+    record { target = none; inside = tt }
 
 run-start-requires-3 : tie.Need-run-start-requires-3
 run-start-requires-3 c κs = search needs
 
 returns-4 : tie.Need-returns-4
 returns-4 c =
-    λ t e. record { target = before-no-qualifier _ t e _ _ _ (omega arith) (c .before .before .before .before .before .before .before .run-start .ensures) (c .before .before .before .before .before .before .run-start2 .ensures) (c .before .before .before .before .before .if1 .left) _ (omega (arith, c .before .before .before .before .if2 .left)) (c .before .before .if3 .left) _ (c .before .run-start3 .ensures) (c .if4 .taken); inside = tt }
+    let runs = c .before .before .before .before .before .before in
+    let a = runs .before .before .before .args in
+    let h = c .before .before .before .before .if2 .left in
+    λ t e.
+    let none = before-no-qualifier (a .statement .now) t e (a .operator) _ _ (omega arith) (runs .before .run-start .ensures .0) (runs .run-start2 .ensures .0) (c .before .before .before .before .before .if1 .left) _ (omega (arith, h)) (c .before .before .if3 .left) _ (c .before .run-start3 .ensures .0) (c .if4 .taken) in
+    record { target = none; inside = tt }
 
 sub-t11 : tie.Need-sub-t11
 sub-t11 c = search needs
@@ -43,7 +61,12 @@ sub-t12 c = search needs
 
 returns-5 : tie.Need-returns-5
 returns-5 c =
-    λ t e. record { target = before-found _ t e _ _ _ (omega arith) (c .before .before .before .before .before .before .before .run-start .ensures) (c .before .before .before .before .before .before .run-start2 .ensures) (c .before .before .before .before .before .if1 .left) _ (omega (arith, c .before .before .before .before .if2 .left)) (c .before .before .if3 .left) _ (c .before .run-start3 .ensures) (c .if4 .left); inside = (omega (arith, c .before .before .before .before .if2 .left), omega (arith, same-length _ t e)) }
+    let runs = c .before .before .before .before .before .before in
+    let a = runs .before .before .before .args in
+    let h = c .before .before .before .before .if2 .left in
+    λ t e.
+    let found = before-found (a .statement .now) t e (a .operator) _ _ (omega arith) (runs .before .run-start .ensures .0) (runs .run-start2 .ensures .0) (c .before .before .before .before .before .if1 .left) _ (omega (arith, h)) (c .before .before .if3 .left) _ (c .before .run-start3 .ensures .0) (c .if4 .left) (omega arith) in
+    record { target = found; inside = parts-inside _ _ _ _ _ (omega (arith, h)) (omega arith) (omega arith) (omega (arith, same-length _ t e)) }
 
 pub qualified-name-before-spec : {M : Type 1} → statement M
 qualified-name-before-spec =
