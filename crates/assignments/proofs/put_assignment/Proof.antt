@@ -1,3 +1,6 @@
+-- `assignments::put_assignment` meets its contract, for any text with the statement's bytes, with a law for each
+-- return: no name, no right side, or a SET. `right-bytes` and `name-told` say that right side and name are those of the
+-- definition. Assumes nothing.
 use native.Mathlib.Omega.{arith}
 use mathlib.Core.Path.{_≡_, sym, ap, _∙_}
 use mathlib.Core.List.{List, []}

@@ -1,3 +1,5 @@
+-- `assignments::put_qualified` meets its contract. `q-long` and `n-long` say how long the two parts are;
+-- `target-written` joins the three stores at the front of the output. Assumes nothing.
 use mathlib.Core.List.{_∷_, _++_}
 use Rattle.output.specs.declared.Pass.the-variants.{Refused}
 use Rattle.spec.specs.declared.Refusal.the-variants.{QualifiedTarget}

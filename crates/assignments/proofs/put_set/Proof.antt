@@ -1,3 +1,5 @@
+-- `assignments::put_set` meets its contract. `set-written` joins the stores of the five calls to that of the whole
+-- text. Assumes nothing.
 use Rattle.assignments.proofs.SetLaws.{set-written}
 use borrow.Author.Needs.{needs}
 use Rattle.assignments.proofs.put_set.Statement.{statement}
@@ -29,9 +31,14 @@ same-length c = search needs
 
 returns : tie.Need-returns
 returns c =
-    set-written (c .before .before .before .before .before .before .before .before .before .before .before .before .before .before .before .before .before .before .before .before .before .before .before .before .before .before .args .front .now) (c .before .before .before .before .before .before .before .before .before .before .before .before .before .before .before .before .before .before .before .before .before .before .before .before .before .before .args .name .now) (c .before .before .before .before .before .before .before .before .before .before .before .before .before .before .before .before .before .before .before .before .before .before .before .before .before .before .args .right .now) (c .before .before .before .before .before .before .before .before .before .before .before .before .before .before .before .before .before .before .before .before .before .before .before .before .before .before .args .out .now) _ _ _ _ _ (c .before .before .before .before .before .before .before .before .before .before .before .before .before .before .before .before .before .before .before .before .before .before .before .before .before .before .args .n) _ _ _ _ _
-    (c .before .before .before .before .before .before .before .before .before .before .before .before .before .before .before .before .before .before .before .before .put-all .ensures .0) (c .before .before .before .before .before .before .before .before .before .before .before .before .before .before .before .before .before .before .before .before .put-all .ensures .1) (c .before .before .before .before .before .before .before .before .before .before .before .before .before .before .before .put-all2 .ensures .0) (c .before .before .before .before .before .before .before .before .before .before .before .before .before .before .before .put-all2 .ensures .1) (c .before .before .before .before .before .before .before .before .before .before .before .put-all3 .ensures .0) (c .before .before .before .before .before .before .before .before .before .before .before .put-all3 .ensures .1)
-    (c .before .before .before .before .before .before .put-all4 .ensures .0) (c .before .before .before .before .before .before .put-all4 .ensures .1) (c .before .before .put-all5 .ensures .0) (c .before .before .put-all5 .ensures .1)
+    let at-put-all4 = c .before .before .before .before .before .before in
+    let at-put-all3 = at-put-all4 .before .before .before .before .before in
+    let at-put-all2 = at-put-all3 .before .before .before .before in
+    let at-put-all = at-put-all2 .before .before .before .before .before in
+    let at-start = at-put-all .before .before .before .before .before .before in
+    set-written (at-start .args .front .now) (at-start .args .name .now) (at-start .args .right .now) (at-start .args .out .now) _ _ _ _ _ (at-start .args .n) _ _ _ _ _
+    (at-put-all .put-all .ensures .0) (at-put-all .put-all .ensures .1) (at-put-all2 .put-all2 .ensures .0) (at-put-all2 .put-all2 .ensures .1) (at-put-all3 .put-all3 .ensures .0) (at-put-all3 .put-all3 .ensures .1)
+    (at-put-all4 .put-all4 .ensures .0) (at-put-all4 .put-all4 .ensures .1) (c .before .before .put-all5 .ensures .0) (c .before .before .put-all5 .ensures .1)
 
 pub put-set-spec : {M : Type 1} → statement M
 put-set-spec =

@@ -1,3 +1,5 @@
+-- `assignments::put_statement` meets its contract, by whether the statement has a qualified target. `told` says which
+-- one the check found; without one the statement is what `rewrite_assignment` writes. Assumes nothing.
 use native.Mathlib.Omega.{arith}
 use mathlib.Core.List.{_∷_, _++_}
 use lib.ListN.{length, take, drop, length-append, length-drop}
@@ -17,10 +19,15 @@ use Rattle.assignments.proofs.put_statement.Statement.{statement}
 use Rattle.assignments.proofs.put_statement.Tie as tie
 
 -- the target that the check found
-told : (c : tie.After-known-told) → Tells (marked (c .before .before .before .before .before .before .before .args .text .now) (c .before .before .before .before .before .before .before .args .map .now)) (statementTarget (marked (c .before .before .before .before .before .before .before .args .text .now) (c .before .before .before .before .before .before .before .args .map .now))) (target.At (c .before .target .given .0 .0) (c .before .target .given .0 .1 .0) (c .before .target .given .0 .1 .1 .0) (c .before .target .given .0 .1 .1 .1 .0))
+told : (c : tie.After-known-told) →
+    let at-qualified-assignment-target = c .before .before .before in
+    let at-start = at-qualified-assignment-target .before .before .before .before in
+    Tells (marked (at-start .args .text .now) (at-start .args .map .now)) (statementTarget (marked (at-start .args .text .now) (at-start .args .map .now))) (target.At (c .before .target .given .0 .0) (c .before .target .given .0 .1 .0) (c .before .target .given .0 .1 .1 .0) (c .before .target .given .0 .1 .1 .1 .0))
 told c =
-    let a = c .before .before .before .before .before .before .before .args in
-    let h : Tells (marked (a .text .now) (a .map .now)) (statementTarget (marked (a .text .now) (a .map .now))) (c .before .before .before .qualified-assignment-target .result) = c .before .before .before .qualified-assignment-target .ensures in
+    let at-qualified-assignment-target = c .before .before .before in
+    let at-start = at-qualified-assignment-target .before .before .before .before in
+    let a = at-start .args in
+    let h : Tells (marked (a .text .now) (a .map .now)) (statementTarget (marked (a .text .now) (a .map .now))) (at-qualified-assignment-target .qualified-assignment-target .result) = at-qualified-assignment-target .qualified-assignment-target .ensures in
     rw (c .before .target .given .1) at h
 
 qualified-assignment-target-requires : tie.Need-qualified-assignment-target-requires
@@ -31,8 +38,10 @@ enum-known-target c = search needs
 
 put-qualified-requires : tie.Need-put-qualified-requires
 put-qualified-requires c κs =
+    let at-qualified-assignment-target = c .before .before .before .before in
+    let at-start = at-qualified-assignment-target .before .before .before .before in
     let t = told (c .before) in
-    (t .inside .0, (omega (arith, t .inside .1, marked-length (c .before .before .before .before .before .before .before .before .args .text .now) (c .before .before .before .before .before .before .before .before .args .map .now)), search needs))
+    (t .inside .0, (omega (arith, t .inside .1, marked-length (at-start .args .text .now) (at-start .args .map .now)), search needs))
 
 enum-told : tie.Need-enum-told
 enum-told c = search needs
@@ -45,9 +54,11 @@ same-length c = search needs
 
 returns : tie.Need-returns
 returns c =
-    let a = c .before .before .before .before .before .before .before .before .before .before .before .args in
+    let at-target = c .before .before .before .before .before in
+    let at-start = at-target .before .before .before .before .before .before in
+    let a = at-start .args in
     let xs = a .text .now in
-    let g = c .before .before .before .before .before .target .given .0 in
+    let g = at-target .target .given .0 in
     let t = told (c .before .before .before .before) in
     let i = t .inside in
     let n = marked-length xs (a .map .now) in
@@ -62,11 +73,14 @@ same-length-2 c = search needs
 
 returns-2 : tie.Need-returns-2
 returns-2 c =
-    let a = c .before .before .before .before .before .before .before .before .before .before .args in
+    let at-enum-told = c .before .before .before .before in
+    let at-qualified-assignment-target = at-enum-told .before .before in
+    let at-start = at-qualified-assignment-target .before .before .before .before in
+    let a = at-start .args in
     let m = marked (a .text .now) (a .map .now) in
-    let h : Tells m (statementTarget m) (c .before .before .before .before .before .before .qualified-assignment-target .result) = c .before .before .before .before .before .before .qualified-assignment-target .ensures in
+    let h : Tells m (statementTarget m) (at-qualified-assignment-target .qualified-assignment-target .result) = at-qualified-assignment-target .qualified-assignment-target .ensures in
     let w = c .before .before .rewrite-assignment .ensures in
-    rw (told-none (a .text .now) (a .map .now) (rw (c .before .before .before .before .enum-told .given .1) at h))
+    rw (told-none (a .text .now) (a .map .now) (rw (at-enum-told .enum-told .given .1) at h))
     (ap Done (w .counted ∙ ap (λ (k : ℕ). a .n + k) (bytes-length (assignment m))), w .stored)
 
 pub put-statement-spec : {M : Type 1} → statement M

@@ -1,3 +1,5 @@
+-- `assignments::rewrite_assignment` meets its contract. The definition computes once it is known what the search for
+-- `:=` found (`sought`): what `put_assignment` writes, or the statement's own bytes. Assumes nothing.
 use native.Mathlib.Omega.{arith}
 use mathlib.Core.Path.{_≡_, sym, _∙_}
 use Prim.Native.Nat.{_-_}
@@ -28,8 +30,10 @@ enum-known-found c = search needs
 
 put-assignment-requires : tie.Need-put-assignment-requires
 put-assignment-requires c κs =
-    let a = c .before .before .before .before .before .before .before .before .before .args in
-    let i = assign-inside (marked (a .statement .now) (a .map .now)) _ (sym (sought (c .before .before .before .before)) ∙ c .before .before .found .given .1) in
+    let at-find-str-in = c .before .before .before .before in
+    let at-start = at-find-str-in .before .before .before .before .before in
+    let a = at-start .args in
+    let i = assign-inside (marked (a .statement .now) (a .map .now)) _ (sym (sought at-find-str-in) ∙ c .before .before .found .given .1) in
     (omega (arith, marked-length (a .statement .now) (a .map .now)), search needs)
 
 enum-told : tie.Need-enum-told
@@ -44,8 +48,11 @@ same-length c = search needs
 returns : tie.Need-returns
 unfolding assignment
 returns c =
-    let a = c .before .before .before .before .before .before .before .before .before .before .before .before .args in
-    rw (sym (sought (c .before .before .before .before .before .before .before)) ∙ c .before .before .before .before .before .found .given .1) (c .before .before .put-assignment .ensures (marked (a .statement .now) (a .map .now)) (marked-bytes (a .statement .now) (a .map .now)))
+    let at-found = c .before .before .before .before .before in
+    let at-find-str-in = at-found .before .before in
+    let at-start = at-find-str-in .before .before .before .before .before in
+    let a = at-start .args in
+    rw (sym (sought at-find-str-in) ∙ at-found .found .given .1) (c .before .before .put-assignment .ensures (marked (a .statement .now) (a .map .now)) (marked-bytes (a .statement .now) (a .map .now)))
 
 same-length-2 : tie.Need-same-length-2
 same-length-2 c = search needs
@@ -53,8 +60,11 @@ same-length-2 c = search needs
 returns-2 : tie.Need-returns-2
 unfolding assignment assignmentAt
 returns-2 c =
-    let a = c .before .before .before .before .before .before .before .before .before .before .before .args in
-    rw (sym (sought (c .before .before .before .before .before .before)) ∙ c .before .before .before .before .enum-told .given .1, marked-bytes (a .statement .now) (a .map .now)) (record { counted = c .before .before .put-all .ensures .0; stored = c .before .before .put-all .ensures .1 })
+    let at-enum-told = c .before .before .before .before in
+    let at-find-str-in = at-enum-told .before .before in
+    let at-start = at-find-str-in .before .before .before .before .before in
+    let a = at-start .args in
+    rw (sym (sought at-find-str-in) ∙ at-enum-told .enum-told .given .1, marked-bytes (a .statement .now) (a .map .now)) (record { counted = c .before .before .put-all .ensures .0; stored = c .before .before .put-all .ensures .1 })
 
 pub rewrite-assignment-spec : {M : Type 1} → statement M
 rewrite-assignment-spec =

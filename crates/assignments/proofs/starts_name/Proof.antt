@@ -1,3 +1,5 @@
+-- `assignments::starts_name` meets its contract. `name-at` reads the definition, for any text with these bytes, as
+-- tests on the first byte; each return rewrites it with the tests made. Assumes nothing.
 use mathlib.Core.Path.{sym, ap, _∙_}
 use Rattle.spec.specs.Bytes.{isIdent, isDigit}
 use Rattle.assignments.proofs.SetLaws.{name-at}

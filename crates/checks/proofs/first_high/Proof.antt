@@ -1,3 +1,5 @@
+-- `checks::first_high` meets its contract. The loop's invariant says that the count of bytes up to 127 from the front
+-- is i and the count from i on, so that no byte before i is over 127. Assumes nothing.
 use native.Mathlib.Omega.{arith}
 use borrow.Author.Needs.{needs}
 use mathlib.Core.Path.{_≡_, sym, _∙_}

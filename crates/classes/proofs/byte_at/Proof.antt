@@ -1,3 +1,5 @@
+-- `classes::byte_at` meets its contract. Past the end `getD` gives its default, the 0 that is returned. Assumes
+-- nothing.
 use mathlib.Core.Path.{sym}
 use lib.ListN.{List·getD-eq-default}
 use borrow.Author.Needs.{needs}

@@ -1,3 +1,5 @@
+-- `classes::in_range` meets its contract. The first test decides `within`, which computes to the second where it holds.
+-- Assumes nothing.
 use borrow.Author.Tests.{le-leb, lt-leb}
 use Rattle.spec.specs.Bytes.{within}
 use Rattle.classes.proofs.in_range.Statement.{statement}

@@ -1,3 +1,5 @@
+-- `classes::is_ident_byte` meets its contract. Each return rewrites `isIdent` with what the ranges tested so far
+-- answered. Assumes nothing.
 use mathlib.Core.Path.{sym, _∙_}
 use Rattle.spec.specs.Bytes.{isIdent, isLower, isUpper, isDigit}
 use borrow.Author.Needs.{needs}

@@ -1,3 +1,5 @@
+-- `classes::is_n` meets its contract. Each return rewrites `isN` with the answer of `is_w` and the test on 11. Assumes
+-- nothing.
 use mathlib.Core.Path.{sym, _∙_}
 use borrow.Author.Tests.{eq-eqb, ne-eqb}
 use Rattle.spec.specs.Bytes.{isN}

@@ -1,3 +1,5 @@
+-- `classes::is_pair` meets its contract. The test on the first byte decides `isPair`, which computes to the second
+-- where it holds. Assumes nothing.
 use borrow.Author.Tests.{eq-eqb, ne-eqb}
 use Rattle.spec.specs.Bytes.{isPair}
 use Rattle.classes.proofs.is_pair.Statement.{statement}

@@ -1,3 +1,4 @@
+-- `classes::is_w` meets its contract. Each return rewrites `isW` with the answer of `in_range`. Assumes nothing.
 use mathlib.Core.Path.{sym, _∙_}
 use Rattle.spec.specs.Bytes.{isW}
 use borrow.Author.Needs.{needs}

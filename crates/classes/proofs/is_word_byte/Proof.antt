@@ -1,3 +1,5 @@
+-- `classes::is_word_byte` meets its contract. Each return rewrites `isWord` with the answer of `is_ident_byte`. Assumes
+-- nothing.
 use mathlib.Core.Path.{sym, _∙_}
 use Rattle.spec.specs.Bytes.{isWord}
 use borrow.Author.Needs.{needs}

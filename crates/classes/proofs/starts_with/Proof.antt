@@ -1,3 +1,6 @@
+-- `classes::starts_with` meets its contract. The loop's invariant says that `pat` is a prefix exactly if the rest of it
+-- from i on is one of the text from i on: a law for an equal byte, one for another byte, and one for either end.
+-- Assumes nothing.
 use borrow.Author.Needs.{needs}
 use mathlib.Core.Path.{_≡_, sym, _∙_, refl}
 use Prim.Native.Nat.{_+_, _-_, _≤_}

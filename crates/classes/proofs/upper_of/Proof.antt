@@ -1,3 +1,5 @@
+-- `classes::upper_of` meets its contract. Each return rewrites `upper` with the answer of `in_range`; a small letter is
+-- at least 97, so that 32 can be taken off. Assumes nothing.
 use native.Mathlib.Omega.{arith}
 use mathlib.Core.Path.{_≡_, sym, _∙_}
 use mathlib.Core.Bool.{true}

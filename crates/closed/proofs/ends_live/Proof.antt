@@ -1,3 +1,5 @@
+-- `closed::ends_live` meets its contract, by the three cases: no byte, a live last byte, which decides, or a quoted
+-- one. Assumes nothing.
 use native.Mathlib.Omega.{arith}
 use mathlib.Core.Path.{sym}
 use Rattle.closed.proofs.ClosedLaws.{ends-none, ends-live, ends-quoted}

@@ -1,3 +1,5 @@
+-- `closed::ends_word` meets its contract. The first test decides `endsWord`, which computes to the second where it
+-- fails. Assumes nothing.
 use borrow.Author.Tests.{eq-eqb, ne-eqb}
 use Rattle.spec.specs.Closed.{endsWord}
 use Rattle.closed.proofs.ends_word.Statement.{statement}

@@ -1,3 +1,5 @@
+-- `closed::has_followed_raises` meets its contract. The loop's invariant says that the RAISEs of the text are followed
+-- exactly if those from i on are, where `before` is the byte before i. Assumes nothing.
 use native.Mathlib.Omega.{arith}
 use borrow.Author.Needs.{needs}
 use mathlib.Core.Path.{_≡_, refl, sym, _∙_}
@@ -34,7 +36,10 @@ loop-less : tie.Need-loop-less Inv-loop μ-loop
 loop-less c = search needs
 
 loop-again : tie.Need-loop-again Inv-loop μ-loop
-loop-again c = c .before .before .before .before .loop .inv ∙ raises-step (c .before .before .before .before .before .before .before .args .text .now) (c .before .before .before .before .before .before .before .args .map .now) (c .before .before .before .before .loop .i) (c .before .before .before .before .loop .before) (omega arith) (sym (c .before .before .is-unfollowed-raise .ensures) ∙ c .before .if1 .left)
+loop-again c =
+    let at-loop = c .before .before .before .before in
+    let at-start = at-loop .before .before .before in
+    at-loop .loop .inv ∙ raises-step (at-start .args .text .now) (at-start .args .map .now) (at-loop .loop .i) (at-loop .loop .before) (omega arith) (sym (c .before .before .is-unfollowed-raise .ensures) ∙ c .before .if1 .left)
 
 returns-2 : tie.Need-returns-2 Inv-loop μ-loop
 returns-2 c = sym (c .before .loop .inv ∙ raises-end (c .before .before .before .before .args .text .now) (c .before .before .before .before .args .map .now) (c .before .loop .i) (c .before .loop .before) (omega arith))

@@ -1,3 +1,6 @@
+-- `closed::has_plain_spans` meets its contract. The loop's invariant says that all spans are plain exactly if those
+-- behind the cursor are. `turn` says what a step of the cursor takes, `ahead` splits the rest at its first span.
+-- Assumes nothing.
 use native.Mathlib.Omega.{arith}
 use borrow.Author.Needs.{needs}
 use mathlib.Core.Path.{_≡_, refl, sym, _∙_}
@@ -23,8 +26,15 @@ turn : (c : tie.After-step2 Inv-loop μ-loop) → Stepped (c .before .before .be
 turn c = step-taken _ _ _ (c .step2 .given .0 .1 .0) (sym (c .before .before .step .ensures) ∙ c .step2 .given .1)
 
 -- what is left, by whether its front span is plain
-ahead : (c : tie.After-is-plain-span Inv-loop μ-loop) → all isPlainSpan (lexemes (c .before .before .before .before .before .before .before .before .before .args .text .now)) ≡ (c .is-plain-span .result && all isPlainSpan (lexemes (drop (c .before .before .before .before .step2 .given .0 .1 .0 .at) (c .before .before .before .before .before .before .before .before .before .args .text .now))))
-ahead c = c .before .before .before .before .before .before .before .loop .inv .1 ∙ plain-ahead (c .before .before .before .before .before .before .before .before .before .args .text .now) (c .before .before .before .before .before .before .before .loop .cursor .at) (c .before .before .before .before .step2 .given .0 .0) (c .before .before .before .before .step2 .given .0 .1 .0 .at) (turn (c .before .before .before .before)) _ (c .is-plain-span .ensures)
+ahead : (c : tie.After-is-plain-span Inv-loop μ-loop) →
+    let at-step2 = c .before .before .before .before in
+    let at-start = at-step2 .before .before .before .before .before in
+    all isPlainSpan (lexemes (at-start .args .text .now)) ≡ (c .is-plain-span .result && all isPlainSpan (lexemes (drop (at-step2 .step2 .given .0 .1 .0 .at) (at-start .args .text .now))))
+ahead c =
+    let at-step2 = c .before .before .before .before in
+    let at-loop = at-step2 .before .before .before in
+    let at-start = at-loop .before .before in
+    at-loop .loop .inv .1 ∙ plain-ahead (at-start .args .text .now) (at-loop .loop .cursor .at) (at-step2 .step2 .given .0 .0) (at-step2 .step2 .given .0 .1 .0 .at) (turn at-step2) _ (c .is-plain-span .ensures)
 
 loop-holds : tie.Need-loop-holds Inv-loop μ-loop
 loop-holds c = (omega arith, refl)

@@ -1,3 +1,5 @@
+-- `closed::is_closed_in` meets its contract. Each return rewrites the conjunction with the answers of the calls made so
+-- far; the last is that of `has_followed_raises`. Assumes nothing.
 use mathlib.Core.Path.{_≡_, sym, _∙_}
 use lib.Dec.{eqb}
 use Rattle.spec.specs.Lists.{any}

@@ -1,3 +1,5 @@
+-- `closed::is_followed` meets its contract, with a law for each case: a space and a word, whose end decides, no word,
+-- or no space. Assumes nothing.
 use mathlib.Core.Path.{sym, ap, _∙_}
 use Rattle.spec.specs.Bytes.{isIdent}
 use Rattle.spec.specs.Closed.{endsWord}
@@ -31,7 +33,14 @@ ends-word-requires : tie.Need-ends-word-requires
 ends-word-requires c κs = search needs
 
 returns : tie.Need-returns
-returns c = sym (followed-by (c .before .before .before .before .before .before .before .before .before .args .text .now) (c .before .before .before .before .before .before .before .before .before .args .i) (sym (c .before .before .before .before .before .before .before .byte-at .ensures) ∙ c .before .before .before .before .before .before .if1 .taken) (ap isIdent (sym (c .before .before .before .before .before .byte-at2 .ensures)) ∙ (sym (c .before .before .before .before .is-ident-byte .ensures) ∙ c .before .before .before .if2 .taken)) _ (c .before .before .run-end .ensures .0) ∙ (ap endsWord (sym (c .before .byte-at3 .ensures)) ∙ sym (c .ends-word .ensures)))
+returns c =
+    let at-if2 = c .before .before .before in
+    let at-is-ident-byte = at-if2 .before in
+    let at-byte-at2 = at-is-ident-byte .before in
+    let at-if1 = at-byte-at2 .before in
+    let at-byte-at = at-if1 .before in
+    let at-start = at-byte-at .before .before in
+    sym (followed-by (at-start .args .text .now) (at-start .args .i) (sym (at-byte-at .byte-at .ensures) ∙ at-if1 .if1 .taken) (ap isIdent (sym (at-byte-at2 .byte-at2 .ensures)) ∙ (sym (at-is-ident-byte .is-ident-byte .ensures) ∙ at-if2 .if2 .taken)) _ (c .before .before .run-end .ensures .0) ∙ (ap endsWord (sym (c .before .byte-at3 .ensures)) ∙ sym (c .ends-word .ensures)))
 
 returns-2 : tie.Need-returns-2
 returns-2 c = sym (followed-no-word (c .before .before .before .before .before .before .args .text .now) (c .before .before .before .before .before .before .args .i) (ap isIdent (sym (c .before .before .byte-at2 .ensures)) ∙ (sym (c .before .is-ident-byte .ensures) ∙ c .if2 .left)))

@@ -1,3 +1,5 @@
+-- `closed::is_unfollowed_raise` meets its contract. A RAISE found fits the text (`word-fits`), and what follows it does
+-- not depend on the map (`followed-lives`). Assumes nothing.
 use mathlib.Core.Path.{sym, ap, _∙_}
 use mathlib.Core.Bool.{not}
 use Rattle.spec.specs.Bytes.{ascii, isIdent}

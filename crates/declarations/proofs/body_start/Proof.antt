@@ -1,3 +1,5 @@
+-- `declarations::body_start` meets its contract. `bodyFrom` computes once it is known what the search for BEGIN found;
+-- a place found is within the text. Assumes nothing.
 use native.Mathlib.Omega.{arith}
 use mathlib.Core.Path.{_≡_, refl, sym, _∙_}
 use Rattle.spec.specs.Bytes.{ascii}
@@ -35,8 +37,10 @@ returns c = (rw (sym (word (c .before .before)) ∙ c .enum-told .given .1) refl
 returns-2 : tie.Need-returns-2
 unfolding bodyFrom
 returns-2 c =
-    let a = c .before .before .before .before .before .before .before .args in
-    let e = sym (word (c .before .before .before)) ∙ c .before .begin .given .1 in
+    let at-find-keyword-in = c .before .before .before in
+    let at-start = at-find-keyword-in .before .before .before .before in
+    let a = at-start .args in
+    let e = sym (word at-find-keyword-in) ∙ c .before .begin .given .1 in
     (rw e refl, omega (arith, first-within (keywordHere (ascii "BEGIN")) (marked (a .text .now) (a .map .now)) 0 (c .before .begin .given .0 .0) e .1, marked-length (a .text .now) (a .map .now)))
 
 pub body-start-spec : {M : Type 1} → statement M

@@ -1,3 +1,5 @@
+-- `declarations::find_section` meets its contract. `section-in` proves it from what the two searches found; DECLARE is
+-- within the text, so that its end is a number the code can compute. Assumes nothing.
 use native.Mathlib.Omega.{arith}
 use mathlib.Core.Path.{_≡_}
 use Rattle.spec.specs.Bytes.{ascii}
@@ -38,8 +40,10 @@ section-at-requires c κs =
 
 returns : tie.Need-returns
 returns c =
-    let a = c .before .before .before .before .before .before .before .args in
-    rw (c .section-at .ensures) (section-in (marked (a .text .now) (a .map .now)) _ _ (declare-word (c .before .before .before)) (begin-word (c .before)))
+    let at-find-keyword-in = c .before .before .before in
+    let at-start = at-find-keyword-in .before .before .before .before in
+    let a = at-start .args in
+    rw (c .section-at .ensures) (section-in (marked (a .text .now) (a .map .now)) _ _ (declare-word at-find-keyword-in) (begin-word (c .before)))
 
 pub find-section-spec : {M : Type 1} → statement M
 find-section-spec =

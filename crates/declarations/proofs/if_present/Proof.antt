@@ -1,3 +1,4 @@
+-- `declarations::if_present` meets its contract. The test decides the definition's `cond`. Assumes nothing.
 use mathlib.Core.Path.{refl}
 use borrow.Author.Tests.{eq-eqb, ne-eqb}
 use Rattle.declarations.proofs.if_present.Statement.{statement}

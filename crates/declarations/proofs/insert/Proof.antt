@@ -1,3 +1,5 @@
+-- `declarations::insert` meets its contract. `inserted` says that the two stores put record k behind the place that
+-- `find_place` gives, between it and what came next. Assumes nothing.
 use native.Mathlib.Omega.{arith}
 use borrow.Author.Needs.{needs}
 use Prim.Native.Nat.{_*_}
@@ -43,7 +45,9 @@ mul-records-4 c = search needs
 
 slice-write-records-2 : tie.Need-slice-write-records-2
 slice-write-records-2 c =
-    let a = c .before .before .before .before .before .before .before .args in
+    let at-start-of = c .before .before .before in
+    let at-start = at-start-of .before .before .before .before in
+    let a = at-start .args in
     let l = length-set (a .records .now) (8 * a .k) (getD (a .records .now) (8 * c .before .find-place .result) 0) in
     omega (arith, l, c .before .find-place .ensures .held .within)
 
@@ -52,8 +56,10 @@ same-length c = search needs
 
 returns : tie.Need-returns
 returns c =
-    let a = c .before .before .before .before .before .before .before .args in
-    inserted (a .text .now) (a .records .now) (a .count) (a .k) (c .before .find-place .result) (c .before .before .before .before .before .before .before .pre .1 .1 .1 .1 .0) (c .before .before .before .before .before .before .before .pre .1 .0) (c .before .before .before .before .before .before .before .pre .1 .1 .0) (c .before .before .before .before .before .before .before .pre .0) (c .before .before .before .before .before .before .before .pre .1 .1 .1 .0) (c .before .before .before .before .before .before .before .pre .1 .1 .1 .1 .1) (c .before .find-place .ensures)
+    let at-start-of = c .before .before .before in
+    let at-start = at-start-of .before .before .before .before in
+    let a = at-start .args in
+    inserted (a .text .now) (a .records .now) (a .count) (a .k) (c .before .find-place .result) (at-start .pre .1 .1 .1 .1 .0) (at-start .pre .1 .0) (at-start .pre .1 .1 .0) (at-start .pre .0) (at-start .pre .1 .1 .1 .0) (at-start .pre .1 .1 .1 .1 .1) (c .before .find-place .ensures)
 
 pub insert-spec : {M : Type 1} → statement M
 insert-spec =

@@ -1,3 +1,5 @@
+-- `declarations::link` meets its contract. The loop's invariant says that the records above k are linked in order: none
+-- at the start, one more by each `insert`, all of them at the end. Assumes nothing.
 use native.Mathlib.Omega.{arith}
 use borrow.Author.Needs.{needs}
 use mathlib.Core.Path.{_≡_, refl, _∙_}
@@ -37,8 +39,10 @@ loop-less c = search needs
 
 loop-again : tie.Need-loop-again Inv-loop μ-loop
 loop-again c =
-    let a = c .before .before .before .before .before .before .before .before .args in
-    let l = c .before .before .before .before .before .loop in
+    let at-loop = c .before .before .before .before .before in
+    let at-start = at-loop .before .before .before in
+    let a = at-start .args in
+    let l = at-loop .loop in
     (omega arith, c .before .before .insert .kept .1 .0 ∙ l .inv .1, linked-one (a .text .now) (set (a .records .now) 0 0) (a .count) (l .k) (l .records) (l .inv .2) _ (c .before .before .insert .ensures))
 
 same-length : tie.Need-same-length Inv-loop μ-loop

@@ -1,3 +1,5 @@
+-- `declarations::parse_declarations` meets its contract. The section found is within the text (`inside`), and its
+-- records are those of the text (`same`); the rest is what `parse_section` ensures. Assumes nothing.
 use native.Mathlib.Omega.{arith}
 use mathlib.Core.Path.{_≡_, sym, ap, _∙_}
 use Prim.Native.Nat.{_-_, _≤_}
@@ -44,11 +46,13 @@ part-parse-section-end-2 c = omega (arith, inside (c .before))
 
 parse-section-requires : tie.Need-parse-section-requires
 parse-section-requires c κs =
-    let a = c .before .before .before .before .before .before .before .before .before .args in
-    let s = c .before .before .before .before .find-section .result in
-    let i = inside (c .before .before .before .before) in
-    let l : length (between (s .from) (s .to) (a .text .now)) ≡ s .to - s .from = between-length (a .text .now) (s .from) (s .to) (c .before .before .before .before .find-section .ensures .ordered) i in
-    let m : length (between (s .from) (s .to) (a .map .now)) ≡ s .to - s .from = between-length (a .map .now) (s .from) (s .to) (c .before .before .before .before .find-section .ensures .ordered) (omega (arith, i)) in
+    let at-find-section = c .before .before .before .before in
+    let at-start = at-find-section .before .before .before .before .before in
+    let a = at-start .args in
+    let s = at-find-section .find-section .result in
+    let i = inside at-find-section in
+    let l : length (between (s .from) (s .to) (a .text .now)) ≡ s .to - s .from = between-length (a .text .now) (s .from) (s .to) (at-find-section .find-section .ensures .ordered) i in
+    let m : length (between (s .from) (s .to) (a .map .now)) ≡ s .to - s .from = between-length (a .map .now) (s .from) (s .to) (at-find-section .find-section .ensures .ordered) (omega (arith, i)) in
     (omega (arith, l, i), (omega (arith, l, m), (omega arith, omega arith)))
 
 same-length : tie.Need-same-length
@@ -58,7 +62,10 @@ same-length-2 : tie.Need-same-length-2
 same-length-2 c = search needs
 
 returns : tie.Need-returns
-returns c = (rw (sym (same (c .before .before .before .before .before .before .before .before .before))) (c .before .before .before .before .parse-section .ensures .0), rw (sym (same (c .before .before .before .before .before .before .before .before .before))) (c .before .before .before .before .parse-section .ensures .1))
+returns c =
+    let at-parse-section = c .before .before .before .before in
+    let at-find-section = at-parse-section .before .before .before .before .before in
+    (rw (sym (same at-find-section)) (at-parse-section .parse-section .ensures .0), rw (sym (same at-find-section)) (at-parse-section .parse-section .ensures .1))
 
 pub parse-declarations-spec : {M : Type 1} → statement M
 parse-declarations-spec =

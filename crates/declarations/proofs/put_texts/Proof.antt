@@ -1,3 +1,5 @@
+-- `declarations::put_texts` meets its contract. None of the three texts is longer than the section, so the ends can be
+-- computed; the law `texts` joins the three stores to that of the packed record. Assumes nothing.
 use native.Mathlib.Omega.{arith}
 use mathlib.Core.Path.{refl, ap, _∙_}
 use mathlib.Core.Bool.{false}
@@ -16,8 +18,10 @@ known c = (c .pre .0, c .pre .1 .0, c .pre .1 .1 .0, c .pre .1 .1 .1)
 -- the texts are not longer than the section
 name-short : (c : tie.After-name-of) → length (c .name-of .result .now) ≤ 65536
 name-short c =
-    let k = known (c .before .before .before .before .before .before .before .before .before .before .before) in
-    omega (arith, k .1, name-le (c .before .before .before .before .before .before .before .before .before .before .before .args .text .now) (c .before .before .before .before .before .before .before .before .before .before .before .args .records .now) (c .before .before .before .before .before .before .before .before .before .before .before .args .k), ap length (c .name-of .ensures))
+    let at-number2 = c .before .before .before .before .before .before in
+    let at-start = at-number2 .before .before .before .before .before in
+    let k = known at-start in
+    omega (arith, k .1, name-le (at-start .args .text .now) (at-start .args .records .now) (at-start .args .k), ap length (c .name-of .ensures))
 
 kind-short : (c : tie.After-piece) → length (c .piece .result .now) ≤ 65536
 kind-short c =
@@ -26,8 +30,10 @@ kind-short c =
 
 value-short : (c : tie.After-piece2) → length (c .piece2 .result .now) ≤ 65536
 value-short c =
-    let k = known (c .before .before .before .before .before .before .before .before .before) in
-    omega (arith, k .1, piece-le (c .before .before .before .before .before .before .before .before .before .args .text .now) (c .before .before .number3 .result) (c .before .number4 .result), ap length (c .piece2 .ensures))
+    let at-number = c .before .before .before .before .before in
+    let at-start = at-number .before .before .before .before in
+    let k = known at-start in
+    omega (arith, k .1, piece-le (at-start .args .text .now) (c .before .before .number3 .result) (c .before .number4 .result), ap length (c .piece2 .ensures))
 
 number-requires : tie.Need-number-requires
 number-requires c κs = search needs
@@ -52,37 +58,64 @@ name-of-requires c κs = search needs
 
 put-all-requires : tie.Need-put-all-requires
 put-all-requires c κs =
-    let k = known (c .before .before .before .before .before .before .before .before .before .before .before) in
+    let at-number2 = c .before .before .before .before .before .before in
+    let at-start = at-number2 .before .before .before .before .before in
+    let k = known at-start in
     omega (arith, k .3, name-short c)
 
 put-spaced-requires : tie.Need-put-spaced-requires
 put-spaced-requires c κs =
-    let k = known (c .before .before .before .before .before .before .before .before .before .before .before .before .before .before .before) in
-    omega (arith, k .3, name-short (c .before .before .before .before), kind-short (c .before .before .before .before .before .before .before .before .before), c .before .before .before .put-all .ensures .0)
+    let at-piece2 = c .before .before .before .before .before .before in
+    let at-piece = at-piece2 .before .before .before in
+    let at-start = at-piece .before .before .before .before .before .before in
+    let k = known at-start in
+    omega (arith, k .3, name-short (c .before .before .before .before), kind-short at-piece, c .before .before .before .put-all .ensures .0)
 
 number-requires-5 : tie.Need-number-requires-5
-number-requires-5 c κs = let k = known (c .before .before .before .before .before .before .before .before .before .before .before .before .before .before .before .before .before .before .before) in (k .0, (omega arith, k .2))
+number-requires-5 c κs =
+    let at-declared = c .before .before .before .before .before .before in
+    let at-number3 = at-declared .before .before .before .before .before .before in
+    let at-number = at-number3 .before .before .before in
+    let at-start = at-number .before .before .before .before in
+    let k = known at-start in (k .0, (omega arith, k .2))
 
 put-value-requires : tie.Need-put-value-requires
 put-value-requires c κs =
-    let k = known (c .before .before .before .before .before .before .before .before .before .before .before .before .before .before .before .before .before .before .before .before) in
-    omega (arith, k .3, name-short (c .before .before .before .before .before .before .before .before .before), kind-short (c .before .before .before .before .before .before .before .before .before .before .before .before .before .before), value-short (c .before .before .before .before .before .before .before .before .before .before .before), c .before .before .before .before .before .before .before .before .put-all .ensures .0, c .before .before .before .before .put-spaced .ensures .0, spaced-le false (c .before .before .before .before .before .before .before .before .before .before .before .before .before .before .piece .result .now))
+    let at-put-spaced = c .before .before .before .before in
+    let at-put-all = at-put-spaced .before .before .before .before in
+    let at-name-of = at-put-all .before in
+    let at-piece2 = at-name-of .before .before in
+    let at-piece = at-piece2 .before .before .before in
+    let at-start = at-piece .before .before .before .before .before .before in
+    let k = known at-start in
+    omega (arith, k .3, name-short at-name-of, kind-short at-piece, value-short at-piece2, at-put-all .put-all .ensures .0, at-put-spaced .put-spaced .ensures .0, spaced-le false (at-piece .piece .result .now))
 
 same-length : tie.Need-same-length
 same-length c = search needs
 
 returns : tie.Need-returns
 returns c =
-    let a = c .before .before .before .before .before .before .before .before .before .before .before .before .before .before .before .before .before .before .before .before .before .before .before .args in
-    let t = texts (a .text .now) (a .records .now) (a .k) (a .declared .now) (c .before .before .before .before .before .before .before .before .before .before .before .put-all .last .0) (c .before .before .before .before .before .before .before .put-spaced .last .0) (c .before .before .put-value .last .0)
-    (a .n) (c .before .before .before .before .before .before .before .before .before .before .before .put-all .result) (c .before .before .before .before .before .before .before .put-spaced .result) (c .before .before .put-value .result) (c .before .before .before .number5 .result)
-    (c .before .before .before .before .before .before .before .before .before .before .before .before .name-of .result .now) (c .before .before .before .before .before .before .before .before .before .before .before .before .before .before .before .before .before .piece .result .now) (c .before .before .before .before .before .before .before .before .before .before .before .before .before .before .piece2 .result .now)
-    (c .before .before .before .before .before .before .before .before .before .before .before .before .name-of .ensures)
-    (c .before .before .before .before .before .before .before .before .before .before .before .before .before .before .before .before .before .piece .ensures ∙ rw (c .before .before .before .before .before .before .before .before .before .before .before .before .before .before .before .before .before .before .number2 .ensures .0, c .before .before .before .before .before .before .before .before .before .before .before .before .before .before .before .before .before .before .before .number .ensures .0) refl)
-    (c .before .before .before .number5 .ensures .0)
-    (c .before .before .before .before .before .before .before .before .before .before .before .before .before .before .piece2 .ensures ∙ rw (c .before .before .before .before .before .before .before .before .before .before .before .before .before .before .before .number4 .ensures .0, c .before .before .before .before .before .before .before .before .before .before .before .before .before .before .before .before .number3 .ensures .0) refl)
-    (c .before .before .before .before .before .before .before .before .before .before .before .put-all .ensures .1) (c .before .before .before .before .before .before .before .before .before .before .before .put-all .ensures .0)
-    (c .before .before .before .before .before .before .before .put-spaced .ensures .1) (c .before .before .before .before .before .before .before .put-spaced .ensures .0)
+    let at-number5 = c .before .before .before in
+    let at-put-spaced = at-number5 .before .before .before .before in
+    let at-put-all = at-put-spaced .before .before .before .before in
+    let at-name-of = at-put-all .before in
+    let at-piece2 = at-name-of .before .before in
+    let at-number4 = at-piece2 .before in
+    let at-number3 = at-number4 .before in
+    let at-piece = at-number3 .before in
+    let at-number2 = at-piece .before in
+    let at-number = at-number2 .before in
+    let at-start = at-number .before .before .before .before in
+    let a = at-start .args in
+    let t = texts (a .text .now) (a .records .now) (a .k) (a .declared .now) (at-put-all .put-all .last .0) (at-put-spaced .put-spaced .last .0) (c .before .before .put-value .last .0)
+    (a .n) (at-put-all .put-all .result) (at-put-spaced .put-spaced .result) (c .before .before .put-value .result) (at-number5 .number5 .result)
+    (at-name-of .name-of .result .now) (at-piece .piece .result .now) (at-piece2 .piece2 .result .now)
+    (at-name-of .name-of .ensures)
+    (at-piece .piece .ensures ∙ rw (at-number2 .number2 .ensures .0, at-number .number .ensures .0) refl)
+    (at-number5 .number5 .ensures .0)
+    (at-piece2 .piece2 .ensures ∙ rw (at-number4 .number4 .ensures .0, at-number3 .number3 .ensures .0) refl)
+    (at-put-all .put-all .ensures .1) (at-put-all .put-all .ensures .0)
+    (at-put-spaced .put-spaced .ensures .1) (at-put-spaced .put-spaced .ensures .0)
     (c .before .before .put-value .ensures .1) (c .before .before .put-value .ensures .0) in
     (t .ends, t .stored)
 

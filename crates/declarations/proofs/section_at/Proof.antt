@@ -1,3 +1,5 @@
+-- `declarations::section_at` meets its contract. `sectionOf` computes once both places and the test on them are known,
+-- one return for each case. Assumes nothing.
 use native.Mathlib.Omega.{arith}
 use mathlib.Core.Path.{refl}
 use Prim.Native.Nat.{_+_, _<_, _^_}

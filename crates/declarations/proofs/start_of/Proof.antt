@@ -1,3 +1,5 @@
+-- `declarations::start_of` meets its contract. Every record comes behind the head; record k + 1 is taken only where the
+-- code has compared the two names. Assumes nothing.
 use native.Mathlib.Omega.{arith}
 use mathlib.Core.Path.{_≡_, refl, sym, _∙_}
 use Prim.Native.Nat.{_+_}
@@ -28,10 +30,12 @@ add-result c = search needs
 
 returns-2 : tie.Need-returns-2
 returns-2 c =
-    let a = c .before .before .before .before .before .before .before .args in
+    let at-if1 = c .before .before .before .before in
+    let at-start = at-if1 .before .before .before in
+    let a = at-start .args in
     let n = nameIn (a .text .now) (a .records .now) in
     let t : c .before .comes-before .result ≡ isBefore (n (a .k + 1)) (n (a .k)) = c .before .comes-before .ensures ∙ rw (c .before .before .name-of2 .ensures, c .before .before .before .name-of .ensures) refl in
-    (record { within = omega (arith, c .before .before .before .before .if1 .left); later = λ z. omega arith }, behind-other n (a .k + 1) (a .k) (λ z. absurd (omega (arith, z))) ∙ (sym t ∙ c .if2 .taken))
+    (record { within = omega (arith, at-if1 .if1 .left); later = λ z. omega arith }, behind-other n (a .k + 1) (a .k) (λ z. absurd (omega (arith, z))) ∙ (sym t ∙ c .if2 .taken))
 
 returns-3 : tie.Need-returns-3
 returns-3 c = (record { within = omega arith; later = λ z. absurd (z refl) }, refl)

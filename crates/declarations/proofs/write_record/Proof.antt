@@ -1,3 +1,5 @@
+-- `declarations::write_record` meets its contract. `ends` says that the texts end in order, the last within the bound,
+-- so that each number fits 32 bits; the law `numbers` says that they are the record's. Assumes nothing.
 use native.Mathlib.Omega.{arith}
 use mathlib.Core.Path.{ap, _∙_}
 use mathlib.Core.List.{List, _∷_}
@@ -14,8 +16,14 @@ use Rattle.declarations.proofs.write_record.Statement.{statement}
 use Rattle.declarations.proofs.write_record.Tie as tie
 
 -- the ends in their order, the last within the bound
-ends : (c : tie.After-put-texts) → Ordered (c .before .before .before .before .before .before .before .before .before .args .text .now) (c .before .before .before .before .before .before .before .before .before .args .records .now) (c .before .before .before .before .before .before .before .before .before .args .k) (c .before .before .before .before .before .before .before .before .before .args .n) (c .put-texts .result)
-ends c = ordered (c .before .before .before .before .before .before .before .before .before .args .text .now) (c .before .before .before .before .before .before .before .before .before .args .records .now) (c .before .before .before .before .before .before .before .before .before .args .k) (c .before .before .before .before .before .before .before .before .before .args .n) (c .put-texts .result) (c .put-texts .ensures .0)
+ends : (c : tie.After-put-texts) →
+    let at-number = c .before .before .before in
+    let at-start = at-number .before .before .before .before .before .before in
+    Ordered (at-start .args .text .now) (at-start .args .records .now) (at-start .args .k) (at-start .args .n) (c .put-texts .result)
+ends c =
+    let at-number = c .before .before .before in
+    let at-start = at-number .before .before .before .before .before .before in
+    ordered (at-start .args .text .now) (at-start .args .records .now) (at-start .args .k) (at-start .args .n) (c .put-texts .result) (c .put-texts .ensures .0)
 
 small : (c : tie.Start) → c .args .n + length (packedRecord (recordIn (c .args .text .now) (c .args .records .now) (c .args .k))) ≤ 65536
 small c = c .pre .1 .1 .1
@@ -48,31 +56,61 @@ sub-kind-len : tie.Need-sub-kind-len
 sub-kind-len c = ends (c .before .before .before .before .before .before) .second
 
 sub-value-len : tie.Need-sub-value-len
-sub-value-len c = ends (c .before .before .before .before .before .before .before) .third
+sub-value-len c =
+    let at-declared = c .before .before .before .before .before .before in
+    let at-put-texts = at-declared .before in
+    ends at-put-texts .third
 
 cast-put-numbers : tie.Need-cast-put-numbers
 cast-put-numbers c = search needs
 
 cast-put-numbers-2 : tie.Need-cast-put-numbers-2
-cast-put-numbers-2 c = let o = ends (c .before .before .before .before .before .before .before .before) in omega (arith, small (c .before .before .before .before .before .before .before .before .before .before .before .before .before .before .before .before .before), o .first, o .second, o .third, o .last)
+cast-put-numbers-2 c =
+    let at-if-present = c .before .before .before .before .before in
+    let at-put-texts = at-if-present .before .before .before in
+    let at-number = at-put-texts .before .before .before in
+    let at-start = at-number .before .before .before .before .before .before in
+    let o = ends at-put-texts in omega (arith, small at-start, o .first, o .second, o .third, o .last)
 
 cast-put-numbers-3 : tie.Need-cast-put-numbers-3
-cast-put-numbers-3 c = let o = ends (c .before .before .before .before .before .before .before .before .before) in omega (arith, small (c .before .before .before .before .before .before .before .before .before .before .before .before .before .before .before .before .before .before), o .first, o .second, o .third, o .last)
+cast-put-numbers-3 c =
+    let at-if-present = c .before .before .before .before .before .before in
+    let at-put-texts = at-if-present .before .before .before in
+    let at-number = at-put-texts .before .before .before in
+    let at-start = at-number .before .before .before .before .before .before in
+    let o = ends at-put-texts in omega (arith, small at-start, o .first, o .second, o .third, o .last)
 
 cast-put-numbers-4 : tie.Need-cast-put-numbers-4
-cast-put-numbers-4 c = let o = ends (c .before .before .before .before .before .before .before .before .before) in omega (arith, small (c .before .before .before .before .before .before .before .before .before .before .before .before .before .before .before .before .before .before), o .first, o .second, o .third, o .last)
+cast-put-numbers-4 c =
+    let at-if-present = c .before .before .before .before .before .before in
+    let at-put-texts = at-if-present .before .before .before in
+    let at-number = at-put-texts .before .before .before in
+    let at-start = at-number .before .before .before .before .before .before in
+    let o = ends at-put-texts in omega (arith, small at-start, o .first, o .second, o .third, o .last)
 
 cast-put-numbers-5 : tie.Need-cast-put-numbers-5
-cast-put-numbers-5 c = omega (arith, c .before .before .before .before .before .before .if-present .ensures, cond-le (eqb (c .before .before .before .before .before .before .before .before .before .before .before .before .number .result) 0) 0 1 1 (omega arith) (omega arith))
+cast-put-numbers-5 c =
+    let at-if-present = c .before .before .before .before .before .before in
+    let at-number = at-if-present .before .before .before .before .before .before in
+    omega (arith, at-if-present .if-present .ensures, cond-le (eqb (at-number .number .result) 0) 0 1 1 (omega arith) (omega arith))
 
 cast-put-numbers-6 : tie.Need-cast-put-numbers-6
 cast-put-numbers-6 c =
-    let o = ends (c .before .before .before .before .before .before .before .before .before) in
-    let k : c .before .before .before .before .before .before .before .before .before .put-texts .result .kind ≤ 65536 = omega (arith, small (c .before .before .before .before .before .before .before .before .before .before .before .before .before .before .before .before .before .before), o .third, o .last) in
-    omega (arith, c .before .before .before .before .before .if-present2 .ensures, cond-le (eqb (c .before .before .before .before .before .before .before .before .before .before .before .before .number .result) 0) 0 (c .before .before .before .before .before .before .before .before .before .put-texts .result .kind) 65536 (omega arith) k)
+    let at-if-present = c .before .before .before .before .before .before in
+    let at-put-texts = at-if-present .before .before .before in
+    let at-number = at-put-texts .before .before .before in
+    let at-start = at-number .before .before .before .before .before .before in
+    let o = ends at-put-texts in
+    let k : at-put-texts .put-texts .result .kind ≤ 65536 = omega (arith, small at-start, o .third, o .last) in
+    omega (arith, c .before .before .before .before .before .if-present2 .ensures, cond-le (eqb (at-number .number .result) 0) 0 (at-put-texts .put-texts .result .kind) 65536 (omega arith) k)
 
 cast-put-numbers-7 : tie.Need-cast-put-numbers-7
-cast-put-numbers-7 c = let o = ends (c .before .before .before .before .before .before .before .before .before) in omega (arith, small (c .before .before .before .before .before .before .before .before .before .before .before .before .before .before .before .before .before .before), o .first, o .second, o .third, o .last)
+cast-put-numbers-7 c =
+    let at-if-present = c .before .before .before .before .before .before in
+    let at-put-texts = at-if-present .before .before .before in
+    let at-number = at-put-texts .before .before .before in
+    let at-start = at-number .before .before .before .before .before .before in
+    let o = ends at-put-texts in omega (arith, small at-start, o .first, o .second, o .third, o .last)
 
 put-numbers-requires : tie.Need-put-numbers-requires
 put-numbers-requires c κs = search needs
@@ -85,10 +123,16 @@ same-length-2 c = search needs
 
 returns : tie.Need-returns
 returns c =
-    let a = c .before .before .before .before .before .before .before .before .before .before .before .before .before .before .before .before .before .before .before .before .before .args in
-    let e = c .before .before .before .before .before .before .before .before .before .before .before .before .put-texts .result in
-    let n = numbers (a .text .now) (a .records .now) (a .k) (a .n) (c .before .before .before .before .before .before .before .before .before .before .before .before .before .before .before .number .result) (c .before .before .before .before .before .before .before .before .before .if-present .result) (c .before .before .before .before .before .before .before .before .if-present2 .result) e (c .before .before .before .before .before .before .before .before .before .before .before .before .before .before .before .number .ensures .0) (c .before .before .before .before .before .before .before .before .before .before .before .before .put-texts .ensures .0) (c .before .before .before .before .before .before .before .before .before .if-present .ensures) (c .before .before .before .before .before .before .before .before .if-present2 .ensures) in
-    (ends (c .before .before .before .before .before .before .before .before .before .before .before .before) .last, (c .before .before .before .before .before .before .before .before .before .before .before .before .put-texts .ensures .1, c .before .before .put-numbers .ensures ∙ ap (λ (l : List ℕ). sets (a .records .now) (8 * a .k) (getD (a .records .now) (8 * a .k) 0 ∷ l)) n))
+    let at-put-numbers = c .before .before in
+    let at-if-present2 = at-put-numbers .before .before .before .before .before .before in
+    let at-if-present = at-if-present2 .before in
+    let at-put-texts = at-if-present .before .before .before in
+    let at-number = at-put-texts .before .before .before in
+    let at-start = at-number .before .before .before .before .before .before in
+    let a = at-start .args in
+    let e = at-put-texts .put-texts .result in
+    let n = numbers (a .text .now) (a .records .now) (a .k) (a .n) (at-number .number .result) (at-if-present .if-present .result) (at-if-present2 .if-present2 .result) e (at-number .number .ensures .0) (at-put-texts .put-texts .ensures .0) (at-if-present .if-present .ensures) (at-if-present2 .if-present2 .ensures) in
+    (ends at-put-texts .last, (at-put-texts .put-texts .ensures .1, at-put-numbers .put-numbers .ensures ∙ ap (λ (l : List ℕ). sets (a .records .now) (8 * a .k) (getD (a .records .now) (8 * a .k) 0 ∷ l)) n))
 
 pub write-record-spec : {M : Type 1} → statement M
 write-record-spec =

@@ -1,3 +1,6 @@
+-- `declarations::write_records` meets its contract. The loop's invariant `Written` says that the records before k are
+-- packed up to n and have their numbers; `written-one` is a turn, and `record-fits` says that the next record has room.
+-- Assumes nothing.
 use native.Mathlib.Omega.{arith}
 use borrow.Author.Needs.{needs}
 use mathlib.Core.Path.{_≡_, refl, _∙_}
@@ -18,10 +21,12 @@ loop-holds c = (omega arith, omega arith, refl, refl, written-none (c .before .b
 
 write-record-requires : tie.Need-write-record-requires Inv-loop μ-loop
 write-record-requires c κs =
-    let a = c .before .before .before .before .before .before .before .args in
-    let l = c .before .before .before .loop in
+    let at-loop = c .before .before .before in
+    let at-start = at-loop .before .before .before .before in
+    let a = at-start .args in
+    let l = at-loop .loop in
     let f = record-fits (a .text .now) (a .declared .now) (a .records .now) (a .count) (l .k) (l .n) (l .declared) (l .records) (omega arith) (l .inv .4) in
-    (omega arith, (omega arith, (omega arith, omega (arith, f, c .before .before .before .before .before .before .before .pre .1 .1 .1))))
+    (omega arith, (omega arith, (omega arith, omega (arith, f, at-start .pre .1 .1 .1))))
 
 add-k : tie.Need-add-k Inv-loop μ-loop
 add-k c = search needs
@@ -31,9 +36,12 @@ loop-less c = search needs
 
 loop-again : tie.Need-loop-again Inv-loop μ-loop
 loop-again c =
-    let a = c .before .before .before .before .before .before .before .before .before .before .before .before .args in
-    let l = c .before .before .before .before .before .before .before .before .loop in
-    let w = c .before .before .before .before .write-record in
+    let at-write-record = c .before .before .before .before in
+    let at-loop = at-write-record .before .before .before .before in
+    let at-start = at-loop .before .before .before .before in
+    let a = at-start .args in
+    let l = at-loop .loop in
+    let w = at-write-record .write-record in
     (omega arith, omega arith, w .kept .1 .0 ∙ l .inv .2, w .kept .1 .1 .0 ∙ l .inv .3, written-one (a .text .now) (a .declared .now) (a .records .now) (a .count) (l .k) (l .n) (l .declared) (l .records) (omega arith) (l .inv .4) (w .result) _ _ (w .ensures .0) (w .ensures .1 .0) (w .ensures .1 .1))
 
 same-length : tie.Need-same-length Inv-loop μ-loop

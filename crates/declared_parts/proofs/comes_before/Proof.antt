@@ -1,3 +1,5 @@
+-- `declared_parts::comes_before` meets its contract. The loop's invariant says that the order of the two is that of
+-- their rests from i on; the first byte that differs, or the end of one, decides. Assumes nothing.
 use native.Mathlib.Omega.{arith}
 use borrow.Author.Needs.{needs}
 use mathlib.Core.Path.{_≡_, refl, sym, _∙_}
@@ -39,7 +41,11 @@ shared-slice-read-result-2 : tie.Need-shared-slice-read-result-2 Inv-loop μ-loo
 shared-slice-read-result-2 c = search needs
 
 returns : tie.Need-returns Inv-loop μ-loop
-returns c = sym (c .before .before .before .before .before .before .before .loop .inv ∙ before-other (c .before .before .before .before .before .before .before .before .args .x .now) (c .before .before .before .before .before .before .before .before .args .y .now) (c .before .before .before .before .before .before .before .loop .i) (omega arith) (omega arith) (c .before .before .if2 .left))
+returns c =
+    let at-loop-test = c .before .before .before .before .before .before in
+    let at-loop = at-loop-test .before in
+    let at-start = at-loop .before in
+    sym (at-loop .loop .inv ∙ before-other (at-start .args .x .now) (at-start .args .y .now) (at-loop .loop .i) (omega arith) (omega arith) (c .before .before .if2 .left))
 
 returns-2 : tie.Need-returns-2 Inv-loop μ-loop
 returns-2 c = sym (c .before .before .loop .inv ∙ before-short (c .before .before .before .args .x .now) (c .before .before .before .args .y .now) (c .before .before .loop .i) (omega arith) (omega arith))

@@ -1,3 +1,5 @@
+-- `declared_parts::cut_at` meets its contract. `cutOf` computes once the two places are known; what is asked of the cut
+-- makes its numbers fit. Assumes nothing.
 use native.Mathlib.Omega.{arith}
 use mathlib.Core.Path.{refl}
 use Prim.Native.Nat.{_≤_}

@@ -1,3 +1,5 @@
+-- `declared_parts::find_default` meets its contract. `cut-same` says that the cut is the definition's, from what the
+-- two searches found; `fits` that it is within the part. Assumes nothing.
 use mathlib.Core.Path.{_≡_, sym, _∙_}
 use Rattle.spec.specs.Bytes.{ascii}
 use Rattle.spec.specs.Map.{marked}

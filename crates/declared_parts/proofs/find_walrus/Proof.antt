@@ -1,3 +1,5 @@
+-- `declared_parts::find_walrus` meets its contract. The loop's invariant says, for every map, that the first `:=` of
+-- the text is the first from i on. Assumes nothing.
 use native.Mathlib.Omega.{arith}
 use borrow.Author.Needs.{needs}
 use mathlib.Core.Path.{_≡_, refl, sym, _∙_}
@@ -46,7 +48,10 @@ starts-with-requires : tie.Need-starts-with-requires Inv-loop μ-loop
 starts-with-requires c κs = search needs
 
 returns : tie.Need-returns Inv-loop μ-loop
-returns c = λ ms. sym (c .before .before .before .before .before .loop .inv ms ∙ walrus-hit (c .before .before .before .before .before .before .before .args .text .now) (c .before .before .before .before .before .loop .i) ms (omega arith) (sym (tested (c .before)) ∙ c .if1 .taken))
+returns c =
+    let at-loop = c .before .before .before .before .before in
+    let at-start = at-loop .before .before in
+    λ ms. sym (at-loop .loop .inv ms ∙ walrus-hit (at-start .args .text .now) (at-loop .loop .i) ms (omega arith) (sym (tested (c .before)) ∙ c .if1 .taken))
 
 add-i : tie.Need-add-i Inv-loop μ-loop
 add-i c = search needs
@@ -55,7 +60,10 @@ loop-less : tie.Need-loop-less Inv-loop μ-loop
 loop-less c = search needs
 
 loop-again : tie.Need-loop-again Inv-loop μ-loop
-loop-again c = λ ms. c .before .before .before .before .before .loop .inv ms ∙ walrus-miss (c .before .before .before .before .before .before .before .args .text .now) (c .before .before .before .before .before .loop .i) ms (omega arith) (sym (tested (c .before)) ∙ c .if1 .left)
+loop-again c =
+    let at-loop = c .before .before .before .before .before in
+    let at-start = at-loop .before .before in
+    λ ms. at-loop .loop .inv ms ∙ walrus-miss (at-start .args .text .now) (at-loop .loop .i) ms (omega arith) (sym (tested (c .before)) ∙ c .if1 .left)
 
 returns-2 : tie.Need-returns-2 Inv-loop μ-loop
 returns-2 c = λ ms. sym (c .before .loop .inv ms ∙ walrus-end (c .before .before .before .args .text .now) (c .before .loop .i) ms (omega arith))

@@ -1,3 +1,5 @@
+-- `declared_parts::is_whole` meets its contract, with a law for each return: too short, no `$` in front, no `$` at the
+-- delimiter's end, or else the comparison of the two delimiters. Assumes nothing.
 use native.Mathlib.Omega.{arith}
 use mathlib.Core.Path.{_≡_, sym, _∙_}
 use Prim.Native.Nat.{_-_}
@@ -38,20 +40,28 @@ part-same-bytes-end : tie.Need-part-same-bytes-end
 part-same-bytes-end c = search needs
 
 slice-aggregate-same-bytes : tie.Need-slice-aggregate-same-bytes
-slice-aggregate-same-bytes c = sym (length-take-le (c .before .before .before .before .before .before .before .before .before .args .d) (c .before .before .before .before .before .before .before .before .before .args .text .now) (omega arith))
+slice-aggregate-same-bytes c =
+    let at-if2 = c .before .before .before .before .before .before in
+    let at-start = at-if2 .before .before .before in
+    sym (length-take-le (at-start .args .d) (at-start .args .text .now) (omega arith))
 
 same-bytes-requires : tie.Need-same-bytes-requires
 same-bytes-requires c κs = search needs
 
 returns-3 : tie.Need-returns-3
 returns-3 c =
-    let xs = c .before .before .before .before .before .before .before .before .before .before .args .text .now in
-    let d = c .before .before .before .before .before .before .before .before .before .before .args .d in
+    let at-if3 = c .before .before .before .before .before in
+    let at-start = at-if3 .before .before .before .before .before in
+    let xs = at-start .args .text .now in
+    let d = at-start .args .d in
     let h : c .same-bytes .result ≡ isSame (take (length xs - (length xs - d)) (drop (length xs - d) xs)) (take d xs) = c .same-bytes .ensures in
-    (rw rest-of at h) ∙ sym (whole-same xs d (c .before .before .before .before .before .before .before .before .before .before .pre .0) (omega arith) (c .before .before .before .before .before .if3 .taken) (c .before .before .before .if4 .taken))
+    (rw rest-of at h) ∙ sym (whole-same xs d (at-start .pre .0) (omega arith) (at-if3 .if3 .taken) (c .before .before .before .if4 .taken))
 
 returns-4 : tie.Need-returns-4
-returns-4 c = sym (whole-last (c .before .before .before .before .before .before .before .args .text .now) (c .before .before .before .before .before .before .before .args .d) (c .before .before .before .before .before .before .before .pre .0) (c .if4 .left))
+returns-4 c =
+    let at-if1 = c .before .before .before .before .before in
+    let at-start = at-if1 .before .before in
+    sym (whole-last (at-start .args .text .now) (at-start .args .d) (at-start .pre .0) (c .if4 .left))
 
 returns-5 : tie.Need-returns-5
 returns-5 c = sym (whole-first (c .before .before .before .before .before .args .text .now) (c .before .before .before .before .before .args .d) (c .before .before .before .before .before .pre .0) (c .if3 .left))

@@ -1,3 +1,5 @@
+-- `declared_parts::piece` meets its contract, by the three cases: the part is within the text, it reaches past its end,
+-- or it starts past its end. Assumes nothing.
 use native.Mathlib.Omega.{arith}
 use mathlib.Core.Path.{refl, sym, ap, _∙_}
 use Prim.Native.Nat.{_≤_, _-_}

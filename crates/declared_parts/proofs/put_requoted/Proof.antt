@@ -1,3 +1,5 @@
+-- `declared_parts::put_requoted` meets its contract, by whether the default is wholly a dollar literal. `long` gives
+-- the delimiter's length, and `fits` says that a whole default has two of them. Assumes nothing.
 use native.Mathlib.Omega.{arith}
 use mathlib.Core.Path.{_≡_, sym, _∙_}
 use Prim.Native.Nat.{_≤_, _-_, _+_, _*_}
@@ -43,8 +45,10 @@ part-put-single-quoted-end c = search needs
 
 put-single-quoted-requires : tie.Need-put-single-quoted-requires
 put-single-quoted-requires c κs =
-    let a = c .before .before .before .before .before .before .before .args in
-    let d = c .before .before .before .before .run-end .result + 1 in
+    let at-run-end = c .before .before .before .before in
+    let at-start = at-run-end .before .before .before in
+    let a = at-start .args in
+    let d = at-run-end .run-end .result + 1 in
     let e : length (take (length (a .text .now) - d - d) (drop d (a .text .now))) ≡ length (a .text .now) - d - d = length-take-le _ (drop d (a .text .now)) (omega (arith, length-drop d (a .text .now))) in
     omega arith
 
@@ -56,10 +60,14 @@ same-length c = search needs
 
 returns : tie.Need-returns
 returns c =
-    let a = c .before .before .before .before .before .before .before .before .before .before .args in
-    let d = c .before .before .before .before .before .before .before .run-end .result + 1 in
+    let at-if1 = c .before .before .before .before .before in
+    let at-is-whole = at-if1 .before in
+    let at-run-end = at-is-whole .before in
+    let at-start = at-run-end .before .before .before in
+    let a = at-start .args in
+    let d = at-run-end .run-end .result + 1 in
     let p = c .before .before .put-single-quoted in
-    let e = whole-text (a .text .now) d (long (c .before .before .before .before .before .before .before)) (sym (c .before .before .before .before .before .before .is-whole .ensures) ∙ c .before .before .before .before .before .if1 .taken) in
+    let e = whole-text (a .text .now) d (long at-run-end) (sym (at-is-whole .is-whole .ensures) ∙ at-if1 .if1 .taken) in
     let counted : p .result ≡ a .n + length (singleQuoted (take (length (a .text .now) - d - d) (drop d (a .text .now)))) = p .ensures .0 in
     let stored : p .last .0 ≡ sets (a .out .now) (a .n) (singleQuoted (take (length (a .text .now) - d - d) (drop d (a .text .now)))) = p .ensures .1 in
     (rw e counted, rw e stored)
@@ -69,10 +77,14 @@ same-length-2 c = search needs
 
 returns-2 : tie.Need-returns-2
 returns-2 c =
-    let a = c .before .before .before .before .before .before .before .before .before .args in
-    let d = c .before .before .before .before .before .before .run-end .result + 1 in
+    let at-if1 = c .before .before .before .before in
+    let at-is-whole = at-if1 .before in
+    let at-run-end = at-is-whole .before in
+    let at-start = at-run-end .before .before .before in
+    let a = at-start .args in
+    let d = at-run-end .run-end .result + 1 in
     let p = c .before .before .put-all in
-    let e = other-text (a .text .now) d (long (c .before .before .before .before .before .before)) (sym (c .before .before .before .before .before .is-whole .ensures) ∙ c .before .before .before .before .if1 .left) in
+    let e = other-text (a .text .now) d (long at-run-end) (sym (at-is-whole .is-whole .ensures) ∙ at-if1 .if1 .left) in
     (rw e (p .ensures .0), rw e (p .ensures .1))
 
 pub put-requoted-spec : {M : Type 1} → statement M

@@ -1,3 +1,6 @@
+-- `declared_parts::put_spaced` meets its contract. The loop's invariant says that what is put and the spaced rest make
+-- up the spaced text, in length and in stores; `gap` tells whether W was passed. A turn is W, a byte behind W, or
+-- another byte. Assumes nothing.
 use native.Mathlib.Omega.{arith}
 use borrow.Author.Needs.{needs}
 use mathlib.Core.Path.{_≡_, refl, sym, ap, _∙_}
@@ -35,8 +38,10 @@ loop-less c = search needs
 
 loop-again : tie.Need-loop-again Inv-loop μ-loop
 loop-again c =
-    let l = c .before .before .before .before .loop in
-    let xs = c .before .before .before .before .before .before .before .args .text .now in
+    let at-loop = c .before .before .before .before in
+    let at-start = at-loop .before .before .before in
+    let l = at-loop .loop in
+    let xs = at-start .args .text .now in
     let e = spaced-w xs (l .j) (omega arith) (l .gap) (sym (c .before .is-w .ensures) ∙ c .if1 .taken) in
     (l .inv .0, omega arith, l .inv .2 ∙ ap (λ (r : List ℕ). l .o + length r) e, l .inv .3 ∙ ap (λ (r : List ℕ). sets (l .out) (l .o) r) e, omega arith)
 
@@ -54,11 +59,17 @@ loop-less-2 c = search needs
 
 loop-again-2 : tie.Need-loop-again-2 Inv-loop μ-loop
 loop-again-2 c =
-    let l = c .before .before .before .before .before .before .before .before .before .before .before .before .before .loop in
-    let xs = c .before .before .before .before .before .before .before .before .before .before .before .before .before .before .before .before .args .text .now in
-    let p = c .before .before .before .before .before .before .put in
+    let at-put = c .before .before .before .before .before .before in
+    let at-if2 = at-put .before .before in
+    let at-if1 = at-if2 .before in
+    let at-is-w = at-if1 .before in
+    let at-loop = at-is-w .before .before .before in
+    let at-start = at-loop .before .before .before in
+    let l = at-loop .loop in
+    let xs = at-start .args .text .now in
+    let p = at-put .put in
     let q = c .before .before .put2 in
-    let e : spaced (l .gap) (drop (l .j) xs) ≡ _ = ap (λ (g : Bool). spaced g (drop (l .j) xs)) (c .before .before .before .before .before .before .before .before .if2 .taken) ∙ spaced-gap xs (l .j) (omega arith) (sym (c .before .before .before .before .before .before .before .before .before .before .is-w .ensures) ∙ c .before .before .before .before .before .before .before .before .before .if1 .left) in
+    let e : spaced (l .gap) (drop (l .j) xs) ≡ _ = ap (λ (g : Bool). spaced g (drop (l .j) xs)) (at-if2 .if2 .taken) ∙ spaced-gap xs (l .j) (omega arith) (sym (at-is-w .is-w .ensures) ∙ at-if1 .if1 .left) in
     (q .kept .0 ∙ (p .kept .0 ∙ l .inv .0), omega (arith, p .ensures .0, q .ensures .0), omega (arith, l .inv .2, ap length e, p .ensures .0, q .ensures .0), l .inv .3 ∙ (ap (λ (r : List ℕ). sets (l .out) (l .o) r) e ∙ rw (q .ensures .1, q .ensures .0, p .ensures .1, p .ensures .0, add-one (l .o + 1), add-one (l .o)) refl), omega arith)
 
 put-requires-3 : tie.Need-put-requires-3 Inv-loop μ-loop
@@ -72,10 +83,13 @@ loop-less-3 c = search needs
 
 loop-again-3 : tie.Need-loop-again-3 Inv-loop μ-loop
 loop-again-3 c =
-    let l = c .before .before .before .before .before .before .before .before .before .loop in
-    let xs = c .before .before .before .before .before .before .before .before .before .before .before .before .args .text .now in
+    let at-is-w = c .before .before .before .before .before .before in
+    let at-loop = at-is-w .before .before .before in
+    let at-start = at-loop .before .before .before in
+    let l = at-loop .loop in
+    let xs = at-start .args .text .now in
     let p = c .before .before .put3 in
-    let e : spaced (l .gap) (drop (l .j) xs) ≡ _ = ap (λ (g : Bool). spaced g (drop (l .j) xs)) (c .before .before .before .before .if2 .left) ∙ spaced-next xs (l .j) (omega arith) (sym (c .before .before .before .before .before .before .is-w .ensures) ∙ c .before .before .before .before .before .if1 .left) in
+    let e : spaced (l .gap) (drop (l .j) xs) ≡ _ = ap (λ (g : Bool). spaced g (drop (l .j) xs)) (c .before .before .before .before .if2 .left) ∙ spaced-next xs (l .j) (omega arith) (sym (at-is-w .is-w .ensures) ∙ c .before .before .before .before .before .if1 .left) in
     let k : spaced (l .gap) (drop (l .j + 1) xs) ≡ spaced false (drop (l .j + 1) xs) = ap (λ (g : Bool). spaced g (drop (l .j + 1) xs)) (c .before .before .before .before .if2 .left) in
     (p .kept .0 ∙ l .inv .0, omega (arith, p .ensures .0), omega (arith, l .inv .2, ap length e, ap length k, p .ensures .0), l .inv .3 ∙ (ap (λ (r : List ℕ). sets (l .out) (l .o) r) e ∙ rw (p .ensures .1, p .ensures .0, add-one (l .o), k) refl), omega arith)
 

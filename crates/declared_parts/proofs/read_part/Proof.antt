@@ -1,3 +1,6 @@
+-- `declared_parts::read_part` meets its contract. `part-read` proves the reading from what the calls ensure: where the
+-- part, its name, its type and its default begin and end. `inside` says that the cut is within the trimmed part.
+-- Assumes nothing.
 use native.Mathlib.Omega.{arith}
 use mathlib.Core.Path.{_≡_, refl, _∙_}
 use Prim.Native.Nat.{_≤_, _-_, _+_}

@@ -1,3 +1,5 @@
+-- `declared_parts::same_bytes` meets its contract. The loop's invariant says that the two are the same from i on; it
+-- runs from the end to the front, and any byte that differs, or another length, tells them apart. Assumes nothing.
 use native.Mathlib.Omega.{arith}
 use borrow.Author.Needs.{needs}
 use mathlib.Core.Path.{_≡_, ap}
@@ -50,10 +52,19 @@ loop-less : tie.Need-loop-less Inv-loop μ-loop
 loop-less c = search needs
 
 loop-again : tie.Need-loop-again Inv-loop μ-loop
-loop-again c = (omega arith, same-step (c .before .before .before .before .before .before .before .before .before .args .x .now) (c .before .before .before .before .before .before .before .before .before .args .y .now) (c .before .before .before .before .before .before .before .loop .i) (omega arith) (omega arith) (c .before .before .before .before .before .before .before .before .if1 .taken) (c .before .before .before .if2 .left) (c .before .before .before .before .before .before .before .loop .inv .1))
+loop-again c =
+    let at-loop-test = c .before .before .before .before .before .before in
+    let at-loop = at-loop-test .before in
+    let at-if1 = at-loop .before in
+    let at-start = at-if1 .before in
+    (omega arith, same-step (at-start .args .x .now) (at-start .args .y .now) (at-loop .loop .i) (omega arith) (omega arith) (at-if1 .if1 .taken) (c .before .before .before .if2 .left) (at-loop .loop .inv .1))
 
 returns-2 : tie.Need-returns-2 Inv-loop μ-loop
-returns-2 c = not-same (c .before .before .before .before .before .before .before .before .before .args .x .now) (c .before .before .before .before .before .before .before .before .before .args .y .now) (λ e. c .if3 .left (ap (λ l. getD l (length (c .before .before .before .before .before .before .before .before .before .args .x .now) - c .before .before .before .before .before .before .before .loop .i) 0) e))
+returns-2 c =
+    let at-loop-test = c .before .before .before .before .before .before in
+    let at-loop = at-loop-test .before in
+    let at-start = at-loop .before .before in
+    not-same (at-start .args .x .now) (at-start .args .y .now) (λ e. c .if3 .left (ap (λ l. getD l (length (at-start .args .x .now) - at-loop .loop .i) 0) e))
 
 returns-3 : tie.Need-returns-3 Inv-loop μ-loop
 returns-3 c = same-all (c .before .before .before .args .x .now) (c .before .before .before .args .y .now) (c .before .loop .i) (omega arith) (c .before .loop .inv .1)

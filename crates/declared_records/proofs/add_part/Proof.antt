@@ -1,3 +1,5 @@
+-- `declared_records::add_part` meets its contract, by the four cases of the code: the part declares nothing, there are
+-- too many names, the name is replaced, or it is new. `found` says where its name stands. Assumes nothing.
 use native.Mathlib.Omega.{arith}
 use mathlib.Core.Path.{_≡_, refl, _∙_}
 use Prim.Native.Nat.{_-_}
@@ -9,7 +11,10 @@ use Rattle.declared_records.proofs.add_part.Statement.{statement}
 use Rattle.declared_records.proofs.add_part.Tie as tie
 
 -- where the part's name stands
-found : (c : tie.After-find-name) → c .find-name .result ≡ placeOf (take (c .before .before .before .before .before .before .before .args .p .«name_len») (drop (c .before .before .before .before .before .before .before .args .p .name) (c .before .before .before .before .before .before .before .args .text .now))) (recordsFrom (c .before .before .before .before .before .before .before .args .text .now) (c .before .before .before .before .before .before .before .args .records .now) 1 (c .before .before .before .before .before .before .before .args .count))
+found : (c : tie.After-find-name) →
+    let at-if1 = c .before .before .before in
+    let at-start = at-if1 .before .before .before .before in
+    c .find-name .result ≡ placeOf (take (at-start .args .p .«name_len») (drop (at-start .args .p .name) (at-start .args .text .now))) (recordsFrom (at-start .args .text .now) (at-start .args .records .now) 1 (at-start .args .count))
 found c = c .find-name .ensures .0 ∙ rw (c .before .before .piece .ensures) refl
 
 returns : tie.Need-returns
@@ -28,8 +33,10 @@ same-length c = search needs
 
 returns-2 : tie.Need-returns-2
 returns-2 c =
-    let a = c .before .before .before .before .before .before .before .before .args in
-    add-full (a .text .now) (a .records .now) (a .count) (a .p) (c .before .before .before .before .if1 .left) _ (found (c .before)) (omega arith) (c .if2 .taken)
+    let at-if1 = c .before .before .before .before in
+    let at-start = at-if1 .before .before .before .before in
+    let a = at-start .args in
+    add-full (a .text .now) (a .records .now) (a .count) (a .p) (at-if1 .if1 .left) _ (found (c .before)) (omega arith) (c .if2 .taken)
 
 add-put-part : tie.Need-add-put-part
 add-put-part c = search needs
@@ -45,8 +52,11 @@ same-length-2 c = search needs
 
 returns-3 : tie.Need-returns-3
 returns-3 c =
-    let a = c .before .before .before .before .before .before .before .before .before .before .before .before .before .args in
-    let e = add-replaced (a .text .now) (a .records .now) (a .count) (a .p) (c .before .before .before .before .before .before .before .before .before .if1 .left) _ (found (c .before .before .before .before .before .before)) (omega arith) (omega (arith, c .before .before .before .before .before .if2 .left)) (c .if3 .taken) in
+    let at-find-name = c .before .before .before .before .before .before in
+    let at-if1 = at-find-name .before .before .before in
+    let at-start = at-if1 .before .before .before .before in
+    let a = at-start .args in
+    let e = add-replaced (a .text .now) (a .records .now) (a .count) (a .p) (at-if1 .if1 .left) _ (found at-find-name) (omega arith) (omega (arith, c .before .before .before .before .before .if2 .left)) (c .if3 .taken) in
     rw (c .before .before .before .put-part .ensures) e
 
 same-length-3 : tie.Need-same-length-3
@@ -54,8 +64,11 @@ same-length-3 c = search needs
 
 returns-4 : tie.Need-returns-4
 returns-4 c =
-    let a = c .before .before .before .before .before .before .before .before .before .before .before .before .before .args in
-    let e = add-new (a .text .now) (a .records .now) (a .count) (a .p) (c .before .before .before .before .before .before .before .before .before .if1 .left) _ (found (c .before .before .before .before .before .before)) (omega arith) (omega (arith, c .before .before .before .before .before .if2 .left)) (omega arith) in
+    let at-find-name = c .before .before .before .before .before .before in
+    let at-if1 = at-find-name .before .before .before in
+    let at-start = at-if1 .before .before .before .before in
+    let a = at-start .args in
+    let e = add-new (a .text .now) (a .records .now) (a .count) (a .p) (at-if1 .if1 .left) _ (found at-find-name) (omega arith) (omega (arith, c .before .before .before .before .before .if2 .left)) (omega arith) in
     rw (c .before .before .before .put-part .ensures) e
 
 pub add-part-spec : {M : Type 1} → statement M

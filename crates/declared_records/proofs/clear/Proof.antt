@@ -1,3 +1,6 @@
+-- `declared_records::clear` meets its contract. The loop's invariant says that storing the zeros still to come from i
+-- on gives what storing all of them from `from` on would have given. Past the buffer's end a store does nothing.
+-- Assumes nothing.
 use borrow.Author.Needs.{needs}
 use mathlib.Core.Path.{_≡_, refl, sym, _∙_}
 use Prim.Native.Nat.{ℕ, _+_, _-_, _≤_, _<_}

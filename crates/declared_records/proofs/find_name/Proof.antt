@@ -1,3 +1,5 @@
+-- `declared_records::find_name` meets its contract. The loop's invariant says that the name's place among all records
+-- is k and its place among those behind the first k. Assumes nothing.
 use Rattle.declared_records.proofs.GatherLaws.{place-start}
 use native.Mathlib.Omega.{arith}
 use borrow.Author.Needs.{needs}
@@ -16,7 +18,10 @@ abbrev μ-loop : tie.MeasureT-loop
 μ-loop text records count name k₀ k = count - k
 
 -- the test is of the record's name
-tested : (c : tie.After-same-bytes Inv-loop μ-loop) → c .same-bytes .result ≡ isSame (c .before .before .before .before .before .before .before .args .name .now) (recordIn (c .before .before .before .before .before .before .before .args .text .now) (c .before .before .before .before .before .before .before .args .records .now) (c .before .before .before .loop .k + 1) .name)
+tested : (c : tie.After-same-bytes Inv-loop μ-loop) →
+    let at-loop = c .before .before .before in
+    let at-start = at-loop .before .before .before .before in
+    c .same-bytes .result ≡ isSame (at-start .args .name .now) (recordIn (at-start .args .text .now) (at-start .args .records .now) (at-loop .loop .k + 1) .name)
 tested c = c .same-bytes .ensures ∙ rw (c .before .name-of .ensures) refl
 
 loop-holds : tie.Need-loop-holds Inv-loop μ-loop
@@ -33,8 +38,10 @@ same-bytes-requires c κs = search needs
 
 returns : tie.Need-returns Inv-loop μ-loop
 returns c =
-    let l = c .before .before .before .before .loop in
-    let a = c .before .before .before .before .before .before .before .before .args in
+    let at-loop = c .before .before .before .before in
+    let at-start = at-loop .before .before .before .before in
+    let l = at-loop .loop in
+    let a = at-start .args in
     (omega (arith, l .inv .1, place-hit (a .name .now) (a .text .now) (a .records .now) (l .k) (a .count) (omega arith) (sym (tested (c .before)) ∙ c .if1 .taken)), omega arith)
 
 add-k : tie.Need-add-k Inv-loop μ-loop
@@ -45,8 +52,10 @@ loop-less c = search needs
 
 loop-again : tie.Need-loop-again Inv-loop μ-loop
 loop-again c =
-    let l = c .before .before .before .before .loop in
-    let a = c .before .before .before .before .before .before .before .before .args in
+    let at-loop = c .before .before .before .before in
+    let at-start = at-loop .before .before .before .before in
+    let l = at-loop .loop in
+    let a = at-start .args in
     (omega arith, omega (arith, l .inv .1, place-miss (a .name .now) (a .text .now) (a .records .now) (l .k) (a .count) (omega arith) (sym (tested (c .before)) ∙ c .if1 .left)))
 
 returns-2 : tie.Need-returns-2 Inv-loop μ-loop

@@ -1,3 +1,5 @@
+-- `declared_records::name_of` meets its contract. `piece` is rewritten with the two numbers that `number` read. Assumes
+-- nothing.
 use mathlib.Core.Path.{refl, _∙_}
 use Rattle.declared_parts.specs.Parts.{declaredBy}
 use borrow.Author.Needs.{needs}

@@ -1,3 +1,5 @@
+-- `declared_records::number` meets its contract. The element at 8k + j is element j of the list from 8k on; as an
+-- element of a list of 32-bit numbers it is below 2 ^ 32. Assumes nothing.
 use native.Mathlib.Omega.{arith}
 use mathlib.Core.Path.{sym}
 use Prim.Native.Nat.{_+_, _*_}

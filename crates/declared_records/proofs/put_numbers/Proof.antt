@@ -1,3 +1,5 @@
+-- `declared_records::put_numbers` meets its contract. The eight stores at 8k and the seven places behind it are the
+-- definition's stores one after the other, once n + j is written with `suc`. Assumes nothing.
 use native.Mathlib.Omega.{arith}
 use mathlib.Core.Path.{_≡_, refl}
 use Prim.Native.Nat.{suc, _+_, _*_}

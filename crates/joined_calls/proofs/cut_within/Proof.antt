@@ -1,3 +1,5 @@
+-- `joined_calls::cut_within` meets its contract. A cut past the end takes the whole text and leaves none, as a cut at
+-- the end does. Assumes nothing.
 use mathlib.Core.Path.{sym, _∙_}
 use native.Mathlib.Omega.{arith}
 use Prim.Native.Nat.{_≤_}

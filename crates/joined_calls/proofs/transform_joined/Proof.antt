@@ -1,3 +1,6 @@
+-- `joined_calls::transform_joined` meets its contract, of which the last clause is demand 3. The second and third call
+-- find work buffers of the first call's lengths, so by `like-at-start` they answer as on the buffers of entry; the
+-- theorem on joined bodies does the rest. Assumes nothing.
 use Prim.Native.Nat.{_-_}
 use mathlib.Core.Path.{sym, _∙_}
 use lib.ListN.{length, take, drop}
@@ -15,7 +18,12 @@ transform-body-requires : tie.Need-transform-body-requires
 transform-body-requires c κs = search needs
 
 slice-aggregate-transform-body : tie.Need-slice-aggregate-transform-body
-slice-aggregate-transform-body c = sym (length-take-le (c .before .before .before .before .before .before .before .before .before .before .before .cut-within .result) (c .before .before .before .before .before .before .before .before .before .before .before .before .before .before .before .before .before .before .args .text .now) (c .before .before .before .before .before .before .before .before .before .before .before .cut-within .ensures .0))
+slice-aggregate-transform-body c =
+    let at-whole = c .before .before .before .before .before .before in
+    let at-cut-within = at-whole .before .before .before .before .before in
+    let at-shared-slice-known = at-cut-within .before .before .before .before .before .before in
+    let at-start = at-shared-slice-known .before in
+    sym (length-take-le (at-cut-within .cut-within .result) (at-start .args .text .now) (at-cut-within .cut-within .ensures .0))
 
 transform-body-requires-2 : tie.Need-transform-body-requires-2
 transform-body-requires-2 c κs = search needs
@@ -48,14 +56,23 @@ same-length-5 : tie.Need-same-length-5
 same-length-5 c = search needs
 
 returns : tie.Need-returns
-returns c = let s = c .before .before .before .before .before .before .before .before .before .before .before .before .before .before .before .before .before .before .before .before .before .before .before .before .before .before .before .before .before .before .before .before .before .before .before .before .before .before .before .args in
+returns c =
+    let at-transform-body3 = c .before .before .before .before .before .before in
+    let at-spare2 = at-transform-body3 .before .before .before .before .before .before in
+    let at-transform-body2 = at-spare2 .before .before .before .before .before in
+    let at-spare = at-transform-body2 .before .before .before .before .before .before in
+    let at-transform-body = at-spare .before .before .before .before .before in
+    let at-cut-within = at-transform-body .before .before .before .before in
+    let at-shared-slice-known = at-cut-within .before .before .before .before .before .before in
+    let at-start = at-shared-slice-known .before in
+    let s = at-start .args in
     let xs = s .text .now in
     let a = s .work .now in
     let b = s .spare .now in
-    let cut = c .before .before .before .before .before .before .before .before .before .before .before .before .before .before .before .before .before .before .before .before .before .before .before .before .before .before .before .before .before .before .before .before .cut-within in
-    let u = c .before .before .before .before .before .before .before .before .before .before .before .before .before .before .before .before .before .before .before .before .before .before .before .before .before .before .before .before .transform-body in
-    let v = c .before .before .before .before .before .before .before .before .before .before .before .before .before .before .before .before .before .transform-body2 in
-    let w = c .before .before .before .before .before .before .transform-body3 in
+    let cut = at-cut-within .cut-within in
+    let u = at-transform-body .transform-body in
+    let v = at-transform-body2 .transform-body2 in
+    let w = at-transform-body3 .transform-body3 in
     let p = like-at-start (take (s .cut) xs) (take (cut .result) xs) (s .first .now) a b (u .last .1 .1 .0) (u .last .1 .1 .1 .0) (v .result) (v .last .1 .0) (v .last .1 .1 .0) (v .last .1 .1 .1 .0) (v .ensures) (cut .ensures .1 .0) (u .kept .1 .1 .0) (u .kept .1 .1 .1 .0) in
     let q = like-at-start (drop (s .cut) xs) (take (length xs - cut .result) (drop (cut .result) xs)) (s .second .now) a b (v .last .1 .1 .0) (v .last .1 .1 .1 .0) (w .result) (w .last .1 .0) (w .last .1 .1 .0) (w .last .1 .1 .1 .0) (w .ensures) (rest-of xs (cut .result) ∙ cut .ensures .1 .1) (v .kept .1 .1 .0 ∙ u .kept .1 .1 .0) (v .kept .1 .1 .1 .0 ∙ u .kept .1 .1 .1 .0) in
     let e = u .ensures in

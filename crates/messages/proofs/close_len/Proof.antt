@@ -1,3 +1,6 @@
+-- `messages::close_len` meets its contract. The loop's invariant says that the length up to the closing quote is i and
+-- that from i on, 0 if none closes; a turn is a doubled quote, the closing one, or another byte, and the last byte is
+-- looked at behind the loop. Assumes nothing.
 use native.Mathlib.Omega.{arith}
 use borrow.Author.Needs.{needs}
 use mathlib.Core.Path.{_≡_, sym, _∙_}

@@ -1,3 +1,5 @@
+-- `messages::content_len` meets its contract. The loop's invariant says that the content's length is what the cursor
+-- has passed and the content of the rest. `turn` says what a step of the cursor takes. Assumes nothing.
 use native.Mathlib.Omega.{arith}
 use borrow.Author.Needs.{needs}
 use mathlib.Core.Path.{_≡_, sym, _∙_}
@@ -43,13 +45,21 @@ ends-statement-requires : tie.Need-ends-statement-requires Inv-loop μ-loop
 ends-statement-requires c κs = search needs
 
 returns-2 : tie.Need-returns-2 Inv-loop μ-loop
-returns-2 c = omega (arith, content-stops (c .before .before .before .before .before .before .before .before .before .args .rest .now) (c .before .before .before .before .before .before .before .loop .cursor .at) _ _ (turn (c .before .before .before .before)) (rw (← c .before .before .byte-at .ensures) (sym (c .before .ends-statement .ensures) ∙ c .if1 .taken)))
+returns-2 c =
+    let at-step = c .before .before .before .before .before .before in
+    let at-loop = at-step .before in
+    let at-start = at-loop .before .before in
+    omega (arith, content-stops (at-start .args .rest .now) (at-loop .loop .cursor .at) _ _ (turn (c .before .before .before .before)) (rw (← c .before .before .byte-at .ensures) (sym (c .before .ends-statement .ensures) ∙ c .if1 .taken)))
 
 loop-less : tie.Need-loop-less Inv-loop μ-loop
 loop-less c = omega (arith, turn (c .before .before .before .before) .within, turn (c .before .before .before .before) .beyond)
 
 loop-again : tie.Need-loop-again Inv-loop μ-loop
-loop-again c = (turn (c .before .before .before .before) .within, c .before .before .before .before .before .before .before .loop .inv .1 ∙ content-on (c .before .before .before .before .before .before .before .before .before .args .rest .now) (c .before .before .before .before .before .before .before .loop .cursor .at) _ _ (turn (c .before .before .before .before)) (rw (← c .before .before .byte-at .ensures) (sym (c .before .ends-statement .ensures) ∙ c .if1 .left)))
+loop-again c =
+    let at-step2 = c .before .before .before .before in
+    let at-loop = at-step2 .before .before .before in
+    let at-start = at-loop .before .before in
+    (turn at-step2 .within, at-loop .loop .inv .1 ∙ content-on (at-start .args .rest .now) (at-loop .loop .cursor .at) _ _ (turn at-step2) (rw (← c .before .before .byte-at .ensures) (sym (c .before .ends-statement .ensures) ∙ c .if1 .left)))
 
 pub content-len-spec : {M : Type 1} → statement M
 content-len-spec =

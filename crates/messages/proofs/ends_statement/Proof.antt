@@ -1,3 +1,5 @@
+-- `messages::ends_statement` meets its contract. `endsStatement` computes once the span is known, for live text to the
+-- test on its byte. Assumes nothing.
 use borrow.Author.Needs.{needs}
 use Rattle.messages.proofs.ends_statement.Statement.{statement}
 use Rattle.messages.proofs.ends_statement.Tie as tie

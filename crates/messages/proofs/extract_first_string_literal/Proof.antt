@@ -1,3 +1,5 @@
+-- `messages::extract_first_string_literal` meets its contract, for any text with the content's bytes. `message-literal`
+-- is the case of a closed literal in front, `message-words` that of words up to a comma, trimmed. Assumes nothing.
 use native.Mathlib.Omega.{arith}
 use mathlib.Core.Path.{_≡_, sym, ap, _∙_}
 use lib.ListN.{length, take}

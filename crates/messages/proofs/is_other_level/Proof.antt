@@ -1,3 +1,5 @@
+-- `messages::is_other_level` meets its contract. The definition tries the same words in the same order; each return
+-- rewrites it with the answers so far. Assumes nothing.
 use Rattle.messages.proofs.ReadingLaws.{level-last}
 use mathlib.Core.Path.{sym, _∙_}
 use Rattle.spec.specs.Raise.{levelWords, levelIn}
@@ -58,23 +60,67 @@ returns-2 c = λ t e. simp (starts-case, e, sym (c .before .before .before .befo
 
 returns-3 : tie.Need-returns-3
 unfolding levelIn levelWords
-returns-3 c = λ t e. simp (starts-case, e, sym (c .before .before .before .before .before .before .before .starts-ignoring-case .ensures) ∙ c .before .before .before .before .before .before .if1 .left, sym (c .before .before .before .before .starts-ignoring-case2 .ensures) ∙ c .before .before .before .if2 .left, sym (c .before .starts-ignoring-case3 .ensures) ∙ c .if3 .taken)
+returns-3 c =
+    let at-if2 = c .before .before .before in
+    let at-starts-ignoring-case2 = at-if2 .before in
+    let at-if1 = at-starts-ignoring-case2 .before .before in
+    let at-starts-ignoring-case = at-if1 .before in
+    λ t e. simp (starts-case, e, sym (at-starts-ignoring-case .starts-ignoring-case .ensures) ∙ at-if1 .if1 .left, sym (at-starts-ignoring-case2 .starts-ignoring-case2 .ensures) ∙ at-if2 .if2 .left, sym (c .before .starts-ignoring-case3 .ensures) ∙ c .if3 .taken)
 
 returns-4 : tie.Need-returns-4
 unfolding levelIn levelWords
-returns-4 c = λ t e. simp (starts-case, e, sym (c .before .before .before .before .before .before .before .before .before .before .starts-ignoring-case .ensures) ∙ c .before .before .before .before .before .before .before .before .before .if1 .left, sym (c .before .before .before .before .before .before .before .starts-ignoring-case2 .ensures) ∙ c .before .before .before .before .before .before .if2 .left, sym (c .before .before .before .before .starts-ignoring-case3 .ensures) ∙ c .before .before .before .if3 .left, sym (c .before .starts-ignoring-case4 .ensures) ∙ c .if4 .taken)
+returns-4 c =
+    let at-if3 = c .before .before .before in
+    let at-starts-ignoring-case3 = at-if3 .before in
+    let at-if2 = at-starts-ignoring-case3 .before .before in
+    let at-starts-ignoring-case2 = at-if2 .before in
+    let at-if1 = at-starts-ignoring-case2 .before .before in
+    let at-starts-ignoring-case = at-if1 .before in
+    λ t e. simp (starts-case, e, sym (at-starts-ignoring-case .starts-ignoring-case .ensures) ∙ at-if1 .if1 .left, sym (at-starts-ignoring-case2 .starts-ignoring-case2 .ensures) ∙ at-if2 .if2 .left, sym (at-starts-ignoring-case3 .starts-ignoring-case3 .ensures) ∙ at-if3 .if3 .left, sym (c .before .starts-ignoring-case4 .ensures) ∙ c .if4 .taken)
 
 returns-5 : tie.Need-returns-5
 unfolding levelIn levelWords
-returns-5 c = λ t e. simp (starts-case, e, sym (c .before .before .before .before .before .before .before .before .before .before .before .before .before .starts-ignoring-case .ensures) ∙ c .before .before .before .before .before .before .before .before .before .before .before .before .if1 .left, sym (c .before .before .before .before .before .before .before .before .before .before .starts-ignoring-case2 .ensures) ∙ c .before .before .before .before .before .before .before .before .before .if2 .left, sym (c .before .before .before .before .before .before .before .starts-ignoring-case3 .ensures) ∙ c .before .before .before .before .before .before .if3 .left, sym (c .before .before .before .before .starts-ignoring-case4 .ensures) ∙ c .before .before .before .if4 .left, sym (c .before .starts-ignoring-case5 .ensures) ∙ c .if5 .taken)
+returns-5 c =
+    let at-if4 = c .before .before .before in
+    let at-starts-ignoring-case4 = at-if4 .before in
+    let at-if3 = at-starts-ignoring-case4 .before .before in
+    let at-starts-ignoring-case3 = at-if3 .before in
+    let at-if2 = at-starts-ignoring-case3 .before .before in
+    let at-starts-ignoring-case2 = at-if2 .before in
+    let at-if1 = at-starts-ignoring-case2 .before .before in
+    let at-starts-ignoring-case = at-if1 .before in
+    λ t e. simp (starts-case, e, sym (at-starts-ignoring-case .starts-ignoring-case .ensures) ∙ at-if1 .if1 .left, sym (at-starts-ignoring-case2 .starts-ignoring-case2 .ensures) ∙ at-if2 .if2 .left, sym (at-starts-ignoring-case3 .starts-ignoring-case3 .ensures) ∙ at-if3 .if3 .left, sym (at-starts-ignoring-case4 .starts-ignoring-case4 .ensures) ∙ at-if4 .if4 .left, sym (c .before .starts-ignoring-case5 .ensures) ∙ c .if5 .taken)
 
 returns-6 : tie.Need-returns-6
 unfolding levelIn levelWords
-returns-6 c = λ t e. simp (starts-case, e, sym (c .before .before .before .before .before .before .before .before .before .before .before .before .before .before .before .before .starts-ignoring-case .ensures) ∙ c .before .before .before .before .before .before .before .before .before .before .before .before .before .before .before .if1 .left, sym (c .before .before .before .before .before .before .before .before .before .before .before .before .before .starts-ignoring-case2 .ensures) ∙ c .before .before .before .before .before .before .before .before .before .before .before .before .if2 .left, sym (c .before .before .before .before .before .before .before .before .before .before .starts-ignoring-case3 .ensures) ∙ c .before .before .before .before .before .before .before .before .before .if3 .left, sym (c .before .before .before .before .before .before .before .starts-ignoring-case4 .ensures) ∙ c .before .before .before .before .before .before .if4 .left, sym (c .before .before .before .before .starts-ignoring-case5 .ensures) ∙ c .before .before .before .if5 .left, sym (c .before .starts-ignoring-case6 .ensures) ∙ c .if6 .taken)
+returns-6 c =
+    let at-if5 = c .before .before .before in
+    let at-starts-ignoring-case5 = at-if5 .before in
+    let at-if4 = at-starts-ignoring-case5 .before .before in
+    let at-starts-ignoring-case4 = at-if4 .before in
+    let at-if3 = at-starts-ignoring-case4 .before .before in
+    let at-starts-ignoring-case3 = at-if3 .before in
+    let at-if2 = at-starts-ignoring-case3 .before .before in
+    let at-starts-ignoring-case2 = at-if2 .before in
+    let at-if1 = at-starts-ignoring-case2 .before .before in
+    let at-starts-ignoring-case = at-if1 .before in
+    λ t e. simp (starts-case, e, sym (at-starts-ignoring-case .starts-ignoring-case .ensures) ∙ at-if1 .if1 .left, sym (at-starts-ignoring-case2 .starts-ignoring-case2 .ensures) ∙ at-if2 .if2 .left, sym (at-starts-ignoring-case3 .starts-ignoring-case3 .ensures) ∙ at-if3 .if3 .left, sym (at-starts-ignoring-case4 .starts-ignoring-case4 .ensures) ∙ at-if4 .if4 .left, sym (at-starts-ignoring-case5 .starts-ignoring-case5 .ensures) ∙ at-if5 .if5 .left, sym (c .before .starts-ignoring-case6 .ensures) ∙ c .if6 .taken)
 
 returns-7 : tie.Need-returns-7
 unfolding levelIn levelWords
-returns-7 c = λ t e. simp (starts-case, e, sym (c .before .before .before .before .before .before .before .before .before .before .before .before .before .before .before .before .before .before .starts-ignoring-case .ensures) ∙ c .before .before .before .before .before .before .before .before .before .before .before .before .before .before .before .before .before .if1 .left, sym (c .before .before .before .before .before .before .before .before .before .before .before .before .before .before .before .starts-ignoring-case2 .ensures) ∙ c .before .before .before .before .before .before .before .before .before .before .before .before .before .before .if2 .left, sym (c .before .before .before .before .before .before .before .before .before .before .before .before .starts-ignoring-case3 .ensures) ∙ c .before .before .before .before .before .before .before .before .before .before .before .if3 .left, sym (c .before .before .before .before .before .before .before .before .before .starts-ignoring-case4 .ensures) ∙ c .before .before .before .before .before .before .before .before .if4 .left, sym (c .before .before .before .before .before .before .starts-ignoring-case5 .ensures) ∙ c .before .before .before .before .before .if5 .left, sym (c .before .before .before .starts-ignoring-case6 .ensures) ∙ c .before .before .if6 .left, sym (c .starts-ignoring-case7 .ensures)) (level-last (c .starts-ignoring-case7 .result))
+returns-7 c =
+    let at-starts-ignoring-case6 = c .before .before .before in
+    let at-if5 = at-starts-ignoring-case6 .before .before in
+    let at-starts-ignoring-case5 = at-if5 .before in
+    let at-if4 = at-starts-ignoring-case5 .before .before in
+    let at-starts-ignoring-case4 = at-if4 .before in
+    let at-if3 = at-starts-ignoring-case4 .before .before in
+    let at-starts-ignoring-case3 = at-if3 .before in
+    let at-if2 = at-starts-ignoring-case3 .before .before in
+    let at-starts-ignoring-case2 = at-if2 .before in
+    let at-if1 = at-starts-ignoring-case2 .before .before in
+    let at-starts-ignoring-case = at-if1 .before in
+    λ t e. simp (starts-case, e, sym (at-starts-ignoring-case .starts-ignoring-case .ensures) ∙ at-if1 .if1 .left, sym (at-starts-ignoring-case2 .starts-ignoring-case2 .ensures) ∙ at-if2 .if2 .left, sym (at-starts-ignoring-case3 .starts-ignoring-case3 .ensures) ∙ at-if3 .if3 .left, sym (at-starts-ignoring-case4 .starts-ignoring-case4 .ensures) ∙ at-if4 .if4 .left, sym (at-starts-ignoring-case5 .starts-ignoring-case5 .ensures) ∙ at-if5 .if5 .left, sym (at-starts-ignoring-case6 .starts-ignoring-case6 .ensures) ∙ c .before .before .if6 .left, sym (c .starts-ignoring-case7 .ensures)) (level-last (c .starts-ignoring-case7 .result))
 
 pub is-other-level-spec : {M : Type 1} → statement M
 is-other-level-spec =

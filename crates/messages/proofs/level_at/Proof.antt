@@ -1,3 +1,5 @@
+-- `messages::level_at` meets its contract. `level-first` is the case of EXCEPTION, which then fits the text; else
+-- `level-rest` leaves the other words to `is_other_level`. Assumes nothing.
 use Rattle.spec.specs.Bytes.{ascii, upper}
 use Rattle.spec.proofs.WalkLaws.{prefix-by-len}
 use native.Mathlib.Omega.{arith}

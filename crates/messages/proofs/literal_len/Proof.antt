@@ -1,3 +1,5 @@
+-- `messages::literal_len` meets its contract. Each return rewrites `literalLen` with the first byte and with what
+-- `close_len` gave for the text behind it (`closed`). Assumes nothing.
 use native.Mathlib.Omega.{arith}
 use mathlib.Core.Path.{_≡_, sym, _∙_}
 use Prim.Native.Nat.{_-_, _<_}

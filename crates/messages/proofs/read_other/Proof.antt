@@ -1,3 +1,5 @@
+-- `messages::read_other` meets its contract. `level-in` and `content` say where the level and the content end;
+-- `reads-other` proves the reading from that. Assumes nothing.
 use native.Mathlib.Omega.{arith}
 use mathlib.Core.Path.{_≡_}
 use Prim.Native.Nat.{_≤_, _-_}

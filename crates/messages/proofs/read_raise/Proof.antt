@@ -1,3 +1,5 @@
+-- `messages::read_raise` meets its contract, by the text's length and then by the level: none, EXCEPTION or another.
+-- `told` says that the level found is that of any text with these bytes. Assumes nothing.
 use native.Mathlib.Omega.{arith}
 use mathlib.Core.Path.{_≡_, sym, ap, _∙_}
 use mathlib.Core.List.{List}
@@ -58,7 +60,10 @@ returns-2 : tie.Need-returns-2
 returns-2 c = ((λ t e. rw (found-exception (levelIn levelWords (drop 6 t)) (sym (c .before .enum-told .given .1) ∙ told (c .before .before .before) t e)) (c .read-exception .ensures .0 t e)), c .read-exception .ensures .1)
 
 returns-3 : tie.Need-returns-3
-returns-3 c = ((λ t e. found-other (λ (o : Option Level). Reads t o (c .before .before .before .before .before .before .before .args .rest .now) (c .read-other .result)) _ (sym (c .before .enum-told2 .given .1) ∙ told (c .before .before .before) t e) (λ l q. c .read-other .ensures .0 t l e q)), c .read-other .ensures .1)
+returns-3 c =
+    let at-level-at = c .before .before .before in
+    let at-start = at-level-at .before .before .before .before in
+    ((λ t e. found-other (λ (o : Option Level). Reads t o (at-start .args .rest .now) (c .read-other .result)) _ (sym (c .before .enum-told2 .given .1) ∙ told at-level-at t e) (λ l q. c .read-other .ensures .0 t l e q)), c .read-other .ensures .1)
 
 returns-4 : tie.Need-returns-4
 returns-4 c = ((λ t e. rw (found-nothing (levelIn levelWords (drop 6 t)) (sym (c .enum-told3 .given .1) ∙ told (c .before .before) t e)) (reads-none t (c .before .before .before .before .before .before .args .rest .now) e 6 (omega arith))), tt)

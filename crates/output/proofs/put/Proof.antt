@@ -1,3 +1,4 @@
+-- `output::put` meets its contract. Past the buffer's end `set` changes nothing, as the code. Assumes nothing.
 use mathlib.Core.Path.{refl, sym}
 use lib.Seq.{set-out}
 use borrow.Author.Needs.{needs}

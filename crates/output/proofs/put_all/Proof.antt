@@ -1,3 +1,5 @@
+-- `output::put_all` meets its contract. The loop's invariant says that o is n + j, and that storing the rest of src
+-- from o on gives what storing all of src from n on would have given. Assumes nothing.
 use borrow.Author.Needs.{needs}
 use mathlib.Core.Path.{_≡_, refl, sym, _∙_}
 use Prim.Native.Nat.{ℕ, _+_, _-_, _≤_, _<_}
@@ -31,12 +33,14 @@ loop-less c = search needs
 
 loop-again : tie.Need-loop-again Inv-loop μ-loop
 loop-again c =
-    let l = c .before .before .before .before .before .before .loop in
+    let at-loop = c .before .before .before .before .before .before in
+    let at-start = at-loop .before .before .before in
+    let l = at-loop .loop in
     let p = c .before .before .put in (
       omega arith,
       p .kept .0 ∙ l .inv .1,
       omega (arith, p .ensures .0),
-      l .inv .3 ∙ store-step (l .out) (p .last .0) (c .before .before .before .before .before .before .before .before .before .args .src .now) (l .o) (p .result) (l .j) (omega arith) (p .ensures .1) (p .ensures .0),
+      l .inv .3 ∙ store-step (l .out) (p .last .0) (at-start .args .src .now) (l .o) (p .result) (l .j) (omega arith) (p .ensures .1) (p .ensures .0),
     )
 
 same-length : tie.Need-same-length Inv-loop μ-loop

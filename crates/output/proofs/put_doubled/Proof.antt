@@ -1,3 +1,6 @@
+-- `output::put_doubled` meets its contract. The loop's invariant says of the doubled rest of src, both for its length
+-- and for its stores, that it completes what is put so far to the whole; `turn-two` and `turn-one` are a turn at a
+-- quote and at another byte. Assumes nothing.
 use borrow.Author.Needs.{needs}
 use mathlib.Core.Path.{_≡_, refl, sym, ap, _∙_}
 use mathlib.Core.List.{List}
@@ -36,11 +39,15 @@ loop-less c = search needs
 
 loop-again : tie.Need-loop-again Inv-loop μ-loop
 loop-again c =
-    let l = c .before .before .before .before .before .before .before .before .before .before .before .loop in
-    let src = c .before .before .before .before .before .before .before .before .before .before .before .before .before .before .args .src .now in
-    let p = c .before .before .before .before .before .before .put in
+    let at-put = c .before .before .before .before .before .before in
+    let at-if1 = at-put .before .before in
+    let at-loop = at-if1 .before .before .before in
+    let at-start = at-loop .before .before .before in
+    let l = at-loop .loop in
+    let src = at-start .args .src .now in
+    let p = at-put .put in
     let q = c .before .before .put2 in
-    let t = turn-two (l .out) (doubled (drop (l .j) src)) (doubled (drop (l .j + 1) src)) (l .o) (getD src (l .j) 0) (p .last .0) (q .last .0) (p .result) (q .result) (at-quote src (l .j) (omega arith) (c .before .before .before .before .before .before .before .before .if1 .taken)) (p .ensures .1) (p .ensures .0) (q .ensures .1) (q .ensures .0) in (
+    let t = turn-two (l .out) (doubled (drop (l .j) src)) (doubled (drop (l .j + 1) src)) (l .o) (getD src (l .j) 0) (p .last .0) (q .last .0) (p .result) (q .result) (at-quote src (l .j) (omega arith) (at-if1 .if1 .taken)) (p .ensures .1) (p .ensures .0) (q .ensures .1) (q .ensures .0) in (
       omega arith,
       q .kept .0 ∙ p .kept .0 ∙ l .inv .1,
       omega (arith, p .ensures .0, q .ensures .0),
@@ -59,8 +66,11 @@ loop-less-2 c = search needs
 
 loop-again-2 : tie.Need-loop-again-2 Inv-loop μ-loop
 loop-again-2 c =
-    let l = c .before .before .before .before .before .before .before .loop in
-    let src = c .before .before .before .before .before .before .before .before .before .before .args .src .now in
+    let at-loop-test = c .before .before .before .before .before .before in
+    let at-loop = at-loop-test .before in
+    let at-start = at-loop .before .before .before in
+    let l = at-loop .loop in
+    let src = at-start .args .src .now in
     let p = c .before .before .put3 in
     let t = turn-one (l .out) (doubled (drop (l .j) src)) (doubled (drop (l .j + 1) src)) (l .o) (getD src (l .j) 0) (p .last .0) (p .result) (at-plain src (l .j) (omega arith) (c .before .before .before .before .if1 .left)) (p .ensures .1) (p .ensures .0) in (
       omega arith,

@@ -1,3 +1,5 @@
+-- `output::put_single_quoted` meets its contract. `stored-quoted` joins the stores of the three calls, quote, doubled
+-- text and quote, to one store. Assumes nothing.
 use native.Mathlib.Omega.{arith}
 use Rattle.output.proofs.StoreLaws.{doubled-le, long-quoted, stored-quoted}
 use borrow.Author.Needs.{needs}
@@ -11,16 +13,23 @@ put-doubled-requires : tie.Need-put-doubled-requires
 put-doubled-requires c κs = search needs
 
 put-requires-2 : tie.Need-put-requires-2
-put-requires-2 c κs = omega (arith, c .before .before .before .put-doubled .ensures .0, c .before .before .before .before .before .before .before .put .ensures .0, c .before .before .before .before .before .before .before .before .before .before .before .pre, doubled-le (c .before .before .before .before .before .before .before .before .before .before .before .args .src .now))
+put-requires-2 c κs =
+    let at-out = c .before .before .before .before .before .before in
+    let at-put = at-out .before in
+    let at-start = at-put .before .before .before .before in
+    omega (arith, c .before .before .before .put-doubled .ensures .0, at-put .put .ensures .0, at-start .pre, doubled-le (at-start .args .src .now))
 
 same-length : tie.Need-same-length
 same-length c = search needs
 
 returns : tie.Need-returns
 returns c =
-    let s = c .before .before .before .before .before .before .before .before .before .before .before .before .before .before .args in
-    let u = c .before .before .before .before .before .before .before .before .before .before .put in
-    let v = c .before .before .before .before .before .before .put-doubled in
+    let at-put-doubled = c .before .before .before .before .before .before in
+    let at-put = at-put-doubled .before .before .before .before in
+    let at-start = at-put .before .before .before .before in
+    let s = at-start .args in
+    let u = at-put .put in
+    let v = at-put-doubled .put-doubled in
     let w = c .before .before .put2 in (
       omega (arith, v .ensures .0, u .ensures .0, w .ensures .0, long-quoted (s .src .now)),
       stored-quoted (s .out .now) (u .last .0) (v .last .0) (w .last .0) (s .src .now) (s .n) (u .result) (v .result) (u .ensures .1) (u .ensures .0) (v .ensures .1) (v .ensures .0) (w .ensures .1),

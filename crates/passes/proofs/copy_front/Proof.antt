@@ -1,3 +1,5 @@
+-- `passes::copy_front` meets its contract. `front-copied` says of the stores of `put_all` that the first k bytes are
+-- those of `from`. Assumes nothing.
 use mathlib.Core.Path.{sym}
 use lib.Seq.{length-take-le}
 use native.Mathlib.Omega.{arith}
@@ -16,7 +18,10 @@ same-length : tie.Need-same-length
 same-length c = search needs
 
 returns : tie.Need-returns
-returns c = front-copied (c .before .before .before .before .before .before .before .args .out .now) (c .before .before .put-all .last .0) (c .before .before .before .before .before .before .before .args .from .now) (c .before .before .before .before .before .before .before .args .k) (omega arith) (omega arith) (c .before .before .put-all .ensures .1)
+returns c =
+    let at-put-all = c .before .before in
+    let at-start = at-put-all .before .before .before .before .before in
+    front-copied (at-start .args .out .now) (at-put-all .put-all .last .0) (at-start .args .from .now) (at-start .args .k) (omega arith) (omega arith) (at-put-all .put-all .ensures .1)
 
 pub copy-front-spec : {M : Type 1} → statement M
 copy-front-spec = tie.close (tie.spec slice-aggregate-put-all put-all-requires same-length returns)

@@ -1,3 +1,5 @@
+-- `passes::run_body` meets its contract. The answer is that of `run_passes`; `zeros-behind-part` says of each buffer
+-- that filling it leaves the result, or nothing, with zeros behind and the rest past `size` as it was. Assumes nothing.
 use Rattle.passes.proofs.EndLaws.{answer-length, zeros-behind-part}
 use Rattle.spec.specs.Answers.{bodyResult, callNumbers}
 use Rattle.spec.specs.Raise.{actionOf}

@@ -1,3 +1,4 @@
+-- `plpgsql_rewriter::narrowed` meets its contract. The test is that of `narrow`. Assumes nothing.
 use mathlib.Core.Path.{refl}
 use borrow.Author.Tests.{lt-ltb, le-ltb}
 use Rattle.plpgsql_rewriter.specs.Four.{narrow}

@@ -1,3 +1,5 @@
+-- `plpgsql_rewriter::plpgsql_has_unterminated_dollar_quote` meets its contract: the answer of
+-- `has_unterminated_dollar_quote` in four numbers by `put_found`. Assumes nothing.
 use mathlib.Core.Path.{ap, _∙_}
 use Rattle.plpgsql_rewriter.specs.Four.{fourFound}
 use borrow.Author.Needs.{needs}

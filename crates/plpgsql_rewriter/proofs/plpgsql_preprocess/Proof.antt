@@ -1,3 +1,5 @@
+-- `plpgsql_rewriter::plpgsql_preprocess` meets its contract: the five buffers as `preprocess` leaves them, and its
+-- answer in four numbers by `put_called`. Assumes nothing.
 use mathlib.Core.Path.{ap, _∙_}
 use Rattle.plpgsql_rewriter.specs.Four.{fourCalled}
 use borrow.Author.Needs.{needs}
@@ -26,7 +28,10 @@ same-length-5 : tie.Need-same-length-5
 same-length-5 c = search needs
 
 returns : tie.Need-returns
-returns c = let e = c .before .before .before .before .before .before .before .before .before .before .before .before .preprocess .ensures in
+returns c =
+    let at-slice-known8 = c .before .before .before .before .before .before in
+    let at-preprocess = at-slice-known8 .before .before .before .before .before .before in
+    let e = at-preprocess .preprocess .ensures in
     (e .1 .0, (e .1 .1 .0, (e .1 .1 .1 .0, (e .1 .1 .1 .1 .0, (e .1 .1 .1 .1 .1, c .put-called .ensures ∙ ap fourCalled (e .0))))))
 
 pub plpgsql-preprocess-spec : {M : Type 1} → statement M

@@ -1,3 +1,5 @@
+-- `plpgsql_rewriter::plpgsql_regions` meets its contract: the map as `regions` leaves it, and its answer in four
+-- numbers by `put_filled`. Assumes nothing.
 use mathlib.Core.Path.{ap, _∙_}
 use Rattle.plpgsql_rewriter.specs.Four.{fourFilled}
 use borrow.Author.Needs.{needs}

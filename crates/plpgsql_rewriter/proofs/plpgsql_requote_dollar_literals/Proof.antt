@@ -1,3 +1,5 @@
+-- `plpgsql_rewriter::plpgsql_requote_dollar_literals` meets its contract: the output as `requote_dollar_literals`
+-- leaves it, and its answer in four numbers by `put_filled`. Assumes nothing.
 use mathlib.Core.Path.{ap, _∙_}
 use Rattle.plpgsql_rewriter.specs.Four.{fourFilled}
 use borrow.Author.Needs.{needs}

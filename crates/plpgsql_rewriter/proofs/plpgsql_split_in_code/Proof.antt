@@ -1,3 +1,5 @@
+-- `plpgsql_rewriter::plpgsql_split_in_code` meets its contract: the map and the starts as `split_in_code` leaves them,
+-- and its answer in four numbers by `put_filled`. Assumes nothing.
 use mathlib.Core.Path.{ap, _∙_}
 use Rattle.plpgsql_rewriter.specs.Four.{fourFilled}
 use borrow.Author.Needs.{needs}

@@ -1,3 +1,5 @@
+-- `plpgsql_rewriter::plpgsql_transform_body` meets its contract: the three buffers as `transform_body` leaves them, and
+-- its answer in four numbers by `put_called`. Assumes nothing.
 use mathlib.Core.Path.{ap, _∙_}
 use Rattle.plpgsql_rewriter.specs.Four.{fourCalled}
 use borrow.Author.Needs.{needs}
@@ -20,7 +22,10 @@ same-length-3 : tie.Need-same-length-3
 same-length-3 c = search needs
 
 returns : tie.Need-returns
-returns c = let e = c .before .before .before .before .before .before .before .before .transform-body .ensures in
+returns c =
+    let at-work = c .before .before .before .before .before in
+    let at-transform-body = at-work .before .before .before in
+    let e = at-transform-body .transform-body .ensures in
     (e .1 .0, (e .1 .1 .0, (e .1 .1 .1, c .put-called .ensures ∙ ap fourCalled (e .0))))
 
 pub plpgsql-transform-body-spec : {M : Type 1} → statement M

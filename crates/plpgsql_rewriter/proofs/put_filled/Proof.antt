@@ -1,3 +1,5 @@
+-- `plpgsql_rewriter::put_filled` meets its contract. `fourFilled` computes once the case is known, in each arm to the
+-- numbers put there. Assumes nothing.
 use mathlib.Core.Path.{refl, _∙_}
 use Rattle.plpgsql_rewriter.specs.Four.{narrow}
 use borrow.Author.Needs.{needs}

@@ -1,3 +1,6 @@
+-- `preprocessor::preprocess` meets its contract. The definitions are rewritten with the outcome of the checks: where
+-- they have passed, the lengths that `run_function` asks for follow, and its promises are those of the call; where they
+-- refuse, nothing is changed. Assumes nothing.
 use mathlib.Core.Path.{_≡_, refl, sym, ap, _∙_}
 use mathlib.Core.List.{[]}
 use Rattle.preprocessor.proofs.LentLaws.{three-lent, two-lent}

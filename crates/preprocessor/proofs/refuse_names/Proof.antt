@@ -1,3 +1,5 @@
+-- `preprocessor::refuse_names` meets its contract. Each of the five buffers is filled from 0 on, which `zeros-behind`
+-- turns into zeros behind an empty result. Assumes nothing.
 use mathlib.Core.Path.{_≡_, refl, sym, ap, _∙_}
 use mathlib.Core.List.{[]}
 use native.Mathlib.Omega.{arith}
@@ -37,8 +39,15 @@ same-length-5 : tie.Need-same-length-5
 same-length-5 c = search needs
 
 returns : tie.Need-returns
-returns c = let s = c .before .before .before .before .before .before .before .before .before .before .before .before .before .before .before .before .before .before .before .before .before .before .before .before .before .args in
-    let p = c .before .before .before .before .before .before .before .before .before .before .before .before .before .before .before .before .before .before .before .before .before .before .before .before .before .pre in (refl, (c .before .before .before .before .before .before .before .before .before .before .before .before .before .before .before .before .before .before .fill .ensures ∙ zeros-behind (s .size) 0 (s .output .now) (s .output .now) [] (p .0) (omega arith) refl refl, (c .before .before .before .before .before .before .before .before .before .before .before .before .before .before .fill2 .ensures ∙ zeros-behind (s .size) 0 (s .work .now) (s .work .now) [] (p .1 .0) (omega arith) refl refl, (c .before .before .before .before .before .before .before .before .before .before .fill3 .ensures ∙ zeros-behind (s .size) 0 (s .spare .now) (s .spare .now) [] (p .1 .1 .0) (omega arith) refl refl, (c .before .before .before .before .before .before .fill4 .ensures ∙ zeros-behind (s .size) 0 (s .declared .now) (s .declared .now) [] (p .1 .1 .1 .0) (omega arith) refl refl, c .before .before .clear .ensures ∙ zeros-behind (s .numbers) 0 (s .records .now) (s .records .now) [] (p .1 .1 .1 .1) (omega arith) refl refl)))))
+returns c =
+    let at-fill4 = c .before .before .before .before .before .before in
+    let at-fill3 = at-fill4 .before .before .before .before in
+    let at-fill2 = at-fill3 .before .before .before .before in
+    let at-fill = at-fill2 .before .before .before .before in
+    let at-slice-known = at-fill .before .before .before .before .before .before in
+    let at-start = at-slice-known .before in
+    let s = at-start .args in
+    let p = at-start .pre in (refl, (at-fill .fill .ensures ∙ zeros-behind (s .size) 0 (s .output .now) (s .output .now) [] (p .0) (omega arith) refl refl, (at-fill2 .fill2 .ensures ∙ zeros-behind (s .size) 0 (s .work .now) (s .work .now) [] (p .1 .0) (omega arith) refl refl, (at-fill3 .fill3 .ensures ∙ zeros-behind (s .size) 0 (s .spare .now) (s .spare .now) [] (p .1 .1 .0) (omega arith) refl refl, (at-fill4 .fill4 .ensures ∙ zeros-behind (s .size) 0 (s .declared .now) (s .declared .now) [] (p .1 .1 .1 .0) (omega arith) refl refl, c .before .before .clear .ensures ∙ zeros-behind (s .numbers) 0 (s .records .now) (s .records .now) [] (p .1 .1 .1 .1) (omega arith) refl refl)))))
 
 pub refuse-names-spec : {M : Type 1} → statement M
 refuse-names-spec =

@@ -1,3 +1,6 @@
+-- `preprocessor::run_function` meets its contract, by the two answers of `parse_declarations`. Refused, all buffers are
+-- zeroed as they were lent, since the map and the records stand in front of where the zeros end. Else the body's result
+-- and the records packed are what `functionResult` says, with zeros behind. Assumes nothing.
 use mathlib.Core.Path.{_≡_, refl, sym, ap, subst, _∙_}
 use mathlib.Core.List.{List, []}
 use Prim.Native.Nat.{ℕ, _-_}
@@ -29,9 +32,16 @@ enum-told : tie.Need-enum-told
 enum-told c = search needs
 
 refuse-names-requires : tie.Need-refuse-names-requires
-refuse-names-requires c κs = let p = c .before .before .before .before .before .before .before .before .before .before .before .before .before .before .before .before .before .before .before .before .before .before .before .before .before .before .before .pre in
-    let h = c .before .before .before .before .before .before .before .before .before .before .before .parse-declarations .kept in
-    (p .1 .1 .1 .0, (omega (arith, p .1 .1 .1 .1 .0, c .before .before .before .before .before .before .before .before .before .before .before .before .before .before .before .before .before .before .before .map-text .kept .1 .0), (p .1 .1 .1 .1 .1 .0, (omega (arith, p .1 .1 .1 .1 .1 .1 .0, h .1 .1 .0), omega (arith, p .1 .1 .1 .1 .1 .1 .1, h .1 .1 .1 .0)))))
+refuse-names-requires c κs =
+    let at-match = c .before .before .before .before .before .before in
+    let at-parse-declarations = at-match .before .before .before .before .before in
+    let at-body-start = at-parse-declarations .before .before .before .before in
+    let at-map-text = at-body-start .before .before .before .before in
+    let at-slice-known = at-map-text .before .before .before .before .before .before in
+    let at-start = at-slice-known .before .before in
+    let p = at-start .pre in
+    let h = at-parse-declarations .parse-declarations .kept in
+    (p .1 .1 .1 .0, (omega (arith, p .1 .1 .1 .1 .0, at-map-text .map-text .kept .1 .0), (p .1 .1 .1 .1 .1 .0, (omega (arith, p .1 .1 .1 .1 .1 .1 .0, h .1 .1 .0), omega (arith, p .1 .1 .1 .1 .1 .1 .1, h .1 .1 .1 .0)))))
 
 same-length : tie.Need-same-length
 same-length c = search needs
@@ -49,16 +59,25 @@ same-length-5 : tie.Need-same-length-5
 same-length-5 c = search needs
 
 returns : tie.Need-returns
-returns c = let s = c .before .before .before .before .before .before .before .before .before .before .before .before .before .before .before .before .before .before .before .before .before .before .before .before .before .before .before .before .before .before .before .before .before .before .before .before .before .before .args in
-    let p = c .before .before .before .before .before .before .before .before .before .before .before .before .before .before .before .before .before .before .before .before .before .before .before .before .before .before .before .before .before .before .before .before .before .before .before .before .before .before .pre in
+returns c =
+    let at-spare = c .before .before .before .before .before in
+    let at-refuse-names = at-spare .before .before .before .before .before in
+    let at-enum-told = at-refuse-names .before .before .before .before .before .before in
+    let at-parse-declarations = at-enum-told .before .before .before .before .before .before in
+    let at-body-start = at-parse-declarations .before .before .before .before in
+    let at-map-text = at-body-start .before .before .before .before in
+    let at-slice-known = at-map-text .before .before .before .before .before .before in
+    let at-start = at-slice-known .before .before in
+    let s = at-start .args in
+    let p = at-start .pre in
     let xs = s .text .now in
-    let m = c .before .before .before .before .before .before .before .before .before .before .before .before .before .before .before .before .before .before .before .before .before .before .before .before .before .before .before .before .before .before .map-text .ensures in
-    let e = c .before .before .before .before .before .before .before .before .before .before .before .before .before .before .before .before .before .before .before .before .before .before .parse-declarations .ensures in
-    let q = sym (e .0) ∙ c .before .before .before .before .before .before .before .before .before .before .before .before .before .before .before .before .enum-told .given .1 in
-    let f = c .before .before .before .before .before .before .before .before .before .before .refuse-names .ensures in
-    let w : drop (s .size) (c .before .before .before .before .before .before .before .before .before .before .before .before .before .before .before .before .before .before .before .before .before .before .before .before .before .before .before .before .before .before .map-text .last .1 .0) ≡ drop (s .size) (s .work .now) = ap (drop (s .size)) m ∙ kept-drop (mapOf xs) (s .work .now) (s .size) (omega (arith, map-length xs, p .0, p .1 .1 .0)) in
+    let m = at-map-text .map-text .ensures in
+    let e = at-parse-declarations .parse-declarations .ensures in
+    let q = sym (e .0) ∙ at-enum-told .enum-told .given .1 in
+    let f = at-refuse-names .refuse-names .ensures in
+    let w : drop (s .size) (at-map-text .map-text .last .1 .0) ≡ drop (s .size) (s .work .now) = ap (drop (s .size)) m ∙ kept-drop (mapOf xs) (s .work .now) (s .size) (omega (arith, map-length xs, p .0, p .1 .1 .0)) in
     let d = ap (drop (s .size)) (texts-same xs (s .work .now) _ m q (s .declared .now) _ (s .records .now) _ (e .1)) in
-    let n = subst (λ (k : ℕ). drop k (c .before .before .before .before .before .before .before .before .before .before .before .before .before .before .before .before .before .before .before .before .before .before .parse-declarations .last .1 .1 .1 .0) ≡ drop k (s .records .now)) (sym (p .1 .0)) (e .1 .behind) in
+    let n = subst (λ (k : ℕ). drop k (at-parse-declarations .parse-declarations .last .1 .1 .1 .0) ≡ drop k (s .records .now)) (sym (p .1 .0)) (e .1 .behind) in
     rw (refused-is xs (s .work .now) _ m q) (f .0, (f .1 .0, (f .1 .1 .0 ∙ zeroed-same (s .size) [] _ (s .work .now) w, (f .1 .1 .1 .0, (f .1 .1 .1 .1 .0 ∙ zeroed-same (s .size) [] _ (s .declared .now) d, f .1 .1 .1 .1 .1 ∙ zeroed-same (s .numbers) [] _ (s .records .now) n)))))
 
 sub-run-body : tie.Need-sub-run-body
@@ -71,21 +90,46 @@ part-run-body-end : tie.Need-part-run-body-end
 part-run-body-end c = search needs
 
 run-body-requires : tie.Need-run-body-requires
-run-body-requires c κs = let s = c .before .before .before .before .before .before .before .before .before .before .before .before .before .before .before .before .before .before .before .before .before .before .before .before .before .before .before .args in
-    let p = c .before .before .before .before .before .before .before .before .before .before .before .before .before .before .before .before .before .before .before .before .before .before .before .before .before .before .before .pre in
-    (p .0, (omega (arith, p .1 .1 .0, length-drop (c .before .before .before .before .before .before .before .before .before .before .before .before .before .before .before .body-start .result) (s .text .now)), (p .1 .1 .1 .0, (omega (arith, p .1 .1 .1 .1 .0, c .before .before .before .before .before .before .before .before .before .before .before .before .before .before .before .before .before .before .before .map-text .kept .1 .0), p .1 .1 .1 .1 .1 .0))))
+run-body-requires c κs =
+    let at-parsed = c .before .before .before .before .before in
+    let at-parse-declarations = at-parsed .before .before .before .before .before .before in
+    let at-body-start = at-parse-declarations .before .before .before .before in
+    let at-map-text = at-body-start .before .before .before .before in
+    let at-slice-known = at-map-text .before .before .before .before .before .before in
+    let at-start = at-slice-known .before .before in
+    let s = at-start .args in
+    let p = at-start .pre in
+    (p .0, (omega (arith, p .1 .1 .0, length-drop (at-body-start .body-start .result) (s .text .now), c .before .before .before .run-body-arg .given), (p .1 .1 .1 .0, (omega (arith, p .1 .1 .1 .1 .0, at-map-text .map-text .kept .1 .0), p .1 .1 .1 .1 .1 .0))))
 
 if-accepted-requires : tie.Need-if-accepted-requires
 if-accepted-requires c κs = search needs
 
 mul-if-accepted : tie.Need-mul-if-accepted
-mul-if-accepted c = let s = c .before .before .before .before .before .before .before .before .before .before .before .before .before .before .before .before .before .before .before .before .before .before .before .before .before .before .before .before .before .before .before .before .before .before .before .args in
-    let k = count-small (s .text .now) (s .work .now) _ (c .before .before .before .before .before .before .before .before .before .before .before .before .before .before .before .before .before .before .before .before .before .before .before .before .before .before .before .map-text .ensures) (c .before .before .before .before .before .before .before .before .before .before .before .before .before .before .before .before .before .before .before .before .before .before .before .body-start .result) _ _ (c .before .before .before .before .before .before .before .before .before .before .before .before .before .before .before .before .before .before .before .before .before .before .before .body-start .ensures .0) (sym (c .before .before .before .before .before .before .before .before .before .before .before .before .before .before .before .before .before .before .before .parse-declarations .ensures .0) ∙ c .before .before .before .before .before .before .before .before .before .before .before .before .before .parsed .given .1) in
+mul-if-accepted c =
+    let at-output2 = c .before .before .before .before .before .before in
+    let at-run-body = at-output2 .before in
+    let at-parsed = at-run-body .before .before .before .before .before .before in
+    let at-parse-declarations = at-parsed .before .before .before .before .before .before in
+    let at-body-start = at-parse-declarations .before .before .before .before in
+    let at-map-text = at-body-start .before .before .before .before in
+    let at-slice-known = at-map-text .before .before .before .before .before .before in
+    let at-start = at-slice-known .before .before in
+    let s = at-start .args in
+    let k = count-small (s .text .now) (s .work .now) _ (at-map-text .map-text .ensures) (at-body-start .body-start .result) _ _ (at-body-start .body-start .ensures .0) (sym (at-parse-declarations .parse-declarations .ensures .0) ∙ at-parsed .parsed .given .1) in
     omega (arith, k)
 
 add-if-accepted : tie.Need-add-if-accepted
-add-if-accepted c = let s = c .before .before .before .before .before .before .before .before .before .before .before .before .before .before .before .before .before .before .before .before .before .before .before .before .before .before .before .before .before .before .before .before .before .before .before .args in
-    let k = count-small (s .text .now) (s .work .now) _ (c .before .before .before .before .before .before .before .before .before .before .before .before .before .before .before .before .before .before .before .before .before .before .before .before .before .before .before .map-text .ensures) (c .before .before .before .before .before .before .before .before .before .before .before .before .before .before .before .before .before .before .before .before .before .before .before .body-start .result) _ _ (c .before .before .before .before .before .before .before .before .before .before .before .before .before .before .before .before .before .before .before .before .before .before .before .body-start .ensures .0) (sym (c .before .before .before .before .before .before .before .before .before .before .before .before .before .before .before .before .before .before .before .parse-declarations .ensures .0) ∙ c .before .before .before .before .before .before .before .before .before .before .before .before .before .parsed .given .1) in
+add-if-accepted c =
+    let at-output2 = c .before .before .before .before .before .before in
+    let at-run-body = at-output2 .before in
+    let at-parsed = at-run-body .before .before .before .before .before .before in
+    let at-parse-declarations = at-parsed .before .before .before .before .before .before in
+    let at-body-start = at-parse-declarations .before .before .before .before in
+    let at-map-text = at-body-start .before .before .before .before in
+    let at-slice-known = at-map-text .before .before .before .before .before .before in
+    let at-start = at-slice-known .before .before in
+    let s = at-start .args in
+    let k = count-small (s .text .now) (s .work .now) _ (at-map-text .map-text .ensures) (at-body-start .body-start .result) _ _ (at-body-start .body-start .ensures .0) (sym (at-parse-declarations .parse-declarations .ensures .0) ∙ at-parsed .parsed .given .1) in
     omega (arith, k)
 
 if-accepted-requires-2 : tie.Need-if-accepted-requires-2
@@ -104,7 +148,15 @@ same-length-6 : tie.Need-same-length-6
 same-length-6 c = search needs
 
 same-length-7 : tie.Need-same-length-7
-same-length-7 c = c .before .before .before .before .before .before .before .before .before .before .before .before .before .before .before .before .before .run-body .kept .1 .1 .0 ∙ c .before .before .before .before .before .before .before .before .before .before .before .before .before .before .before .before .before .before .before .before .before .before .before .before .before .before .before .before .before .before .before .before .before .before .before .before .before .map-text .kept .1 .0
+same-length-7 c =
+    let at-declared3 = c .before .before .before .before .before .before in
+    let at-spare2 = at-declared3 .before .before .before .before .before .before in
+    let at-run-body = at-spare2 .before .before .before .before .before in
+    let at-parsed = at-run-body .before .before .before .before .before .before in
+    let at-parse-declarations = at-parsed .before .before .before .before .before .before in
+    let at-body-start = at-parse-declarations .before .before .before .before in
+    let at-map-text = at-body-start .before .before .before .before in
+    at-run-body .run-body .kept .1 .1 .0 ∙ at-map-text .map-text .kept .1 .0
 
 same-length-8 : tie.Need-same-length-8
 same-length-8 c = search needs
@@ -116,30 +168,43 @@ same-length-10 : tie.Need-same-length-10
 same-length-10 c = search needs
 
 returns-2 : tie.Need-returns-2
-returns-2 c = let s = c .before .before .before .before .before .before .before .before .before .before .before .before .before .before .before .before .before .before .before .before .before .before .before .before .before .before .before .before .before .before .before .before .before .before .before .before .before .before .before .before .before .before .before .before .before .args in
-    let p = c .before .before .before .before .before .before .before .before .before .before .before .before .before .before .before .before .before .before .before .before .before .before .before .before .before .before .before .before .before .before .before .before .before .before .before .before .before .before .before .before .before .before .before .before .before .pre in
+returns-2 c =
+    let at-declared3 = c .before .before .before .before .before .before in
+    let at-fill = at-declared3 .before in
+    let at-if-accepted2 = at-fill .before .before in
+    let at-if-accepted = at-if-accepted2 .before in
+    let at-output2 = at-if-accepted .before .before .before .before .before .before in
+    let at-run-body = at-output2 .before in
+    let at-parsed = at-run-body .before .before .before .before .before .before in
+    let at-parse-declarations = at-parsed .before .before .before .before .before .before in
+    let at-body-start = at-parse-declarations .before .before .before .before in
+    let at-map-text = at-body-start .before .before .before .before in
+    let at-slice-known = at-map-text .before .before .before .before .before .before in
+    let at-start = at-slice-known .before .before in
+    let s = at-start .args in
+    let p = at-start .pre in
     let xs = s .text .now in
-    let m = c .before .before .before .before .before .before .before .before .before .before .before .before .before .before .before .before .before .before .before .before .before .before .before .before .before .before .before .before .before .before .before .before .before .before .before .before .before .map-text .ensures in
-    let at = c .before .before .before .before .before .before .before .before .before .before .before .before .before .before .before .before .before .before .before .before .before .before .before .before .before .before .before .before .before .before .before .before .before .body-start .result in
-    let b = c .before .before .before .before .before .before .before .before .before .before .before .before .before .before .before .before .before .before .before .before .before .before .before .before .before .before .before .before .before .before .before .before .before .body-start .ensures .0 in
-    let e = c .before .before .before .before .before .before .before .before .before .before .before .before .before .before .before .before .before .before .before .before .before .before .before .before .before .before .before .before .before .parse-declarations .ensures in
-    let q = sym (e .0) ∙ c .before .before .before .before .before .before .before .before .before .before .before .before .before .before .before .before .before .before .before .before .before .before .before .parsed .given .1 in
-    let f = c .before .before .before .before .before .before .before .before .before .before .before .before .before .before .before .before .before .run-body .ensures in
-    let w : drop (s .size) (c .before .before .before .before .before .before .before .before .before .before .before .before .before .before .before .before .before .before .before .before .before .before .before .before .before .before .before .before .before .before .before .before .before .before .before .before .before .map-text .last .1 .0) ≡ drop (s .size) (s .work .now) = ap (drop (s .size)) m ∙ kept-drop (mapOf xs) (s .work .now) (s .size) (omega (arith, map-length xs, p .0, p .1 .1 .0)) in
+    let m = at-map-text .map-text .ensures in
+    let at = at-body-start .body-start .result in
+    let b = at-body-start .body-start .ensures .0 in
+    let e = at-parse-declarations .parse-declarations .ensures in
+    let q = sym (e .0) ∙ at-parsed .parsed .given .1 in
+    let f = at-run-body .run-body .ensures in
+    let w : drop (s .size) (at-map-text .map-text .last .1 .0) ≡ drop (s .size) (s .work .now) = ap (drop (s .size)) m ∙ kept-drop (mapOf xs) (s .work .now) (s .size) (omega (arith, map-length xs, p .0, p .1 .1 .0)) in
     let v : take (length xs - at) (drop at xs) ≡ drop at xs = take-all (length xs - at) (drop at xs) (omega (arith, length-drop at xs)) in
     let f₀ = f .0 ∙ ap (λ (ys : List ℕ). bodyResult ys .answer) v in
-    let r = c .before .before .before .before .before .before .before .before .before .before .before .before .before .before .before .before .before .run-body .result in
-    let d′ = c .before .before .before .before .before .before .before .before .before .before .before .before .before .before .before .before .before .before .before .before .before .before .before .before .before .before .before .before .before .parse-declarations .last .1 .1 .0 in
-    let rs′ = c .before .before .before .before .before .before .before .before .before .before .before .before .before .before .before .before .before .before .before .before .before .before .before .before .before .before .before .before .before .parse-declarations .last .1 .1 .1 .0 in
-    let n = c .before .before .before .before .before .before .before .before .before .before .if-accepted .ensures in
-    let k = c .before .before .before .before .before .before .before .before .before .if-accepted2 .ensures in
+    let r = at-run-body .run-body .result in
+    let d′ = at-parse-declarations .parse-declarations .last .1 .1 .0 in
+    let rs′ = at-parse-declarations .parse-declarations .last .1 .1 .1 .0 in
+    let n = at-if-accepted .if-accepted .ensures in
+    let k = at-if-accepted2 .if-accepted2 .ensures in
     let small = texts-small xs (s .work .now) _ m at _ _ b q (p .1 .1 .0) in
     let count = numbers-small xs (s .work .now) _ m at _ _ b q in
     let texts = texts-are xs (s .work .now) _ m at _ _ b q r f₀ (s .declared .now) d′ (s .records .now) rs′ (e .1) in
     let numbers = numbers-are xs (s .work .now) _ m at _ _ b q r f₀ (s .declared .now) d′ (s .records .now) rs′ (e .1) in
     let d = subst (λ (i : ℕ). drop i d′ ≡ drop i (s .declared .now)) (sym (p .0)) (texts-kept xs (s .work .now) _ m at _ _ b q r f₀ (s .declared .now) d′ (s .records .now) rs′ (e .1) (p .1 .1 .0)) in
     let h = subst (λ (i : ℕ). drop i rs′ ≡ drop i (s .records .now)) (sym (p .1 .0)) (e .1 .behind) in
-    let l = c .before .before .before .before .before .before .before .before .before .before .before .before .before .before .before .before .before .before .before .before .before .before .before .before .before .before .before .before .before .parse-declarations .kept in (
+    let l = at-parse-declarations .parse-declarations .kept in (
       c .with-records .ensures ∙ answer-is xs (s .work .now) _ m at _ _ b q r f₀,
       (
         f .1 .0 ∙ ap (λ (ys : List ℕ). zeroedTo (s .size) ys (s .output .now)) (ap (λ (ys : List ℕ). bodyResult ys .output) v ∙ output-is xs (s .work .now) _ m at _ _ b q),
@@ -148,13 +213,13 @@ returns-2 c = let s = c .before .before .before .before .before .before .before 
           (
             f .1 .1 .1,
             (
-              c .before .before .before .before .before .before .before .fill .ensures
-                  ∙ zeros-behind (s .size) (c .before .before .before .before .before .before .before .before .before .before .if-accepted .result) (s .declared .now) d′ _ (omega (arith, p .1 .1 .1 .1 .1 .1 .0, l .1 .1 .0))
+              at-fill .fill .ensures
+                  ∙ zeros-behind (s .size) (at-if-accepted .if-accepted .result) (s .declared .now) d′ _ (omega (arith, p .1 .1 .1 .1 .1 .1 .0, l .1 .1 .0))
                   (omega (arith, n, at-most r _ 65536 small, p .0))
                   d
                   (ap (λ (i : ℕ). take i d′) n ∙ texts),
               c .before .before .before .clear .ensures
-                  ∙ zeros-behind (s .numbers) (c .before .before .before .before .before .before .before .before .before .if-accepted2 .result) (s .records .now) rs′ _ (omega (arith, p .1 .1 .1 .1 .1 .1 .1, l .1 .1 .1 .0))
+                  ∙ zeros-behind (s .numbers) (at-if-accepted2 .if-accepted2 .result) (s .records .now) rs′ _ (omega (arith, p .1 .1 .1 .1 .1 .1 .1, l .1 .1 .1 .0))
                   (omega (arith, k, at-most r _ 4104 count, p .1 .0))
                   h
                   (ap (λ (i : ℕ). take i rs′) k ∙ numbers),

@@ -1,3 +1,6 @@
+-- `preprocessor::transform_body` meets its contract. The definitions are rewritten with the outcome of the checks:
+-- where they have passed, the lengths that `run_body` asks for follow, and its promises are those of the call; where
+-- they refuse, nothing is changed. Assumes nothing.
 use Rattle.preprocessor.proofs.LentLaws.{three-lent}
 use Rattle.spec.proofs.SearchLaws.{check-only}
 use Rattle.spec.specs.declared.Check.the-variants.{Passed}
@@ -25,9 +28,14 @@ enum-told : tie.Need-enum-told
 enum-told c = search needs
 
 run-body-requires : tie.Need-run-body-requires
-run-body-requires c κs = let s = c .before .before .before .before .before .before .before .before .before .before .before .before .args in
-    let h = check-only 16384 (c .before .before .before .before .before .before .before .are-lent .result) (s .text .now) [] Passed (sym (c .before .before .before .before .before .check-texts .ensures) ∙ c .before .before .before .enum-told .given .1) in
-    let l = three-lent _ _ _ (sym (c .before .before .before .before .before .before .before .are-lent .ensures) ∙ h .1) in
+run-body-requires c κs =
+    let at-enum-told = c .before .before .before in
+    let at-check-texts = at-enum-told .before .before in
+    let at-are-lent = at-check-texts .before .before in
+    let at-start = at-are-lent .before .before .before .before .before in
+    let s = at-start .args in
+    let h = check-only 16384 (at-are-lent .are-lent .result) (s .text .now) [] Passed (sym (at-check-texts .check-texts .ensures) ∙ at-enum-told .enum-told .given .1) in
+    let l = three-lent _ _ _ (sym (at-are-lent .are-lent .ensures) ∙ h .1) in
     (refl, (h .0, (l .0, (l .1, l .2))))
 
 same-length : tie.Need-same-length
@@ -41,9 +49,14 @@ same-length-3 c = search needs
 
 returns : tie.Need-returns
 unfolding bodyAnswer bodyOutput workExit bodyCheck areLent bufferSize textLimit
-returns c = let e = c .before .before .before .before .before .before .before .before .before .before .before .before .before .before .are-lent .ensures in
-    let p = sym (c .before .before .before .before .before .before .before .before .before .before .before .before .check-texts .ensures) ∙ c .before .before .before .before .before .before .before .before .before .before .enum-told .given .1 in
-    rw (← e, p) (c .before .before .before .before .before .before .run-body .ensures)
+returns c =
+    let at-run-body = c .before .before .before .before .before .before in
+    let at-enum-told = at-run-body .before .before .before .before in
+    let at-check-texts = at-enum-told .before .before in
+    let at-are-lent = at-check-texts .before .before in
+    let e = at-are-lent .are-lent .ensures in
+    let p = sym (at-check-texts .check-texts .ensures) ∙ at-enum-told .enum-told .given .1 in
+    rw (← e, p) (at-run-body .run-body .ensures)
 
 returns-2 : tie.Need-returns-2
 unfolding bodyAnswer bodyOutput workExit bodyCheck areLent bufferSize textLimit

@@ -1,3 +1,4 @@
+-- `quotes::byte_before` meets its contract. The test on i decides the definition's `cond`. Assumes nothing.
 use borrow.Author.Tests.{eq-eqb, ne-eqb}
 use borrow.Author.Needs.{needs}
 use Rattle.quotes.proofs.byte_before.Statement.{statement}

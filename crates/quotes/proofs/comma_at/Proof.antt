@@ -1,3 +1,5 @@
+-- `quotes::comma_at` meets its contract. The loop's invariant says that `depth` parentheses are open at i and that the
+-- first comma of the text is the first from i on; `depth-bound` keeps the count small. Assumes nothing.
 use borrow.Author.Needs.{needs}
 use native.Mathlib.Omega.{arith}
 use mathlib.Core.Path.{_≡_, refl, sym, ap, _∙_}
@@ -28,10 +30,12 @@ is-comma-requires c κs = search needs
 
 returns : tie.Need-returns Inv-loop μ-loop
 returns c =
-    let l = c .before .before .before .before .before .loop in
-    let xs = c .before .before .before .before .before .before .before .before .args .text .now in
+    let at-loop = c .before .before .before .before .before in
+    let at-start = at-loop .before .before .before in
+    let l = at-loop .loop in
+    let xs = at-start .args .text .now in
     sym (ap (λ f. placeOr f (length xs)) (l .inv .2)
-    ∙ comma-hit xs (c .before .before .before .before .before .before .before .before .args .map .now) (l .i) (c .before .before .before .byte-at .result) (l .depth) (omega arith) (c .before .before .before .byte-at .ensures) (l .inv .1) (sym (c .before .is-comma .ensures) ∙ c .if1 .taken))
+    ∙ comma-hit xs (at-start .args .map .now) (l .i) (c .before .before .before .byte-at .result) (l .depth) (omega arith) (c .before .before .before .byte-at .ensures) (l .inv .1) (sym (c .before .is-comma .ensures) ∙ c .if1 .taken))
 
 byte-at-requires-2 : tie.Need-byte-at-requires-2 Inv-loop μ-loop
 byte-at-requires-2 c κs = search needs
@@ -40,7 +44,11 @@ shared-slice-read-depth-after : tie.Need-shared-slice-read-depth-after Inv-loop 
 shared-slice-read-depth-after c = search needs
 
 depth-after-requires : tie.Need-depth-after-requires Inv-loop μ-loop
-depth-after-requires c κs = omega (arith, c .before .before .before .before .before .before .before .loop .inv .1, depth-bound (c .before .before .before .before .before .before .before .before .before .before .args .text .now) (c .before .before .before .before .before .before .before .before .before .before .args .map .now) (c .before .before .before .before .before .before .before .loop .i))
+depth-after-requires c κs =
+    let at-loop-test = c .before .before .before .before .before .before in
+    let at-loop = at-loop-test .before in
+    let at-start = at-loop .before .before .before in
+    omega (arith, at-loop .loop .inv .1, depth-bound (at-start .args .text .now) (at-start .args .map .now) (at-loop .loop .i))
 
 add-i : tie.Need-add-i Inv-loop μ-loop
 add-i c = search needs
@@ -50,12 +58,15 @@ loop-less c = search needs
 
 loop-again : tie.Need-loop-again Inv-loop μ-loop
 loop-again c =
-    let l = c .before .before .before .before .before .before .before .before .loop in
-    let xs = c .before .before .before .before .before .before .before .before .before .before .before .args .text .now in
-    let ms = c .before .before .before .before .before .before .before .before .before .before .before .args .map .now in (
+    let at-byte-at = c .before .before .before .before .before .before in
+    let at-loop = at-byte-at .before .before in
+    let at-start = at-loop .before .before .before in
+    let l = at-loop .loop in
+    let xs = at-start .args .text .now in
+    let ms = at-start .args .map .now in (
       omega arith,
       c .depth-after .ensures ∙ depth-step xs ms (l .i) (c .before .before .byte-at2 .result) (l .depth) (omega arith) (c .before .before .byte-at2 .ensures) (l .inv .1),
-      l .inv .2 ∙ comma-miss xs ms (l .i) (c .before .before .before .before .before .before .byte-at .result) (l .depth) (omega arith) (c .before .before .before .before .before .before .byte-at .ensures) (l .inv .1) (sym (c .before .before .before .before .is-comma .ensures) ∙ c .before .before .before .if1 .left),
+      l .inv .2 ∙ comma-miss xs ms (l .i) (at-byte-at .byte-at .result) (l .depth) (omega arith) (at-byte-at .byte-at .ensures) (l .inv .1) (sym (c .before .before .before .before .is-comma .ensures) ∙ c .before .before .before .if1 .left),
     )
 
 returns-2 : tie.Need-returns-2 Inv-loop μ-loop

@@ -1,3 +1,5 @@
+-- `quotes::depth_after` meets its contract. `depth-mark` reads the definition as tests on m, b and d; each return
+-- rewrites it with the tests made. Assumes nothing.
 use native.Mathlib.Omega.{arith}
 use mathlib.Core.Path.{sym, _∙_}
 use borrow.Author.Tests.{eq-eqb, ne-eqb}

@@ -1,3 +1,5 @@
+-- `quotes::depth_before` meets its contract. The loop's invariant says that `depth` parentheses are open at i and that
+-- i is at most `to`; past the text's end nothing more opens. Assumes nothing.
 use borrow.Author.Needs.{needs}
 use native.Mathlib.Omega.{arith}
 use mathlib.Core.Path.{_≡_, sym, ap, _∙_}
@@ -26,7 +28,10 @@ shared-slice-read-depth-after : tie.Need-shared-slice-read-depth-after Inv-loop 
 shared-slice-read-depth-after c = search needs
 
 depth-after-requires : tie.Need-depth-after-requires Inv-loop μ-loop
-depth-after-requires c κs = omega (arith, c .before .before .before .before .loop .inv .2, depth-bound (c .before .before .before .before .before .before .before .args .text .now) (c .before .before .before .before .before .before .before .args .map .now) (c .before .before .before .before .loop .i))
+depth-after-requires c κs =
+    let at-loop = c .before .before .before .before in
+    let at-start = at-loop .before .before .before in
+    omega (arith, at-loop .loop .inv .2, depth-bound (at-start .args .text .now) (at-start .args .map .now) (at-loop .loop .i))
 
 add-i : tie.Need-add-i Inv-loop μ-loop
 add-i c = search needs
@@ -36,8 +41,10 @@ loop-less c = search needs
 
 loop-again : tie.Need-loop-again Inv-loop μ-loop
 loop-again c =
-    let l = c .before .before .before .before .before .loop in
-    (omega arith, omega (arith, c .before .before .before .if1 .left), c .depth-after .ensures ∙ depth-step (c .before .before .before .before .before .before .before .before .args .text .now) (c .before .before .before .before .before .before .before .before .args .map .now) (l .i) (c .before .before .byte-at .result) (l .depth) (omega arith) (c .before .before .byte-at .ensures) (l .inv .2))
+    let at-loop = c .before .before .before .before .before in
+    let at-start = at-loop .before .before .before in
+    let l = at-loop .loop in
+    (omega arith, omega (arith, c .before .before .before .if1 .left), c .depth-after .ensures ∙ depth-step (at-start .args .text .now) (at-start .args .map .now) (l .i) (c .before .before .byte-at .result) (l .depth) (omega arith) (c .before .before .byte-at .ensures) (l .inv .2))
 
 returns-2 : tie.Need-returns-2 Inv-loop μ-loop
 returns-2 c = c .before .loop .inv .2 ∙ depth-past (c .before .before .before .before .args .text .now) (c .before .before .before .before .args .map .now) (c .before .loop .i) (c .before .before .before .before .args .to) (omega arith) (omega arith)

@@ -1,3 +1,5 @@
+-- `quotes::find_top_keyword` meets its contract. The loop's invariant says that `depth` parentheses are open at i and
+-- that the first place from `from` on is the first from i on. Assumes nothing.
 use borrow.Author.Needs.{needs}
 use native.Mathlib.Omega.{arith}
 use mathlib.Core.Path.{_≡_, sym, _∙_}
@@ -34,8 +36,10 @@ top-word-at-requires c κs = search needs
 
 returns-2 : tie.Need-returns-2 Inv-loop μ-loop
 returns-2 c =
-    let l = c .before .before .before .loop in
-    let a = c .before .before .before .before .before .before .before .before .before .args in
+    let at-loop = c .before .before .before in
+    let at-start = at-loop .before .before .before .before .before .before in
+    let l = at-loop .loop in
+    let a = at-start .args in
     sym (l .inv .1 ∙ top-hit (a .text .now) (a .map .now) (a .word .now) (l .i) (l .depth) (omega arith) (l .inv .0) (sym (c .before .top-word-at .ensures) ∙ c .if2 .taken))
 
 byte-at-requires : tie.Need-byte-at-requires Inv-loop μ-loop
@@ -45,7 +49,10 @@ shared-slice-read-depth-after : tie.Need-shared-slice-read-depth-after Inv-loop 
 shared-slice-read-depth-after c = search needs
 
 depth-after-requires : tie.Need-depth-after-requires Inv-loop μ-loop
-depth-after-requires c κs = omega (arith, c .before .before .before .before .before .loop .inv .0, depth-bound (c .before .before .before .before .before .before .before .before .before .before .before .args .text .now) (c .before .before .before .before .before .before .before .before .before .before .before .args .map .now) (c .before .before .before .before .before .loop .i))
+depth-after-requires c κs =
+    let at-loop = c .before .before .before .before .before in
+    let at-start = at-loop .before .before .before .before .before .before in
+    omega (arith, at-loop .loop .inv .0, depth-bound (at-start .args .text .now) (at-start .args .map .now) (at-loop .loop .i))
 
 add-i : tie.Need-add-i Inv-loop μ-loop
 add-i c = search needs
@@ -55,16 +62,20 @@ loop-less c = search needs
 
 loop-again : tie.Need-loop-again Inv-loop μ-loop
 loop-again c =
-    let l = c .before .before .before .before .before .before .loop in
-    let a = c .before .before .before .before .before .before .before .before .before .before .before .before .args in (
+    let at-loop = c .before .before .before .before .before .before in
+    let at-start = at-loop .before .before .before .before .before .before in
+    let l = at-loop .loop in
+    let a = at-start .args in (
       c .depth-after .ensures ∙ depth-step (a .text .now) (a .map .now) (l .i) (c .before .before .byte-at .result) (l .depth) (omega arith) (c .before .before .byte-at .ensures) (l .inv .0),
       l .inv .1 ∙ top-miss (a .text .now) (a .map .now) (a .word .now) (l .i) (l .depth) (omega arith) (l .inv .0) (sym (c .before .before .before .before .top-word-at .ensures) ∙ c .before .before .before .if2 .left),
     )
 
 returns-3 : tie.Need-returns-3 Inv-loop μ-loop
 returns-3 c =
-    let l = c .before .loop in
-    let a = c .before .before .before .before .before .before .before .args in
+    let at-loop = c .before in
+    let at-start = at-loop .before .before .before .before .before .before in
+    let l = at-loop .loop in
+    let a = at-start .args in
     sym (l .inv .1 ∙ top-end (a .text .now) (a .map .now) (a .word .now) (l .i) (omega arith))
 
 pub find-top-keyword-spec : {M : Type 1} → statement M

@@ -1,3 +1,5 @@
+-- `quotes::has_limit` meets its contract. `limit-text` says that ` LIMIT ` stands in a text exactly if 7 bytes of it
+-- are matched behind the text. Assumes nothing.
 use mathlib.Core.Path.{sym, ap, _∙_}
 use lib.Dec.{eqb}
 use Rattle.quotes.proofs.LimitLaws.{limit-text}

@@ -1,3 +1,4 @@
+-- `quotes::is_comma` meets its contract. Each return rewrites the conjunction with the tests made. Assumes nothing.
 use borrow.Author.Tests.{eq-eqb, ne-eqb}
 use Rattle.quotes.proofs.is_comma.Statement.{statement}
 use Rattle.quotes.proofs.is_comma.Tie as tie

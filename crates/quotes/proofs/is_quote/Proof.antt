@@ -1,3 +1,5 @@
+-- `quotes::is_quote` meets its contract. The first test decides `isQuote`, which computes to the second where it fails.
+-- Assumes nothing.
 use borrow.Author.Tests.{eq-eqb, ne-eqb}
 use Rattle.spec.specs.Bytes.{isQuote}
 use Rattle.quotes.proofs.is_quote.Statement.{statement}

@@ -1,3 +1,5 @@
+-- `quotes::limit_after` meets its contract. The loop's invariant says that n bytes are matched at i, at most 7, and
+-- that matching goes on from there to the same count. Assumes nothing.
 use borrow.Author.Needs.{needs}
 use native.Mathlib.Omega.{arith}
 use mathlib.Core.Path.{_≡_, refl, sym, _∙_}

@@ -1,3 +1,5 @@
+-- `quotes::limit_next` meets its contract. `compared` says which bytes are compared; each return rewrites `limitNext`
+-- with the tests made. Assumes nothing.
 use native.Mathlib.Omega.{arith}
 use mathlib.Core.Path.{_≡_, sym, _∙_}
 use borrow.Author.Tests.{eq-eqb, ne-eqb}

@@ -1,3 +1,5 @@
+-- `quotes::map_quotes` meets its contract. The loop's invariant says that storing the map of the rest, with q open
+-- before it, gives what storing the whole map at 0 would have given. Assumes nothing.
 use borrow.Author.Needs.{needs}
 use native.Mathlib.Omega.{arith}
 use mathlib.Core.Path.{_≡_, refl, sym, ap, _∙_}
@@ -38,8 +40,10 @@ loop-less c = search needs
 
 loop-again : tie.Need-loop-again Inv-loop μ-loop
 loop-again c =
-    let l = c .before .before .before .before .loop in
-    (omega arith, simp length-set (l .inv .1), rw (c .before .quote-flag .ensures, c .quote-after .ensures) (l .inv .2 ∙ quotes-step (c .before .before .before .before .before .before .before .args .text .now) (l .i) (l .q) (l .map) (omega arith)))
+    let at-loop = c .before .before .before .before in
+    let at-start = at-loop .before .before .before in
+    let l = at-loop .loop in
+    (omega arith, simp length-set (l .inv .1), rw (c .before .quote-flag .ensures, c .quote-after .ensures) (l .inv .2 ∙ quotes-step (at-start .args .text .now) (l .i) (l .q) (l .map) (omega arith)))
 
 same-length : tie.Need-same-length Inv-loop μ-loop
 same-length c = c .before .loop .inv .1

@@ -1,3 +1,6 @@
+-- `quotes::next_item` meets its contract. The loop's invariant says that the parts from `from` on are those from `at`
+-- on: an empty part is passed over. `comma`, `within` and `lead` say where the part ends and where its W end. Assumes
+-- nothing.
 use borrow.Author.Needs.{needs}
 use native.Mathlib.Omega.{arith}
 use mathlib.Core.Path.{_≡_, refl, _∙_}
@@ -21,17 +24,28 @@ abbrev μ-loop : tie.MeasureT-loop
 μ-loop text map from at₀ at = length text - at
 
 -- the first comma from `at` on
-comma : (c : tie.After-comma-at Inv-loop μ-loop) → c .comma-at .result ≡ commaAt (drop (c .before .before .before .before .loop .at) (marked (c .before .before .before .before .before .before .before .args .text .now) (c .before .before .before .before .before .before .before .args .map .now)))
+comma : (c : tie.After-comma-at Inv-loop μ-loop) →
+    let at-loop = c .before .before .before .before in
+    let at-start = at-loop .before .before .before in
+    c .comma-at .result ≡ commaAt (drop (at-loop .loop .at) (marked (at-start .args .text .now) (at-start .args .map .now)))
 comma c =
-    let xs = c .before .before .before .before .before .before .before .args .text .now in
-    let ms = c .before .before .before .before .before .before .before .args .map .now in
-    let at = c .before .before .before .before .loop .at in
+    let at-loop = c .before .before .before .before in
+    let at-start = at-loop .before .before .before in
+    let xs = at-start .args .text .now in
+    let ms = at-start .args .map .now in
+    let at = at-loop .loop .at in
     let h : c .comma-at .result ≡ placeOr (first commaHere 0 (marked (take (length xs - at) (drop at xs)) (take (length ms - at) (drop at ms)))) (length (take (length xs - at) (drop at xs))) = c .comma-at .ensures in
     (simp rest-of at h) ∙ comma-part xs ms at
 
 -- it stands within the text
-within : (c : tie.After-comma-at Inv-loop μ-loop) → c .before .before .before .before .loop .at + c .comma-at .result ≤ length (c .before .before .before .before .before .before .before .args .text .now)
-within c = comma-within (c .before .before .before .before .before .before .before .args .text .now) (c .before .before .before .before .before .before .before .args .map .now) (c .before .before .before .before .loop .at) (c .comma-at .result) (omega arith) (comma c)
+within : (c : tie.After-comma-at Inv-loop μ-loop) →
+    let at-loop = c .before .before .before .before in
+    let at-start = at-loop .before .before .before in
+    at-loop .loop .at + c .comma-at .result ≤ length (at-start .args .text .now)
+within c =
+    let at-loop = c .before .before .before .before in
+    let at-start = at-loop .before .before .before in
+    comma-within (at-start .args .text .now) (at-start .args .map .now) (at-loop .loop .at) (c .comma-at .result) (omega arith) (comma c)
 
 -- W in front of it, which ends at it or before
 white : (c : tie.After-run-end Inv-loop μ-loop) → let at-comma = c .before .before in let at = at-comma .before .before .before .before .loop .at in c .run-end .result ≡ length (takeWhile isW (take (at + at-comma .comma-at .result - at) (drop at (at-comma .before .before .before .before .before .before .before .args .text .now))))

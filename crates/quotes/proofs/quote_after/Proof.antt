@@ -1,3 +1,4 @@
+-- `quotes::quote_after` meets its contract. Each return rewrites `quoteAfter` with the tests made. Assumes nothing.
 use mathlib.Core.Path.{sym, _∙_}
 use borrow.Author.Tests.{eq-eqb, ne-eqb}
 use Rattle.spec.specs.SelectInto.{quoteAfter}

@@ -1,3 +1,4 @@
+-- `quotes::quote_flag` meets its contract. Each return rewrites `quoteFlag` with the tests made. Assumes nothing.
 use mathlib.Core.Path.{sym, _∙_}
 use borrow.Author.Tests.{eq-eqb, ne-eqb}
 use Rattle.quotes.specs.QuoteMap.{quoteFlag}

@@ -1,3 +1,5 @@
+-- `quotes::top_word_at` meets its contract. The test on d decides the conjunction: what `word_at` ensures, or false.
+-- Assumes nothing.
 use mathlib.Core.Bool.{and-true, and-false}
 use borrow.Author.Tests.{eq-eqb, ne-eqb}
 use borrow.Author.Needs.{needs}

@@ -1,3 +1,6 @@
+-- `quotes::word_at` meets its contract. `word-here` reads the definition as tests on the map's byte, the prefix and the
+-- bytes on either side; each return rewrites it with the tests made. `prefix` says that the comparison is with the rest
+-- of the text. Assumes nothing.
 use native.Mathlib.Omega.{arith}
 use mathlib.Core.Path.{_≡_, refl, sym, _∙_}
 use mathlib.Core.Bool.{and-false}
@@ -43,8 +46,10 @@ is-ident-byte-requires c κs = search needs
 
 add-byte-at : tie.Need-add-byte-at
 add-byte-at c =
-    let a = c .before .before .before .before .before .before .before .before .before .before .before .args in
-    omega (arith, prefix-by-len upper (a .word .now) (drop (a .i) (a .text .now)) (sym (prefix (c .before .before .before .before .before .before)) ∙ c .before .before .before .before .before .if1 .taken), length-drop (a .i) (a .text .now), c .before .before .before .before .before .before .before .before .before .before .before .pre)
+    let at-starts-ignoring-case = c .before .before .before .before .before .before in
+    let at-start = at-starts-ignoring-case .before .before .before .before .before in
+    let a = at-start .args in
+    omega (arith, prefix-by-len upper (a .word .now) (drop (a .i) (a .text .now)) (sym (prefix at-starts-ignoring-case) ∙ c .before .before .before .before .before .if1 .taken), length-drop (a .i) (a .text .now), at-start .pre)
 
 byte-at-requires-2 : tie.Need-byte-at-requires-2
 byte-at-requires-2 c κs = search needs
@@ -54,26 +59,49 @@ is-ident-byte-requires-2 c κs = search needs
 
 returns : tie.Need-returns
 returns c =
-    let a = c .before .before .before .before .before .before .before .before .before .before .before .args in
-    sym (word-here (a .text .now) (a .map .now) (a .word .now) (a .i) (c .before .before .before .before .byte-at .result) (c .before .before .byte-before .result) _ (c .before .before .before .before .before .before .before .before .before .before .before .pre) (c .before .before .before .before .byte-at .ensures) (c .before .before .byte-before .ensures) refl
-    ∙ simp (eq-eqb _ _ (c .before .before .before .if2 .taken), sym (prefix (c .before .before .before .before .before .before)) ∙ c .before .before .before .before .before .if1 .taken, sym (c .before .is-ident-byte .ensures) ∙ c .if3 .taken))
+    let at-if2 = c .before .before .before in
+    let at-byte-at = at-if2 .before in
+    let at-if1 = at-byte-at .before in
+    let at-starts-ignoring-case = at-if1 .before in
+    let at-start = at-starts-ignoring-case .before .before .before .before .before in
+    let a = at-start .args in
+    sym (word-here (a .text .now) (a .map .now) (a .word .now) (a .i) (at-byte-at .byte-at .result) (c .before .before .byte-before .result) _ (at-start .pre) (at-byte-at .byte-at .ensures) (c .before .before .byte-before .ensures) refl
+    ∙ simp (eq-eqb _ _ (at-if2 .if2 .taken), sym (prefix at-starts-ignoring-case) ∙ at-if1 .if1 .taken, sym (c .before .is-ident-byte .ensures) ∙ c .if3 .taken))
 
 returns-2 : tie.Need-returns-2
 returns-2 c =
-    let a = c .before .before .before .before .before .before .before .before .before .before .before .before .before .before .args in
-    sym (word-here (a .text .now) (a .map .now) (a .word .now) (a .i) (c .before .before .before .before .before .before .before .byte-at .result) (c .before .before .before .before .before .byte-before .result) (c .before .before .byte-at2 .result) (c .before .before .before .before .before .before .before .before .before .before .before .before .before .before .pre) (c .before .before .before .before .before .before .before .byte-at .ensures) (c .before .before .before .before .before .byte-before .ensures) (c .before .before .byte-at2 .ensures)
-    ∙ simp (eq-eqb _ _ (c .before .before .before .before .before .before .if2 .taken), sym (prefix (c .before .before .before .before .before .before .before .before .before)) ∙ c .before .before .before .before .before .before .before .before .if1 .taken, sym (c .before .before .before .before .is-ident-byte .ensures) ∙ c .before .before .before .if3 .left, sym (c .before .is-ident-byte2 .ensures) ∙ c .if4 .taken))
+    let at-if3 = c .before .before .before in
+    let at-is-ident-byte = at-if3 .before in
+    let at-byte-before = at-is-ident-byte .before in
+    let at-if2 = at-byte-before .before in
+    let at-byte-at = at-if2 .before in
+    let at-if1 = at-byte-at .before in
+    let at-starts-ignoring-case = at-if1 .before in
+    let at-start = at-starts-ignoring-case .before .before .before .before .before in
+    let a = at-start .args in
+    sym (word-here (a .text .now) (a .map .now) (a .word .now) (a .i) (at-byte-at .byte-at .result) (at-byte-before .byte-before .result) (c .before .before .byte-at2 .result) (at-start .pre) (at-byte-at .byte-at .ensures) (at-byte-before .byte-before .ensures) (c .before .before .byte-at2 .ensures)
+    ∙ simp (eq-eqb _ _ (at-if2 .if2 .taken), sym (prefix at-starts-ignoring-case) ∙ at-if1 .if1 .taken, sym (at-is-ident-byte .is-ident-byte .ensures) ∙ at-if3 .if3 .left, sym (c .before .is-ident-byte2 .ensures) ∙ c .if4 .taken))
 
 returns-3 : tie.Need-returns-3
 returns-3 c =
-    let a = c .before .before .before .before .before .before .before .before .before .before .before .before .before .before .args in
-    sym (word-here (a .text .now) (a .map .now) (a .word .now) (a .i) (c .before .before .before .before .before .before .before .byte-at .result) (c .before .before .before .before .before .byte-before .result) (c .before .before .byte-at2 .result) (c .before .before .before .before .before .before .before .before .before .before .before .before .before .before .pre) (c .before .before .before .before .before .before .before .byte-at .ensures) (c .before .before .before .before .before .byte-before .ensures) (c .before .before .byte-at2 .ensures)
-    ∙ simp (eq-eqb _ _ (c .before .before .before .before .before .before .if2 .taken), sym (prefix (c .before .before .before .before .before .before .before .before .before)) ∙ c .before .before .before .before .before .before .before .before .if1 .taken, sym (c .before .before .before .before .is-ident-byte .ensures) ∙ c .before .before .before .if3 .left, sym (c .before .is-ident-byte2 .ensures) ∙ c .if4 .left))
+    let at-if3 = c .before .before .before in
+    let at-is-ident-byte = at-if3 .before in
+    let at-byte-before = at-is-ident-byte .before in
+    let at-if2 = at-byte-before .before in
+    let at-byte-at = at-if2 .before in
+    let at-if1 = at-byte-at .before in
+    let at-starts-ignoring-case = at-if1 .before in
+    let at-start = at-starts-ignoring-case .before .before .before .before .before in
+    let a = at-start .args in
+    sym (word-here (a .text .now) (a .map .now) (a .word .now) (a .i) (at-byte-at .byte-at .result) (at-byte-before .byte-before .result) (c .before .before .byte-at2 .result) (at-start .pre) (at-byte-at .byte-at .ensures) (at-byte-before .byte-before .ensures) (c .before .before .byte-at2 .ensures)
+    ∙ simp (eq-eqb _ _ (at-if2 .if2 .taken), sym (prefix at-starts-ignoring-case) ∙ at-if1 .if1 .taken, sym (at-is-ident-byte .is-ident-byte .ensures) ∙ at-if3 .if3 .left, sym (c .before .is-ident-byte2 .ensures) ∙ c .if4 .left))
 
 returns-4 : tie.Need-returns-4
 returns-4 c =
-    let a = c .before .before .before .before .before .before .before .before .args in
-    sym (word-here (a .text .now) (a .map .now) (a .word .now) (a .i) (c .before .byte-at .result) _ _ (c .before .before .before .before .before .before .before .before .pre) (c .before .byte-at .ensures) refl refl ∙ simp (ne-eqb _ _ (c .if2 .left)))
+    let at-starts-ignoring-case = c .before .before .before in
+    let at-start = at-starts-ignoring-case .before .before .before .before .before in
+    let a = at-start .args in
+    sym (word-here (a .text .now) (a .map .now) (a .word .now) (a .i) (c .before .byte-at .result) _ _ (at-start .pre) (c .before .byte-at .ensures) refl refl ∙ simp (ne-eqb _ _ (c .if2 .left)))
 
 returns-5 : tie.Need-returns-5
 returns-5 c =

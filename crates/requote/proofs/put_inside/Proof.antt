@@ -1,3 +1,5 @@
+-- `requote::put_inside` meets its contract. It is that of `put_single_quoted` on the part from a to a + k, where a + k
+-- - a is rewritten to k. Assumes nothing.
 use native.Mathlib.Omega.{arith}
 use mathlib.Core.Path.{_≡_}
 use Prim.Native.Nat.{_+_, _-_}
@@ -28,8 +30,10 @@ same-length c = search needs
 
 returns : tie.Need-returns
 returns c =
-    let a = c .before .before .before .before .before .before .before .args in
-    let p = c .before .before .put-single-quoted in
+    let at-put-single-quoted = c .before .before in
+    let at-start = at-put-single-quoted .before .before .before .before .before in
+    let a = at-start .args in
+    let p = at-put-single-quoted .put-single-quoted in
     let k : a .a + a .k - a .a ≡ a .k = omega arith in
     let counted : p .result ≡ a .n + length (singleQuoted (take (a .a + a .k - a .a) (drop (a .a) (a .span .now)))) = p .ensures .0 in
     let stored : p .last .0 ≡ sets (a .out .now) (a .n) (singleQuoted (take (a .a + a .k - a .a) (drop (a .a) (a .span .now)))) = p .ensures .1 in

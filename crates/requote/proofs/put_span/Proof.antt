@@ -1,3 +1,5 @@
+-- `requote::put_span` meets its contract. `requoteSpan` computes once the span is known, in each arm to what the
+-- function called there stores. Assumes nothing.
 use Prim.Native.Nat.{_≤_}
 use lib.ListN.{length}
 use Rattle.spec.specs.Requote.{requoteSpan}

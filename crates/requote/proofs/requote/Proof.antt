@@ -1,3 +1,6 @@
+-- `requote::requote` meets its contract. The loop's invariant says that what is stored and the requoted rest behind the
+-- cursor make up the requoted text, in length and in stores. `turn` says what a step of the cursor takes, `store` what
+-- becomes of it. Assumes nothing.
 use native.Mathlib.Omega.{arith}
 use borrow.Author.Needs.{needs}
 use mathlib.Core.Path.{_≡_, refl, sym, ap, _∙_}
@@ -26,10 +29,17 @@ turn : (c : tie.After-step2 Inv-loop μ-loop) → Stepped (c .before .before .be
 turn c = step-taken _ _ _ (c .step2 .given .0 .1 .0) (sym (c .before .before .step .ensures) ∙ c .step2 .given .1)
 
 -- what it stores
-store : (c : tie.After-put-span Inv-loop μ-loop) → Turn (c .before .before .before .before .before .before .before .before .before .before .args .text .now) (c .before .before .before .before .before .before .before .loop .cursor .at) (c .before .before .before .before .step2 .given .0 .1 .0 .at) (c .before .before .before .before .before .before .before .loop .out) (c .before .before .before .before .before .before .before .loop .n) (c .put-span .last .0) (c .put-span .result)
+store : (c : tie.After-put-span Inv-loop μ-loop) →
+    let at-step2 = c .before .before .before .before in
+    let at-loop = at-step2 .before .before .before in
+    let at-start = at-loop .before .before .before in
+    Turn (at-start .args .text .now) (at-loop .loop .cursor .at) (at-step2 .step2 .given .0 .1 .0 .at) (at-loop .loop .out) (at-loop .loop .n) (c .put-span .last .0) (c .put-span .result)
 store c =
-    requote-turn (c .before .before .before .before .before .before .before .before .before .before .args .text .now) (c .before .before .before .before .before .before .before .loop .cursor .at) (c .before .before .before .before .step2 .given .0 .0) (c .before .before .before .before .step2 .given .0 .1 .0 .at) (turn (c .before .before .before .before))
-    (c .before .before .before .before .before .before .before .loop .out) (c .put-span .last .0) (c .before .before .before .before .before .before .before .loop .n) (c .put-span .result) (c .put-span .ensures .0) (c .put-span .ensures .1)
+    let at-step2 = c .before .before .before .before in
+    let at-loop = at-step2 .before .before .before in
+    let at-start = at-loop .before .before .before in
+    requote-turn (at-start .args .text .now) (at-loop .loop .cursor .at) (at-step2 .step2 .given .0 .0) (at-step2 .step2 .given .0 .1 .0 .at) (turn at-step2)
+    (at-loop .loop .out) (c .put-span .last .0) (at-loop .loop .n) (c .put-span .result) (c .put-span .ensures .0) (c .put-span .ensures .1)
 
 loop-holds : tie.Need-loop-holds Inv-loop μ-loop
 loop-holds c = (omega arith, refl, omega arith, refl)
@@ -63,8 +73,10 @@ part-put-span-end c = omega (arith, turn (c .before .before) .beyond, turn (c .b
 
 put-span-requires : tie.Need-put-span-requires Inv-loop μ-loop
 put-span-requires c κs =
-    let xs = c .before .before .before .before .before .before .before .before .before .args .text .now in
-    let at = c .before .before .before .before .before .before .loop .cursor .at in
+    let at-loop = c .before .before .before .before .before .before in
+    let at-start = at-loop .before .before .before in
+    let xs = at-start .args .text .now in
+    let at = at-loop .loop .cursor .at in
     let to = c .before .before .before .step2 .given .0 .1 .0 .at in
     let t = turn (c .before .before .before) in
     let long : length (take (to - at) (drop at xs)) ≡ to - at = length-take-le (to - at) (drop at xs) (omega (arith, t .within, length-drop at xs)) in
@@ -75,9 +87,11 @@ loop-less c = omega (arith, turn (c .before .before .before .before .before .bef
 
 loop-again : tie.Need-loop-again Inv-loop μ-loop
 loop-again c =
-    let l = c .before .before .before .before .before .before .before .before .before .loop in
+    let at-step2 = c .before .before .before .before .before .before in
+    let at-loop = at-step2 .before .before .before in
+    let l = at-loop .loop in
     let s = store (c .before .before) in
-    (turn (c .before .before .before .before .before .before) .within, c .before .before .put-span .kept .0 ∙ l .inv .1, l .inv .2 ∙ s .counted, l .inv .3 ∙ s .stored)
+    (turn at-step2 .within, c .before .before .put-span .kept .0 ∙ l .inv .1, l .inv .2 ∙ s .counted, l .inv .3 ∙ s .stored)
 
 pub requote-spec : {M : Type 1} → statement M
 requote-spec =

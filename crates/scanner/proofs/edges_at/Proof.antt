@@ -1,3 +1,5 @@
+-- `scanner::edges_at` meets its contract. `edges` makes the same three tests, on the map's byte and on the bytes before
+-- and behind; each return rewrites it with their answers. Assumes nothing.
 use mathlib.Core.Path.{sym, ap, _∙_}
 use borrow.Author.Tests.{eq-eqb, ne-eqb}
 use Rattle.scanner.specs.Edges.{edges}

@@ -1,3 +1,5 @@
+-- `scanner::find_byte_in` meets its contract. The loop's invariant says that the first place from `from` on is the
+-- first from i on; a turn is a hit, a quoted byte, another byte, or the end, with a law for each. Assumes nothing.
 use native.Mathlib.Omega.{arith}
 use borrow.Author.Needs.{needs}
 use mathlib.Core.Path.{_≡_, refl, sym, _∙_}
@@ -25,7 +27,10 @@ byte-at-requires : tie.Need-byte-at-requires Inv-loop μ-loop
 byte-at-requires c κs = search needs
 
 returns : tie.Need-returns Inv-loop μ-loop
-returns c = sym (c .before .before .before .before .before .loop .inv ∙ byte-hit (c .before .before .before .before .before .before .before .before .args .b) (c .before .before .before .before .before .before .before .before .args .text .now) (c .before .before .before .before .before .before .before .before .args .map .now) (c .before .before .before .before .before .loop .i) (omega arith) (sym (c .before .byte-at .ensures) ∙ c .if2 .taken) (c .before .before .if1 .taken))
+returns c =
+    let at-loop = c .before .before .before .before .before in
+    let at-start = at-loop .before .before .before in
+    sym (at-loop .loop .inv ∙ byte-hit (at-start .args .b) (at-start .args .text .now) (at-start .args .map .now) (at-loop .loop .i) (omega arith) (sym (c .before .byte-at .ensures) ∙ c .if2 .taken) (c .before .before .if1 .taken))
 
 add-i : tie.Need-add-i Inv-loop μ-loop
 add-i c = search needs
@@ -34,7 +39,10 @@ loop-less : tie.Need-loop-less Inv-loop μ-loop
 loop-less c = search needs
 
 loop-again : tie.Need-loop-again Inv-loop μ-loop
-loop-again c = c .before .before .before .before .before .loop .inv ∙ byte-quoted (c .before .before .before .before .before .before .before .before .args .b) (c .before .before .before .before .before .before .before .before .args .text .now) (c .before .before .before .before .before .before .before .before .args .map .now) (c .before .before .before .before .before .loop .i) (omega arith) (λ e. c .if2 .left (c .before .byte-at .ensures ∙ e))
+loop-again c =
+    let at-loop = c .before .before .before .before .before in
+    let at-start = at-loop .before .before .before in
+    at-loop .loop .inv ∙ byte-quoted (at-start .args .b) (at-start .args .text .now) (at-start .args .map .now) (at-loop .loop .i) (omega arith) (λ e. c .if2 .left (c .before .byte-at .ensures ∙ e))
 
 add-i-2 : tie.Need-add-i-2 Inv-loop μ-loop
 add-i-2 c = search needs

@@ -1,3 +1,6 @@
+-- `scanner::find_keyword_in` meets its contract. The outer loop's invariant says that the first place from `from` on is
+-- the first from i on; the inner one's, that the word stands at the place exactly if its rest from j on stands j bytes
+-- behind it, in any letter case. Assumes nothing.
 use native.Mathlib.Omega.{arith}
 use borrow.Author.Needs.{needs}
 use mathlib.Core.Path.{_≡_, refl, sym, ap, _∙_}
@@ -45,7 +48,9 @@ offsets-holds c = nonempty-word (c .before .before .before .before .before .args
 
 returns-3 : tie.Need-returns-3 Inv-loop μ-loop Inv-offsets μ-offsets
 returns-3 c =
-    let s = c .before .before .before .before .before .before .before .args in
+    let at-if1 = c .before .before .before in
+    let at-start = at-if1 .before .before .before .before in
+    let s = at-start .args in
     sym (c .before .offsets .inv ∙ key-end (s .text .now) (s .map .now) (s .word .now) (c .before .offsets .i) (omega arith))
 
 add-i : tie.Need-add-i Inv-loop μ-loop Inv-offsets μ-offsets
@@ -82,9 +87,12 @@ loop-less c = search needs
 
 loop-again : tie.Need-loop-again Inv-loop μ-loop Inv-offsets μ-offsets
 loop-again c =
-    let s = c .before .before .before .before .before .before .before .before .before .before .before .before .before .before .before .before .args in
-    let l = c .before .before .before .before .before .before .loop in
-    let at = c .before .before .before .before .before .before .before .before .before .before .offsets .i in
+    let at-loop = c .before .before .before .before .before .before in
+    let at-offsets = at-loop .before .before .before .before in
+    let at-start = at-offsets .before .before .before .before .before .before in
+    let s = at-start .args in
+    let l = at-loop .loop in
+    let at = at-offsets .offsets .i in
     let e : upper (getD (s .text .now) (at + l .j) 0) ≡ upper (getD (s .word .now) (l .j) 0) = sym (c .before .before .before .upper-of .ensures) ∙ (c .if5 .taken ∙ c .before .upper-of2 .ensures) in
     (omega arith, l .inv .1 ∙ next-byte upper (s .word .now) (s .text .now) at (l .j) (omega arith) (omega arith) e)
 
@@ -93,11 +101,14 @@ offsets-less c = search needs
 
 offsets-again : tie.Need-offsets-again Inv-loop μ-loop Inv-offsets μ-offsets
 offsets-again c =
-    let s = c .before .before .before .before .before .before .before .before .before .before .before .before .before .before .before .before .args in
-    let l = c .before .before .before .before .before .before .loop in
-    let at = c .before .before .before .before .before .before .before .before .before .before .offsets .i in
+    let at-loop = c .before .before .before .before .before .before in
+    let at-offsets = at-loop .before .before .before .before in
+    let at-start = at-offsets .before .before .before .before .before .before in
+    let s = at-start .args in
+    let l = at-loop .loop in
+    let at = at-offsets .offsets .i in
     let n : upper (getD (s .text .now) (at + l .j) 0) ≡ upper (getD (s .word .now) (l .j) 0) → ⊥ = λ e. c .if5 .left (c .before .before .before .upper-of .ensures ∙ (e ∙ sym (c .before .upper-of2 .ensures))) in
-    c .before .before .before .before .before .before .before .before .before .before .offsets .inv ∙ key-off (s .text .now) (s .map .now) (s .word .now) at (omega arith)
+    at-offsets .offsets .inv ∙ key-off (s .text .now) (s .map .now) (s .word .now) at (omega arith)
     (l .inv .1 ∙ prefix-miss upper (s .word .now) (s .text .now) (l .j) (at + l .j) (omega arith) (omega arith) n)
 
 offsets-less-2 : tie.Need-offsets-less-2 Inv-loop μ-loop Inv-offsets μ-offsets
@@ -105,12 +116,16 @@ offsets-less-2 c = search needs
 
 offsets-again-2 : tie.Need-offsets-again-2 Inv-loop μ-loop Inv-offsets μ-offsets
 offsets-again-2 c =
-    let s = c .before .before .before .before .before .before .before .before .before .args in
+    let at-if1 = c .before .before .before .before .before in
+    let at-start = at-if1 .before .before .before .before in
+    let s = at-start .args in
     c .before .before .before .offsets .inv ∙ key-edge (s .text .now) (s .map .now) (s .word .now) (c .before .before .before .offsets .i) (omega arith) (sym (c .before .edges-at .ensures) ∙ c .if4 .left)
 
 returns-4 : tie.Need-returns-4 Inv-loop μ-loop Inv-offsets μ-offsets
 returns-4 c =
-    let s = c .before .before .before .before .before .before .before .before .before .before .before .args in
+    let at-if2 = c .before .before .before .before .before .before in
+    let at-start = at-if2 .before .before .before .before .before in
+    let s = at-start .args in
     let l = c .before .loop in
     let at = c .before .before .before .before .before .offsets .i in
     sym (c .before .before .before .before .before .offsets .inv ∙ key-hit (s .text .now) (s .map .now) (s .word .now) at (omega arith) (sym (c .before .before .before .edges-at .ensures) ∙ c .before .before .if4 .taken)

@@ -1,3 +1,5 @@
+-- `scanner::find_str_in` meets its contract. The loop's invariant says that the first place from `from` on is the first
+-- from i on; a turn is a hit, a live byte where the needle does not stand, a quoted byte, or the end. Assumes nothing.
 use native.Mathlib.Omega.{arith}
 use borrow.Author.Needs.{needs}
 use mathlib.Core.Path.{_≡_, refl, sym, _∙_}
@@ -19,11 +21,16 @@ abbrev μ-loop : tie.MeasureT-loop
 μ-loop text map needle from i₀ i = length text - i
 
 -- the test's result, of what stands from i on
-tested : (c : tie.After-starts-with Inv-loop μ-loop) → c .starts-with .result ≡ isPrefix (c .before .before .before .before .before .before .before .before .before .before .args .needle .now) (drop (c .before .before .before .before .before .loop .i) (c .before .before .before .before .before .before .before .before .before .before .args .text .now))
+tested : (c : tie.After-starts-with Inv-loop μ-loop) →
+    let at-loop = c .before .before .before .before .before in
+    let at-start = at-loop .before .before .before .before .before in
+    c .starts-with .result ≡ isPrefix (at-start .args .needle .now) (drop (at-loop .loop .i) (at-start .args .text .now))
 tested c =
-    let xs = c .before .before .before .before .before .before .before .before .before .before .args .text .now in
-    let w = c .before .before .before .before .before .before .before .before .before .before .args .needle .now in
-    let i = c .before .before .before .before .before .loop .i in
+    let at-loop = c .before .before .before .before .before in
+    let at-start = at-loop .before .before .before .before .before in
+    let xs = at-start .args .text .now in
+    let w = at-start .args .needle .now in
+    let i = at-loop .loop .i in
     let h : c .starts-with .result ≡ isPrefix w (take (length xs - i) (drop i xs)) = c .starts-with .ensures in
     rw rest-of at h
 
@@ -50,10 +57,13 @@ starts-with-requires c κs = search needs
 
 returns-2 : tie.Need-returns-2 Inv-loop μ-loop
 returns-2 c =
-    let l = c .before .before .before .before .before .before .loop in
-    sym (nonempty-word (c .before .before .before .before .before .before .before .before .before .before .before .args .needle .now) _ (omega (arith, (c .before .before .before .before .before .before .before .if1 .left)))
+    let at-loop = c .before .before .before .before .before .before in
+    let at-if1 = at-loop .before in
+    let at-start = at-if1 .before .before .before .before in
+    let l = at-loop .loop in
+    sym (nonempty-word (at-start .args .needle .now) _ (omega (arith, (at-if1 .if1 .left)))
     ∙ (l .inv
-    ∙ needle-hit (c .before .before .before .before .before .before .before .before .before .before .before .args .needle .now) (c .before .before .before .before .before .before .before .before .before .before .before .args .text .now) (c .before .before .before .before .before .before .before .before .before .before .before .args .map .now) (l .i) _ (omega arith) (c .before .before .before .before .byte-at .ensures) (c .before .before .before .if2 .taken) (sym (tested (c .before)) ∙ c .if3 .taken)))
+    ∙ needle-hit (at-start .args .needle .now) (at-start .args .text .now) (at-start .args .map .now) (l .i) _ (omega arith) (c .before .before .before .before .byte-at .ensures) (c .before .before .before .if2 .taken) (sym (tested (c .before)) ∙ c .if3 .taken)))
 
 add-i : tie.Need-add-i Inv-loop μ-loop
 add-i c = search needs
@@ -63,9 +73,11 @@ loop-less c = search needs
 
 loop-again : tie.Need-loop-again Inv-loop μ-loop
 loop-again c =
-    let l = c .before .before .before .before .before .before .loop in
+    let at-loop = c .before .before .before .before .before .before in
+    let at-start = at-loop .before .before .before .before .before in
+    let l = at-loop .loop in
     l .inv
-    ∙ needle-miss (c .before .before .before .before .before .before .before .before .before .before .before .args .needle .now) (c .before .before .before .before .before .before .before .before .before .before .before .args .text .now) (c .before .before .before .before .before .before .before .before .before .before .before .args .map .now) (l .i) _ (omega arith) (c .before .before .before .before .byte-at .ensures) (c .before .before .before .if2 .taken) (sym (tested (c .before)) ∙ c .if3 .left)
+    ∙ needle-miss (at-start .args .needle .now) (at-start .args .text .now) (at-start .args .map .now) (l .i) _ (omega arith) (c .before .before .before .before .byte-at .ensures) (c .before .before .before .if2 .taken) (sym (tested (c .before)) ∙ c .if3 .left)
 
 add-i-2 : tie.Need-add-i-2 Inv-loop μ-loop
 add-i-2 c = search needs
@@ -75,9 +87,11 @@ loop-less-2 c = search needs
 
 loop-again-2 : tie.Need-loop-again-2 Inv-loop μ-loop
 loop-again-2 c =
-    let l = c .before .before .before .loop in
+    let at-loop = c .before .before .before in
+    let at-start = at-loop .before .before .before .before .before in
+    let l = at-loop .loop in
     l .inv
-    ∙ needle-dead (c .before .before .before .before .before .before .before .before .args .needle .now) (c .before .before .before .before .before .before .before .before .args .text .now) (c .before .before .before .before .before .before .before .before .args .map .now) (l .i) _ (omega arith) (c .before .byte-at .ensures) (c .if2 .left)
+    ∙ needle-dead (at-start .args .needle .now) (at-start .args .text .now) (at-start .args .map .now) (l .i) _ (omega arith) (c .before .byte-at .ensures) (c .if2 .left)
 
 returns-3 : tie.Need-returns-3 Inv-loop μ-loop
 returns-3 c =

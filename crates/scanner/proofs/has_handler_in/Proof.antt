@@ -1,3 +1,6 @@
+-- `scanner::has_handler_in` meets its contract. The loop's invariant says that a handler stands in the text exactly if
+-- one stands from `from` on: none where no EXCEPTION is found, one where WHEN is the next word, and else one behind the
+-- place found. Assumes nothing.
 use native.Mathlib.Omega.{arith}
 use Rattle.spec.specs.Bytes.{ascii}
 use Rattle.spec.specs.declared.Found.the-variants.{At}
@@ -24,13 +27,21 @@ sought-from : (c : tie.After-find-keyword-in Inv-loop μ-loop) → c .find-keywo
 sought-from c = c .find-keyword-in .ensures ∙ nonempty-word (ascii "EXCEPTION") _ (omega arith)
 
 -- the keyword stands at the place found
-found-at : (c : tie.After-known-told Inv-loop μ-loop) → first keyword (c .before .before .before .before .before .loop .from) (marked (c .before .before .before .before .before .before .before .before .args .text .now) (c .before .before .before .before .before .before .before .before .args .map .now)) ≡ At (c .before .found .given .0 .0)
+found-at : (c : tie.After-known-told Inv-loop μ-loop) →
+    let at-loop = c .before .before .before .before .before in
+    let at-start = at-loop .before .before .before in
+    first keyword (at-loop .loop .from) (marked (at-start .args .text .now) (at-start .args .map .now)) ≡ At (c .before .found .given .0 .0)
 found-at c = sym (sought-from (c .before .before .before)) ∙ c .before .found .given .1
 
 -- and within the text
-found-within : (c : tie.After-known-told Inv-loop μ-loop) → (c .before .before .before .before .before .loop .from ≤ c .before .found .given .0 .0) × (c .before .found .given .0 .0 < length (c .before .before .before .before .before .before .before .before .args .text .now))
+found-within : (c : tie.After-known-told Inv-loop μ-loop) →
+    let at-loop = c .before .before .before .before .before in
+    let at-start = at-loop .before .before .before in
+    (at-loop .loop .from ≤ c .before .found .given .0 .0) × (c .before .found .given .0 .0 < length (at-start .args .text .now))
 found-within c =
-    let a = c .before .before .before .before .before .before .before .before .args in
+    let at-loop = c .before .before .before .before .before in
+    let at-start = at-loop .before .before .before in
+    let a = at-start .args in
     let w = keyword-within (marked (a .text .now) (a .map .now)) _ _ (found-at c) in
     (w .0, omega (arith, w .1, marked-length (a .text .now) (a .map .now)))
 
@@ -51,8 +62,10 @@ enum-told c = search needs
 
 returns : tie.Need-returns Inv-loop μ-loop
 returns c =
-    let a = c .before .before .before .before .before .before .before .args in
-    sym (c .before .before .before .before .loop .inv ∙ ap isFound (handler-none (marked (a .text .now) (a .map .now)) (c .before .before .before .before .loop .from) (sym (sought-from (c .before .before)) ∙ c .enum-told .given .1)))
+    let at-loop = c .before .before .before .before in
+    let at-start = at-loop .before .before .before in
+    let a = at-start .args in
+    sym (at-loop .loop .inv ∙ ap isFound (handler-none (marked (a .text .now) (a .map .now)) (at-loop .loop .from) (sym (sought-from (c .before .before)) ∙ c .enum-told .given .1)))
 
 add-next-is-when : tie.Need-add-next-is-when Inv-loop μ-loop
 add-next-is-when c = omega (arith, found-within c .1)
@@ -62,9 +75,12 @@ next-is-when-requires c κs = search needs
 
 returns-2 : tie.Need-returns-2 Inv-loop μ-loop
 returns-2 c =
-    let a = c .before .before .before .before .before .before .before .before .before .before .args in
-    sym (c .before .before .before .before .before .before .before .loop .inv
-    ∙ ap isFound (handler-hit (marked (a .text .now) (a .map .now)) (c .before .before .before .before .before .before .before .loop .from) _ (found-at (c .before .before)) (sym (c .before .next-is-when .ensures) ∙ c .if1 .taken)))
+    let at-find-keyword-in = c .before .before .before .before .before in
+    let at-loop = at-find-keyword-in .before .before in
+    let at-start = at-loop .before .before .before in
+    let a = at-start .args in
+    sym (at-loop .loop .inv
+    ∙ ap isFound (handler-hit (marked (a .text .now) (a .map .now)) (at-loop .loop .from) _ (found-at (c .before .before)) (sym (c .before .next-is-when .ensures) ∙ c .if1 .taken)))
 
 add-from : tie.Need-add-from Inv-loop μ-loop
 add-from c = omega (arith, found-within (c .before .before) .1)
@@ -74,9 +90,12 @@ loop-less c = let w = found-within (c .before .before) in omega arith
 
 loop-again : tie.Need-loop-again Inv-loop μ-loop
 loop-again c =
-    let a = c .before .before .before .before .before .before .before .before .before .before .args in
-    c .before .before .before .before .before .before .before .loop .inv
-    ∙ ap isFound (handler-miss (marked (a .text .now) (a .map .now)) (c .before .before .before .before .before .before .before .loop .from) _ (found-at (c .before .before)) (sym (c .before .next-is-when .ensures) ∙ c .if1 .left))
+    let at-find-keyword-in = c .before .before .before .before .before in
+    let at-loop = at-find-keyword-in .before .before in
+    let at-start = at-loop .before .before .before in
+    let a = at-start .args in
+    at-loop .loop .inv
+    ∙ ap isFound (handler-miss (marked (a .text .now) (a .map .now)) (at-loop .loop .from) _ (found-at (c .before .before)) (sym (c .before .next-is-when .ensures) ∙ c .if1 .left))
 
 pub has-handler-in-spec : {M : Type 1} → statement M
 has-handler-in-spec =

@@ -1,3 +1,6 @@
+-- `scanner::has_unterminated` meets its contract. The loop's invariant says that the text has an open dollar literal
+-- exactly if the rest behind the cursor has. `turn` says what a step of the cursor takes, `ahead` splits the rest at
+-- its first span. Assumes nothing.
 use mathlib.Core.Bool.{_||_}
 use native.Mathlib.Omega.{arith}
 use borrow.Author.Needs.{needs}
@@ -21,10 +24,15 @@ turn : (c : tie.After-step2 Inv-loop μ-loop) → Stepped (c .before .before .be
 turn c = step-taken _ _ _ (c .step2 .given .0 .1 .0) (sym (c .before .before .step .ensures) ∙ c .step2 .given .1)
 
 -- what is left, by whether its front span is closed
-ahead : (c : tie.After-is-unclosed Inv-loop μ-loop) → hasUnterminatedDollarQuote (c .before .before .before .before .before .before .before .args .text .now) ≡ (c .is-unclosed .result || hasUnterminatedDollarQuote (drop (c .before .before .step2 .given .0 .1 .0 .at) (c .before .before .before .before .before .before .before .args .text .now)))
+ahead : (c : tie.After-is-unclosed Inv-loop μ-loop) →
+    let at-loop = c .before .before .before .before .before in
+    let at-start = at-loop .before .before in
+    hasUnterminatedDollarQuote (at-start .args .text .now) ≡ (c .is-unclosed .result || hasUnterminatedDollarQuote (drop (c .before .before .step2 .given .0 .1 .0 .at) (at-start .args .text .now)))
 ahead c =
-    c .before .before .before .before .before .loop .inv .1
-    ∙ (unclosed-ahead (c .before .before .before .before .before .before .before .args .text .now) (c .before .before .before .before .before .loop .cursor .at) (c .before .before .step2 .given .0 .0) (c .before .before .step2 .given .0 .1 .0 .at) (turn (c .before .before))
+    let at-loop = c .before .before .before .before .before in
+    let at-start = at-loop .before .before in
+    at-loop .loop .inv .1
+    ∙ (unclosed-ahead (at-start .args .text .now) (at-loop .loop .cursor .at) (c .before .before .step2 .given .0 .0) (c .before .before .step2 .given .0 .1 .0 .at) (turn (c .before .before))
     ∙ rw (c .is-unclosed .ensures))
 
 loop-holds : tie.Need-loop-holds Inv-loop μ-loop

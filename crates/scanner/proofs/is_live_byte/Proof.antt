@@ -1,3 +1,5 @@
+-- `scanner::is_live_byte` meets its contract. `mark-live-byte` turns the definition into the two tests of the code.
+-- Assumes nothing.
 use borrow.Author.Tests.{eq-eqb, ne-eqb}
 use mathlib.Core.Path.{sym, _∙_}
 use Rattle.spec.proofs.WalkLaws.{mark-live-byte}

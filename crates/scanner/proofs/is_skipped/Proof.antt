@@ -1,3 +1,5 @@
+-- `scanner::is_skipped` meets its contract. `mark-skipped` turns the definition into the test on the map's byte and
+-- `is_n`. Assumes nothing.
 use borrow.Author.Needs.{needs}
 use borrow.Author.Tests.{eq-eqb, ne-eqb}
 use mathlib.Core.Path.{sym, _∙_}

@@ -1,3 +1,5 @@
+-- `scanner::is_word_mark` meets its contract. `mark-word` turns the definition into the test on the map's byte and
+-- `is_word_byte`. Assumes nothing.
 use borrow.Author.Needs.{needs}
 use borrow.Author.Tests.{eq-eqb, ne-eqb}
 use mathlib.Core.Path.{sym, _∙_}

@@ -1,3 +1,6 @@
+-- `scanner::map_text` meets its contract. The loop's invariant says that storing the map of the rest behind the cursor
+-- gives what storing the whole map at 0 would have given. `turn` says what a step of the cursor takes, `map-turn` that
+-- its flags are the map's. Assumes nothing.
 use native.Mathlib.Omega.{arith}
 use borrow.Author.Needs.{needs}
 use mathlib.Core.Path.{_≡_, refl, sym, _∙_}
@@ -54,12 +57,16 @@ loop-less c = omega (arith, turn (c .before .before .before .before .before .bef
 
 loop-again : tie.Need-loop-again Inv-loop μ-loop
 loop-again c =
-    let l = c .before .before .before .before .before .before .before .before .before .loop in
-    let xs = c .before .before .before .before .before .before .before .before .before .before .before .before .args .text .now in
-    let s = c .before .before .before .before .before .before .step2 .given .0 .0 in
-    let to = c .before .before .before .before .before .before .step2 .given .0 .1 .0 .at in
-    let stored : c .before .before .mark-span .last .0 ≡ sets (l .map) (l .cursor .at) (replicate (to - l .cursor .at) (spanFlag s)) = rw (← c .before .before .before .span-flag .ensures) (c .before .before .mark-span .ensures) in
-    (turn (c .before .before .before .before .before .before) .within, c .before .before .mark-span .kept .0 ∙ l .inv .1, l .inv .2 ∙ map-turn xs (l .cursor .at) s to (turn (c .before .before .before .before .before .before)) (l .map) (c .before .before .mark-span .last .0) stored)
+    let at-span-flag = c .before .before .before in
+    let at-step2 = at-span-flag .before .before .before in
+    let at-loop = at-step2 .before .before .before in
+    let at-start = at-loop .before .before .before in
+    let l = at-loop .loop in
+    let xs = at-start .args .text .now in
+    let s = at-step2 .step2 .given .0 .0 in
+    let to = at-step2 .step2 .given .0 .1 .0 .at in
+    let stored : c .before .before .mark-span .last .0 ≡ sets (l .map) (l .cursor .at) (replicate (to - l .cursor .at) (spanFlag s)) = rw (← at-span-flag .span-flag .ensures) (c .before .before .mark-span .ensures) in
+    (turn at-step2 .within, c .before .before .mark-span .kept .0 ∙ l .inv .1, l .inv .2 ∙ map-turn xs (l .cursor .at) s to (turn at-step2) (l .map) (c .before .before .mark-span .last .0) stored)
 
 pub map-text-spec : {M : Type 1} → statement M
 map-text-spec =

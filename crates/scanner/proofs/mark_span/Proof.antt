@@ -1,3 +1,5 @@
+-- `scanner::mark_span` meets its contract. A span of one byte is one store; any other is left to `fill`, which ensures
+-- the same. Assumes nothing.
 use mathlib.Core.Path.{_≡_, refl}
 use Prim.Native.Nat.{_-_}
 use native.Mathlib.Omega.{arith}

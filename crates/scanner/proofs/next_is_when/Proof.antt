@@ -1,3 +1,5 @@
+-- `scanner::next_is_when` meets its contract. `word_start` and `word_end` bound the next word: `word-hit` is the case
+-- that it has four bytes, which are then compared, `word-miss` the case that it has not. Assumes nothing.
 use native.Mathlib.Omega.{arith}
 use mathlib.Core.Path.{sym, _∙_}
 use Rattle.spec.specs.Bytes.{ascii}
@@ -34,9 +36,13 @@ starts-ignoring-case-requires c κs = search needs
 
 returns : tie.Need-returns
 returns c =
-    let a = c .before .before .before .before .before .before .before .before .args in
+    let at-if1 = c .before .before .before in
+    let at-word-end = at-if1 .before in
+    let at-word-start = at-word-end .before in
+    let at-start = at-word-start .before .before .before in
+    let a = at-start .args in
     c .starts-ignoring-case .ensures
-    ∙ sym (word-hit (a .text .now) (a .map .now) (a .from) _ _ (c .before .before .before .before .before .word-start .ensures) (c .before .before .before .before .word-end .ensures) (ascii "WHEN") (c .before .before .before .if1 .taken))
+    ∙ sym (word-hit (a .text .now) (a .map .now) (a .from) _ _ (at-word-start .word-start .ensures) (at-word-end .word-end .ensures) (ascii "WHEN") (at-if1 .if1 .taken))
 
 returns-2 : tie.Need-returns-2
 returns-2 c =

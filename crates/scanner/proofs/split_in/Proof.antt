@@ -1,3 +1,6 @@
+-- `scanner::split_in` meets its contract. The loop's invariant says that the n starts stored and those still to come
+-- from i on are all of them, in count and in stores, and that n is at most i + 1, so that `starts` has room. Assumes
+-- nothing.
 use native.Mathlib.Omega.{arith}
 use borrow.Author.Needs.{needs}
 use mathlib.Core.Path.{_≡_, refl, sym, ap, _∙_}
@@ -47,7 +50,10 @@ mul-starts : tie.Need-mul-starts Inv-loop μ-loop
 mul-starts c = search needs
 
 slice-write-starts-2 : tie.Need-slice-write-starts-2 Inv-loop μ-loop
-slice-write-starts-2 c = omega (arith, length-set (c .before .before .before .before .before .before .before .before .before .args .starts .now) 0 0)
+slice-write-starts-2 c =
+    let at-loop = c .before .before .before .before .before in
+    let at-start = at-loop .before .before .before .before in
+    omega (arith, length-set (at-start .args .starts .now) 0 0)
 
 add-n : tie.Need-add-n Inv-loop μ-loop
 add-n c = search needs
@@ -57,8 +63,10 @@ loop-less c = search needs
 
 loop-again : tie.Need-loop-again Inv-loop μ-loop
 loop-again c =
-    let l = c .before .before .before .before .before .loop in
-    let a = c .before .before .before .before .before .before .before .before .before .args in
+    let at-loop = c .before .before .before .before .before in
+    let at-start = at-loop .before .before .before .before in
+    let l = at-loop .loop in
+    let a = at-start .args in
     let q = sym (c .before .is-live-byte .ensures) ∙ c .if1 .taken in
     let e = c .before .before .before .byte-at .ensures in (
       omega arith,
@@ -76,8 +84,10 @@ loop-less-2 c = search needs
 
 loop-again-2 : tie.Need-loop-again-2 Inv-loop μ-loop
 loop-again-2 c =
-    let l = c .before .before .before .before .before .loop in
-    let a = c .before .before .before .before .before .before .before .before .before .args in
+    let at-loop = c .before .before .before .before .before in
+    let at-start = at-loop .before .before .before .before in
+    let l = at-loop .loop in
+    let a = at-start .args in
     let s = starts-miss (a .text .now) (a .map .now) (a .separator) (l .i) _ (omega arith) (c .before .before .before .byte-at .ensures) (sym (c .before .is-live-byte .ensures) ∙ c .if1 .left) in (
       omega arith,
       l .inv .1,

@@ -1,3 +1,5 @@
+-- `scanner::starts_ignoring_case` meets its contract. The loop's invariant says that the word is a prefix exactly if
+-- its rest from i on is one of the text from i on, bytes compared in capitals. Assumes nothing.
 use native.Mathlib.Omega.{arith}
 use borrow.Author.Needs.{needs}
 use mathlib.Core.Path.{_≡_, sym, _∙_, refl}
@@ -37,18 +39,24 @@ loop-less c = search needs
 
 loop-again : tie.Need-loop-again Inv-loop μ-loop
 loop-again c =
-    let l = c .before .before .before .before .before .before .before .loop in (
+    let at-loop-test = c .before .before .before .before .before .before in
+    let at-loop = at-loop-test .before in
+    let at-start = at-loop .before .before .before in
+    let l = at-loop .loop in (
       omega arith,
       l .inv .1
-          ∙ prefix-hit upper (c .before .before .before .before .before .before .before .before .before .before .args .word .now) (c .before .before .before .before .before .before .before .before .before .before .args .text .now) (l .i) (l .i) (omega arith) (omega arith)
+          ∙ prefix-hit upper (at-start .args .word .now) (at-start .args .text .now) (l .i) (l .i) (omega arith) (omega arith)
           (sym (c .before .before .before .upper-of .ensures) ∙ (c .if2 .taken ∙ c .before .upper-of2 .ensures)),
     )
 
 returns : tie.Need-returns Inv-loop μ-loop
 returns c =
-    let l = c .before .before .before .before .before .before .before .loop in
+    let at-loop-test = c .before .before .before .before .before .before in
+    let at-loop = at-loop-test .before in
+    let at-start = at-loop .before .before .before in
+    let l = at-loop .loop in
     sym (l .inv .1
-    ∙ prefix-miss upper (c .before .before .before .before .before .before .before .before .before .before .args .word .now) (c .before .before .before .before .before .before .before .before .before .before .args .text .now) (l .i) (l .i) (omega arith) (omega arith)
+    ∙ prefix-miss upper (at-start .args .word .now) (at-start .args .text .now) (l .i) (l .i) (omega arith) (omega arith)
     (λ e. c .if2 .left (c .before .before .before .upper-of .ensures ∙ (e ∙ sym (c .before .upper-of2 .ensures)))))
 
 returns-2 : tie.Need-returns-2 Inv-loop μ-loop

@@ -1,3 +1,5 @@
+-- `searches::filled_answer` meets its contract. `filledAnswer` computes once the case of the check is known. Assumes
+-- nothing.
 use mathlib.Core.Path.{refl, sym}
 use borrow.Author.Needs.{needs}
 use Rattle.searches.proofs.filled_answer.Statement.{statement}

@@ -1,3 +1,6 @@
+-- `searches::find_str_in_code` meets its contract. Where the checks have passed, the map that they leave marks the text
+-- as `markedText` does, so that `find_str_in` answers for the text itself; where they refuse, so does the definition.
+-- Assumes nothing.
 use mathlib.Core.Path.{_≡_, refl, sym, ap, _∙_}
 use mathlib.Core.List.{[]}
 use Rattle.spec.specs.Answers.{mapCheck, needleAnswer, searchAnswer, yesNo}
@@ -9,7 +12,10 @@ use Rattle.searches.proofs.find_str_in_code.Statement.{statement}
 use Rattle.searches.proofs.find_str_in_code.Tie as tie
 
 -- the checks have passed
-passed : (c : tie.After-enum-told) → mapCheck (c .before .before .before .before .before .before .before .before .before .args .text .now) (c .before .before .before .before .before .before .before .before .before .args .map .now) (c .before .before .before .before .before .before .before .before .before .args .needle .now) ≡ Passed
+passed : (c : tie.After-enum-told) →
+    let at-map-checked = c .before .before .before .before in
+    let at-start = at-map-checked .before .before .before .before .before in
+    mapCheck (at-start .args .text .now) (at-start .args .map .now) (at-start .args .needle .now) ≡ Passed
 passed c = sym (c .before .before .before .before .map-checked .ensures .0) ∙ c .enum-told .given .1
 
 map-checked-requires : tie.Need-map-checked-requires
@@ -33,9 +39,12 @@ same-length c = search needs
 returns : tie.Need-returns
 unfolding needleAnswer findStrInCode
 returns c =
-    let s = c .before .before .before .before .before .before .before .before .before .before .before .before .args in
-    let m = passed-marks (s .text .now) (s .map .now) (s .needle .now) (passed (c .before .before .before)) (c .before .before .before .before .before .before .before .map-checked .last .1 .0) (c .before .before .before .before .before .before .before .map-checked .ensures .1) in
-    (c .found-answer .ensures ∙ rw (passed (c .before .before .before), ← m) (ap (λ k. searchAnswer Passed k) (c .before .find-str-in .ensures)), c .before .before .before .before .before .before .before .map-checked .ensures .1)
+    let at-enum-told = c .before .before .before in
+    let at-map-checked = at-enum-told .before .before .before .before in
+    let at-start = at-map-checked .before .before .before .before .before in
+    let s = at-start .args in
+    let m = passed-marks (s .text .now) (s .map .now) (s .needle .now) (passed at-enum-told) (at-map-checked .map-checked .last .1 .0) (at-map-checked .map-checked .ensures .1) in
+    (c .found-answer .ensures ∙ rw (passed at-enum-told, ← m) (ap (λ k. searchAnswer Passed k) (c .before .find-str-in .ensures)), at-map-checked .map-checked .ensures .1)
 
 same-length-2 : tie.Need-same-length-2
 same-length-2 c = search needs

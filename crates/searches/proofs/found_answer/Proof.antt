@@ -1,3 +1,4 @@
+-- `searches::found_answer` meets its contract. `searchAnswer` computes once the case is known. Assumes nothing.
 use mathlib.Core.Path.{refl, sym}
 use borrow.Author.Needs.{needs}
 use Rattle.searches.proofs.found_answer.Statement.{statement}

@@ -1,3 +1,5 @@
+-- `searches::map_checked` meets its contract. `map-fits` and `map-short` say what `mapCheck` is by the lengths of text
+-- and map; the map is changed only where the check has passed. Assumes nothing.
 use mathlib.Core.Path.{_≡_, refl, sym, ap, _∙_}
 use Rattle.spec.specs.Answers.{mapExit}
 use Rattle.spec.specs.declared.Check.the-variants.{Passed}
@@ -18,8 +20,10 @@ enum-told-2 c = search needs
 returns : tie.Need-returns
 unfolding mapExit
 returns c =
-    let s = c .before .before .before .before .before .before .before .args in
-    let k = c .before .before .check-texts .ensures ∙ sym (map-fits (s .text .now) (s .map .now) (s .needle .now) (c .before .before .before .if1 .taken)) in
+    let at-if1 = c .before .before .before in
+    let at-start = at-if1 .before .before .before .before in
+    let s = at-start .args in
+    let k = c .before .before .check-texts .ensures ∙ sym (map-fits (s .text .now) (s .map .now) (s .needle .now) (at-if1 .if1 .taken)) in
     (k, sym (refused-exit _ _ _ _ (sym k ∙ c .enum-told2 .given .1)))
 
 map-text-requires : tie.Need-map-text-requires
@@ -33,8 +37,12 @@ same-length c = search needs
 
 returns-2 : tie.Need-returns-2
 returns-2 c =
-    let s = c .before .before .before .before .before .before .before .before .before .before .before .args in
-    let k = sym (c .before .before .before .before .before .before .check-texts .ensures ∙ sym (map-fits (s .text .now) (s .map .now) (s .needle .now) (c .before .before .before .before .before .before .before .if1 .taken))) ∙ c .before .before .before .before .enum-told .given .1 in
+    let at-enum-told = c .before .before .before .before in
+    let at-check-texts = at-enum-told .before .before in
+    let at-if1 = at-check-texts .before in
+    let at-start = at-if1 .before .before .before .before in
+    let s = at-start .args in
+    let k = sym (at-check-texts .check-texts .ensures ∙ sym (map-fits (s .text .now) (s .map .now) (s .needle .now) (at-if1 .if1 .taken))) ∙ at-enum-told .enum-told .given .1 in
     (sym k, c .before .before .map-text .ensures ∙ sym (passed-map (s .text .now) (s .map .now) (s .needle .now) k))
 
 returns-3 : tie.Need-returns-3

@@ -1,3 +1,6 @@
+-- `searches::requote_dollar_literals` meets its contract. `requote-long`, `requote-short` and `requote-fits` say what
+-- the check is by the two lengths; where it has passed, the output holds what `requote` stores, which fits by
+-- `requoted-length`. Assumes nothing.
 use native.Mathlib.Omega.{arith}
 use mathlib.Core.Path.{_≡_, refl, sym, ap, _∙_}
 use Prim.Native.Nat.{_*_, _≤_}
@@ -47,16 +50,22 @@ same-length c = search needs
 returns-3 : tie.Need-returns-3
 unfolding requoteAnswer requoteExit
 returns-3 c =
-    let s = c .before .before .before .before .before .before .before .before .before .before .before .before .args in
-    let e = requote-fits (s .text .now) (s .output .now) (c .before .before .before .before .before .before .before .before .if2 .left) ∙ (sym (c .before .before .before .before .before .before .check-texts .ensures) ∙ c .before .before .before .before .enum-told .given .1) in
+    let at-check-texts = c .before .before .before .before .before .before in
+    let at-if2 = at-check-texts .before .before in
+    let at-start = at-if2 .before .before .before .before in
+    let s = at-start .args in
+    let e = requote-fits (s .text .now) (s .output .now) (at-if2 .if2 .left) ∙ (sym (at-check-texts .check-texts .ensures) ∙ c .before .before .before .before .enum-told .given .1) in
     let q = c .before .before .requote in
-    (rw e (ap (λ n. filledAnswer Passed n) (q .ensures .0)), rw e (q .ensures .1 ∙ sets-front (s .output .now) (requoted (s .text .now)) (omega (arith, requoted-length (s .text .now), c .before .before .before .before .before .before .before .before .if2 .left))))
+    (rw e (ap (λ n. filledAnswer Passed n) (q .ensures .0)), rw e (q .ensures .1 ∙ sets-front (s .output .now) (requoted (s .text .now)) (omega (arith, requoted-length (s .text .now), at-if2 .if2 .left))))
 
 returns-4 : tie.Need-returns-4
 unfolding requoteAnswer requoteExit
 returns-4 c =
-    let s = c .before .before .before .before .before .before .before .before .before .args in
-    let e = requote-fits (s .text .now) (s .output .now) (c .before .before .before .before .before .if2 .left) ∙ (sym (c .before .before .before .check-texts .ensures) ∙ c .before .check .given .1) in
+    let at-check-texts = c .before .before .before in
+    let at-if2 = at-check-texts .before .before in
+    let at-start = at-if2 .before .before .before .before in
+    let s = at-start .args in
+    let e = requote-fits (s .text .now) (s .output .now) (at-if2 .if2 .left) ∙ (sym (at-check-texts .check-texts .ensures) ∙ c .before .check .given .1) in
     (rw e refl, rw e refl)
 
 pub requote-dollar-literals-spec : {M : Type 1} → statement M

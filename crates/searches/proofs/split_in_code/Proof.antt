@@ -1,3 +1,6 @@
+-- `searches::split_in_code` meets its contract. `split-short-map`, `split-short-starts` and `split-fits` say what the
+-- check is by the three lengths; where it has passed (`passed`), map and starts are what `map_text` and `split_in`
+-- leave. Assumes nothing.
 use Rattle.spec.proofs.WalkLaws.{marked-kept}
 use mathlib.Core.Path.{_≡_, refl, sym, ap, _∙_}
 use mathlib.Core.List.{[]}
@@ -12,8 +15,15 @@ use Rattle.searches.proofs.split_in_code.Statement.{statement}
 use Rattle.searches.proofs.split_in_code.Tie as tie
 
 -- both buffers are long enough and the checks have passed
-passed : (c : tie.After-enum-told) → splitCheck (c .before .before .before .before .before .before .before .before .before .args .text .now) (c .before .before .before .before .before .before .before .before .before .args .map .now) (c .before .before .before .before .before .before .before .before .before .args .starts .now) ≡ Passed
-passed c = split-fits (c .before .before .before .before .before .before .before .before .before .args .text .now) (c .before .before .before .before .before .before .before .before .before .args .map .now) (c .before .before .before .before .before .before .before .before .before .args .starts .now) (c .before .before .before .before .before .if1 .left) (c .before .before .before .before .if2 .left) ∙ (sym (c .before .before .check-texts3 .ensures) ∙ c .enum-told .given .1)
+passed : (c : tie.After-enum-told) →
+    let at-if1 = c .before .before .before .before .before in
+    let at-start = at-if1 .before .before .before .before in
+    splitCheck (at-start .args .text .now) (at-start .args .map .now) (at-start .args .starts .now) ≡ Passed
+passed c =
+    let at-if2 = c .before .before .before .before in
+    let at-if1 = at-if2 .before in
+    let at-start = at-if1 .before .before .before .before in
+    split-fits (at-start .args .text .now) (at-start .args .map .now) (at-start .args .starts .now) (at-if1 .if1 .left) (at-if2 .if2 .left) ∙ (sym (c .before .before .check-texts3 .ensures) ∙ c .enum-told .given .1)
 
 slice-aggregate-check-texts : tie.Need-slice-aggregate-check-texts
 slice-aggregate-check-texts c = search needs
@@ -27,8 +37,10 @@ filled-answer-requires c κs = search needs
 returns : tie.Need-returns
 unfolding splitAnswer splitMapExit splitExit
 returns c =
-    let s = c .before .before .before .before .before .before .before .args in
-    let e = split-short-map (s .text .now) (s .map .now) (s .starts .now) (c .before .before .before .if1 .taken) in
+    let at-if1 = c .before .before .before in
+    let at-start = at-if1 .before .before .before .before in
+    let s = at-start .args in
+    let e = split-short-map (s .text .now) (s .map .now) (s .starts .now) (at-if1 .if1 .taken) in
     (c .filled-answer .ensures ∙ rw (e, c .before .check-texts .ensures) (refused-count 65536 (s .text .now) 0 _), (rw e (sym (short-exit 65536 (s .text .now) [] _ _)), rw e (sym (short-exit 65536 (s .text .now) [] _ _))))
 
 slice-aggregate-check-texts-2 : tie.Need-slice-aggregate-check-texts-2
@@ -43,8 +55,11 @@ filled-answer-requires-2 c κs = search needs
 returns-2 : tie.Need-returns-2
 unfolding splitAnswer splitMapExit splitExit
 returns-2 c =
-    let s = c .before .before .before .before .before .before .before .before .args in
-    let e = split-short-starts (s .text .now) (s .map .now) (s .starts .now) (c .before .before .before .before .if1 .left) (c .before .before .before .if2 .taken) in
+    let at-if2 = c .before .before .before in
+    let at-if1 = at-if2 .before in
+    let at-start = at-if1 .before .before .before .before in
+    let s = at-start .args in
+    let e = split-short-starts (s .text .now) (s .map .now) (s .starts .now) (at-if1 .if1 .left) (at-if2 .if2 .taken) in
     (c .filled-answer2 .ensures ∙ rw (e, c .before .check-texts2 .ensures) (refused-count 65536 (s .text .now) 0 _), (rw e (sym (short-exit 65536 (s .text .now) [] _ _)), rw e (sym (short-exit 65536 (s .text .now) [] _ _))))
 
 slice-aggregate-check-texts-3 : tie.Need-slice-aggregate-check-texts-3
@@ -63,7 +78,12 @@ map-text-requires : tie.Need-map-text-requires
 map-text-requires c κs = search needs
 
 split-in-requires : tie.Need-split-in-requires
-split-in-requires c κs = (passed-fits 65536 _ (c .before .before .before .before .before .before .before .before .before .before .before .before .before .before .before .args .text .now) [] (sym (c .before .before .before .before .before .before .before .before .check-texts3 .ensures) ∙ c .before .before .before .before .before .before .enum-told .given .1), c .before .before .before .before .before .before .before .before .before .before .if2 .left)
+split-in-requires c κs =
+    let at-enum-told = c .before .before .before .before .before .before in
+    let at-check-texts3 = at-enum-told .before .before in
+    let at-if2 = at-check-texts3 .before .before in
+    let at-start = at-if2 .before .before .before .before .before in
+    (passed-fits 65536 _ (at-start .args .text .now) [] (sym (at-check-texts3 .check-texts3 .ensures) ∙ at-enum-told .enum-told .given .1), at-if2 .if2 .left)
 
 same-length : tie.Need-same-length
 same-length c = search needs
@@ -74,17 +94,26 @@ same-length-2 c = search needs
 returns-3 : tie.Need-returns-3
 unfolding splitAnswer splitMapExit splitExit splitInCode
 returns-3 c =
-    let s = c .before .before .before .before .before .before .before .before .before .before .before .before .before .before .before .before .before .before .args in
-    let e = passed (c .before .before .before .before .before .before .before .before .before) in
+    let at-map = c .before .before .before .before .before .before in
+    let at-map-text = at-map .before in
+    let at-enum-told = at-map-text .before .before in
+    let at-if1 = at-enum-told .before .before .before .before .before in
+    let at-start = at-if1 .before .before .before .before in
+    let s = at-start .args in
+    let e = passed at-enum-told in
     let q = c .before .before .split-in in
-    let m = ap (λ l. marked (s .text .now) l) (c .before .before .before .before .before .before .before .map-text .ensures) ∙ marked-kept (s .text .now) (s .map .now) in
-    (rw (e, ← m) (ap (λ n. filledAnswer Passed n) (q .ensures .0)), (rw e (c .before .before .before .before .before .before .before .map-text .ensures), rw (e, ← m) (q .ensures .1)))
+    let m = ap (λ l. marked (s .text .now) l) (at-map-text .map-text .ensures) ∙ marked-kept (s .text .now) (s .map .now) in
+    (rw (e, ← m) (ap (λ n. filledAnswer Passed n) (q .ensures .0)), (rw e (at-map-text .map-text .ensures), rw (e, ← m) (q .ensures .1)))
 
 returns-4 : tie.Need-returns-4
 unfolding splitAnswer splitMapExit splitExit
 returns-4 c =
-    let s = c .before .before .before .before .before .before .before .before .before .before .args in
-    let e = split-fits (s .text .now) (s .map .now) (s .starts .now) (c .before .before .before .before .before .before .if1 .left) (c .before .before .before .before .before .if2 .left) ∙ (sym (c .before .before .before .check-texts3 .ensures) ∙ c .before .check .given .1) in
+    let at-check-texts3 = c .before .before .before in
+    let at-if2 = at-check-texts3 .before .before in
+    let at-if1 = at-if2 .before in
+    let at-start = at-if1 .before .before .before .before in
+    let s = at-start .args in
+    let e = split-fits (s .text .now) (s .map .now) (s .starts .now) (at-if1 .if1 .left) (at-if2 .if2 .left) ∙ (sym (at-check-texts3 .check-texts3 .ensures) ∙ c .before .check .given .1) in
     (rw e refl, (rw e refl, rw e refl))
 
 pub split-in-code-spec : {M : Type 1} → statement M

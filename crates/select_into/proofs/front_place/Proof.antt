@@ -1,3 +1,5 @@
+-- `select_into::front_place` meets its contract. `frontPlace` computes once it is known what was found, for a place to
+-- what `lesser` ensures. Assumes nothing.
 use native.Mathlib.Omega.{arith}
 use mathlib.Core.Path.{refl}
 use Rattle.spec.specs.SelectInto.{frontPlace}

@@ -1,3 +1,4 @@
+-- `select_into::lesser` meets its contract. The test decides the definition's `cond`. Assumes nothing.
 use Prim.Native.Nat.{_≤_}
 use native.Mathlib.Omega.{arith}
 use mathlib.Core.Path.{refl}

@@ -1,3 +1,5 @@
+-- `select_into::put_into` meets its contract: that of `put_cut`, with the FROM that the search found, which is within
+-- the text. Assumes nothing.
 use native.Mathlib.Omega.{arith}
 use mathlib.Core.Path.{ap, _∙_}
 use Rattle.spec.specs.Bytes.{ascii}
@@ -39,10 +41,12 @@ same-length c = search needs
 returns : tie.Need-returns
 unfolding intoAt
 returns c =
-    let a = c .before .before .before .before .before .before .before .before .before .args in
+    let at-find-top-keyword = c .before .before .before .before in
+    let at-start = at-find-top-keyword .before .before .before .before .before in
+    let a = at-start .args in
     let p = c .before .before .put-cut in
     puts-same (a .out .now) _ _ (p .last .0) (a .n) (p .result)
-    (ap (λ f. bytes (selectCut (a .s) (a .i) f (marked (a .text .now) (a .map .now)))) (c .before .before .before .before .find-top-keyword .ensures ∙ nonempty-word (ascii "FROM") _ (omega arith)))
+    (ap (λ f. bytes (selectCut (a .s) (a .i) f (marked (a .text .now) (a .map .now)))) (at-find-top-keyword .find-top-keyword .ensures ∙ nonempty-word (ascii "FROM") _ (omega arith)))
     (p .ensures)
 
 pub put-into-spec : {M : Type 1} → statement M

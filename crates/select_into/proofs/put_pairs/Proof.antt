@@ -1,3 +1,6 @@
+-- `select_into::put_pairs` meets its contract. `stored-puts` joins the text in front with the lines that
+-- `put_set_lines` puts; `shared-same` says that the parts that the lines share are those of the definition. Assumes
+-- nothing.
 use native.Mathlib.Omega.{arith}
 use mathlib.Core.Path.{sym, ap}
 use Prim.Native.Nat.{_+_, _-_, _≤_}

@@ -1,3 +1,6 @@
+-- `select_into::transform_select_into` meets its contract. The loop's invariant `Going` says that, up to 65536 bytes,
+-- what is stored and the rewritten statements from `from` on make up the rewritten text; past that the result is too
+-- long whatever follows. `sought` and `within` place the next `;`. Assumes nothing.
 use native.Mathlib.Omega.{arith}
 use borrow.Author.Needs.{needs}
 use mathlib.Core.Path.{_≡_, refl, sym, ap, _∙_}
@@ -27,12 +30,21 @@ abbrev μ-loop : tie.MeasureT-loop
 μ-loop text map out₀ n₀ from₀ out n from = length text - from
 
 -- the `;` that was found
-sought : (c : tie.After-known-told Inv-loop μ-loop) → first (byteHere 59) (c .before .before .before .before .before .loop .from) (marked (c .before .before .before .before .before .before .before .before .before .args .text .now) (c .before .before .before .before .before .before .before .before .before .args .map .now)) ≡ At (c .before .found .given .0 .0)
+sought : (c : tie.After-known-told Inv-loop μ-loop) →
+    let at-loop = c .before .before .before .before .before in
+    let at-start = at-loop .before .before .before .before in
+    first (byteHere 59) (at-loop .loop .from) (marked (at-start .args .text .now) (at-start .args .map .now)) ≡ At (c .before .found .given .0 .0)
 sought c = sym (c .before .before .before .find-byte-in .ensures) ∙ c .before .found .given .1
 
 -- it stands within the text
-within : (c : tie.After-known-told Inv-loop μ-loop) → (c .before .before .before .before .before .loop .from ≤ c .before .found .given .0 .0) × (c .before .found .given .0 .0 < length (c .before .before .before .before .before .before .before .before .before .args .text .now))
-within c = statement-within (c .before .before .before .before .before .before .before .before .before .args .text .now) (c .before .before .before .before .before .before .before .before .before .args .map .now) _ _ (sought c)
+within : (c : tie.After-known-told Inv-loop μ-loop) →
+    let at-loop = c .before .before .before .before .before in
+    let at-start = at-loop .before .before .before .before in
+    (at-loop .loop .from ≤ c .before .found .given .0 .0) × (c .before .found .given .0 .0 < length (at-start .args .text .now))
+within c =
+    let at-loop = c .before .before .before .before .before in
+    let at-start = at-loop .before .before .before .before in
+    statement-within (at-start .args .text .now) (at-start .args .map .now) _ _ (sought c)
 
 loop-holds : tie.Need-loop-holds Inv-loop μ-loop
 loop-holds c =
@@ -75,19 +87,30 @@ part-put-text-end : tie.Need-part-put-text-end Inv-loop μ-loop
 part-put-text-end c = omega (arith, c .before .before .before .before .before .loop .inv .0)
 
 put-text-requires : tie.Need-put-text-requires Inv-loop μ-loop
-put-text-requires c κs = omega (arith, c .before .before .before .before .before .before .before .before .before .before .pre .0, c .before .before .before .before .before .before .loop .inv .2, part-short (length (c .before .before .before .before .before .before .before .before .before .before .args .text .now) - c .before .before .before .before .before .before .loop .from) (c .before .before .before .before .before .before .loop .from) (c .before .before .before .before .before .before .before .before .before .before .args .text .now))
+put-text-requires c κs =
+    let at-loop = c .before .before .before .before .before .before in
+    let at-start = at-loop .before .before .before .before in
+    omega (arith, at-start .pre .0, at-loop .loop .inv .2, part-short (length (at-start .args .text .now) - at-loop .loop .from) (at-loop .loop .from) (at-start .args .text .now))
 
 same-length-2 : tie.Need-same-length-2 Inv-loop μ-loop
-same-length-2 c = c .before .before .put-text .kept .0 ∙ c .before .before .before .before .before .before .before .before .before .loop .inv .1
+same-length-2 c =
+    let at-match = c .before .before .before .before .before .before in
+    let at-loop = at-match .before .before .before in
+    c .before .before .put-text .kept .0 ∙ at-loop .loop .inv .1
 
 returns-2 : tie.Need-returns-2 Inv-loop μ-loop
 returns-2 c =
-    let a = c .before .before .before .before .before .before .before .before .before .before .before .before .before .args in
-    let l = c .before .before .before .before .before .before .before .before .before .loop in
-    let p = c .before .before .put-text in
-    let e = selects-last (a .text .now) (a .map .now) (l .from) (sym (c .before .before .before .before .before .before .before .find-byte-in .ensures) ∙ c .before .before .before .before .before .enum-told .given .1) in
+    let at-put-text = c .before .before in
+    let at-find-byte-in = at-put-text .before .before .before .before .before in
+    let at-if1 = at-find-byte-in .before in
+    let at-loop = at-if1 .before in
+    let at-start = at-loop .before .before .before .before in
+    let a = at-start .args in
+    let l = at-loop .loop in
+    let p = at-put-text .put-text in
+    let e = selects-last (a .text .now) (a .map .now) (l .from) (sym (at-find-byte-in .find-byte-in .ensures) ∙ c .before .before .before .before .before .enum-told .given .1) in
     puts-front (a .out .now) _ (p .last .0) (p .result)
-    (left-puts (a .out .now) _ (l .out) (p .last .0) 0 (l .n) (p .result) _ (l .inv .3 .within (omega (arith, c .before .before .before .before .before .before .before .before .if1 .left)))
+    (left-puts (a .out .now) _ (l .out) (p .last .0) 0 (l .n) (p .result) _ (l .inv .3 .within (omega (arith, at-if1 .if1 .left)))
     (puts-same (l .out) _ _ (p .last .0) (l .n) (p .result) (rest-of (a .text .now) (l .from) ∙ sym e) (p .ensures)))
 
 add-end : tie.Need-add-end Inv-loop μ-loop
@@ -103,21 +126,33 @@ part-put-statement-end : tie.Need-part-put-statement-end Inv-loop μ-loop
 part-put-statement-end c = omega (arith, within (c .before))
 
 sub-put-statement-2 : tie.Need-sub-put-statement-2 Inv-loop μ-loop
-sub-put-statement-2 c = omega (arith, within (c .before .before), c .before .before .before .before .before .before .before .before .before .before .before .pre .1)
+sub-put-statement-2 c =
+    let at-if1 = c .before .before .before .before .before .before in
+    let at-start = at-if1 .before .before .before .before .before in
+    omega (arith, within (c .before .before), at-start .pre .1)
 
 part-put-statement-start-2 : tie.Need-part-put-statement-start-2 Inv-loop μ-loop
-part-put-statement-start-2 c = omega (arith, within (c .before .before), c .before .before .before .before .before .before .before .before .before .before .before .pre .1)
+part-put-statement-start-2 c =
+    let at-if1 = c .before .before .before .before .before .before in
+    let at-start = at-if1 .before .before .before .before .before in
+    omega (arith, within (c .before .before), at-start .pre .1)
 
 part-put-statement-end-2 : tie.Need-part-put-statement-end-2 Inv-loop μ-loop
-part-put-statement-end-2 c = omega (arith, within (c .before .before), c .before .before .before .before .before .before .before .before .before .before .before .pre .1)
+part-put-statement-end-2 c =
+    let at-if1 = c .before .before .before .before .before .before in
+    let at-start = at-if1 .before .before .before .before .before in
+    omega (arith, within (c .before .before), at-start .pre .1)
 
 put-statement-requires : tie.Need-put-statement-requires Inv-loop μ-loop
 put-statement-requires c κs =
-    let a = c .before .before .before .before .before .before .before .before .before .before .before .before .args in
-    let l = c .before .before .before .before .before .before .before .before .loop in
+    let at-find-byte-in = c .before .before .before .before .before .before in
+    let at-loop = at-find-byte-in .before .before in
+    let at-start = at-loop .before .before .before .before in
+    let a = at-start .args in
+    let l = at-loop .loop in
     let j = c .before .before .before .before .found .given .0 .0 in (
-      omega (arith, c .before .before .before .before .before .before .before .before .before .before .before .before .pre .0, l .inv .2, part-short (j + 1 - l .from) (l .from) (a .text .now)),
-      part-mapped (a .text .now) (a .map .now) (l .from) (j + 1) (c .before .before .before .before .before .before .before .before .before .before .before .before .pre .1) (omega (arith, within (c .before .before .before))) (omega (arith, within (c .before .before .before))),
+      omega (arith, at-start .pre .0, l .inv .2, part-short (j + 1 - l .from) (l .from) (a .text .now)),
+      part-mapped (a .text .now) (a .map .now) (l .from) (j + 1) (at-start .pre .1) (omega (arith, within (c .before .before .before))) (omega (arith, within (c .before .before .before))),
     )
 
 loop-less : tie.Need-loop-less Inv-loop μ-loop
@@ -125,14 +160,19 @@ loop-less c = omega (arith, within (c .before .before .before .before .before .b
 
 loop-again : tie.Need-loop-again Inv-loop μ-loop
 loop-again c =
-    let a = c .before .before .before .before .before .before .before .before .before .before .before .before .before .before .before .args in
-    let l = c .before .before .before .before .before .before .before .before .before .before .before .loop in
-    let p = c .before .before .put-statement in (
+    let at-put-statement = c .before .before in
+    let at-found = at-put-statement .before .before .before .before .before in
+    let at-if1 = at-found .before .before .before in
+    let at-loop = at-if1 .before in
+    let at-start = at-loop .before .before .before .before in
+    let a = at-start .args in
+    let l = at-loop .loop in
+    let p = at-put-statement .put-statement in (
       omega (arith, within (c .before .before .before .before .before .before)),
       p .kept .0 ∙ l .inv .1,
       puts-bound (l .out) (p .last .0) _ (l .n) (p .result) (p .ensures),
-      going-more (a .out .now) _ (l .out) (p .last .0) 0 (l .n) (p .result) _ (l .inv .3 .within (omega (arith, c .before .before .before .before .before .before .before .before .before .before .if1 .left))) _ _
-          (selects-turn (a .text .now) (a .map .now) (l .from) (c .before .before .before .before .before .before .before .found .given .0 .0) (sought (c .before .before .before .before .before .before))) (p .ensures),
+      going-more (a .out .now) _ (l .out) (p .last .0) 0 (l .n) (p .result) _ (l .inv .3 .within (omega (arith, at-if1 .if1 .left))) _ _
+          (selects-turn (a .text .now) (a .map .now) (l .from) (at-found .found .given .0 .0) (sought (c .before .before .before .before .before .before))) (p .ensures),
     )
 
 pub transform-select-into-spec : {M : Type 1} → statement M

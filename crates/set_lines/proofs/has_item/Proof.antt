@@ -1,3 +1,5 @@
+-- `set_lines::has_item` meets its contract. A part that `next_item` gives makes the list not empty (`more-parts`); its
+-- end makes it empty (`no-parts`). Assumes nothing.
 use mathlib.Core.Path.{sym}
 use Rattle.spec.specs.Map.{marked}
 use Rattle.set_lines.proofs.ListedLaws.{item-part, item-over, more-parts, no-parts}

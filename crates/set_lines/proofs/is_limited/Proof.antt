@@ -1,3 +1,5 @@
+-- `set_lines::is_limited` meets its contract. The flag decides `limited`; else it is the count that `limit_after`
+-- ensures. Assumes nothing.
 use mathlib.Core.Path.{refl}
 use Rattle.set_lines.specs.Lines.{limited}
 use borrow.Author.Needs.{needs}

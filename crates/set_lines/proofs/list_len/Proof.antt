@@ -1,3 +1,5 @@
+-- `set_lines::list_len` meets its contract. The loop's invariant says that the list has n parts and those from `from`
+-- on, and that n is at most `from`. `given-item` says which part `next_item` gave. Assumes nothing.
 use native.Mathlib.Omega.{arith}
 use borrow.Author.Needs.{needs}
 use mathlib.Core.Path.{_≡_, ap}
@@ -18,7 +20,10 @@ abbrev μ-loop : tie.MeasureT-loop
 μ-loop text map n₀ from₀ n from = length text + 1 - from
 
 -- the part that was given
-given-item : (c : tie.After-known-told Inv-loop μ-loop) → Listed (marked (c .before .before .before .before .before .before .before .args .text .now) (c .before .before .before .before .before .before .before .args .map .now)) (c .before .before .before .before .loop .from) (c .before .item .given .0 .0) (c .before .item .given .0 .1 .0) (c .before .item .given .0 .1 .1 .0)
+given-item : (c : tie.After-known-told Inv-loop μ-loop) →
+    let at-loop = c .before .before .before .before in
+    let at-start = at-loop .before .before .before in
+    Listed (marked (at-start .args .text .now) (at-start .args .map .now)) (at-loop .loop .from) (c .before .item .given .0 .0) (c .before .item .given .0 .1 .0) (c .before .item .given .0 .1 .1 .0)
 given-item c = item-part _ _ _ (c .before .before .before .next-item .ensures) _ _ _ (c .before .item .given .1)
 
 loop-holds : tie.Need-loop-holds Inv-loop μ-loop
@@ -41,16 +46,24 @@ returns c =
     omega (arith, l .inv .2, ap length (item-over t (l .from) _ (c .before .before .next-item .ensures) (c .enum-told .given .1)))
 
 add-n : tie.Need-add-n Inv-loop μ-loop
-add-n c = let h = given-item c in let l = c .before .before .before .before .loop in omega (arith, h .behind, h .inside, marked-length (c .before .before .before .before .before .before .before .args .text .now) (c .before .before .before .before .before .before .before .args .map .now))
+add-n c =
+    let at-loop = c .before .before .before .before in
+    let at-start = at-loop .before .before .before in
+    let h = given-item c in let l = at-loop .loop in omega (arith, h .behind, h .inside, marked-length (at-start .args .text .now) (at-start .args .map .now))
 
 loop-less : tie.Need-loop-less Inv-loop μ-loop
-loop-less c = let h = given-item c in let l = c .before .before .before .before .loop in omega (arith, h .behind, h .beyond, h .inside, marked-length (c .before .before .before .before .before .before .before .args .text .now) (c .before .before .before .before .before .before .before .args .map .now))
+loop-less c =
+    let at-loop = c .before .before .before .before in
+    let at-start = at-loop .before .before .before in
+    let h = given-item c in let l = at-loop .loop in omega (arith, h .behind, h .beyond, h .inside, marked-length (at-start .args .text .now) (at-start .args .map .now))
 
 loop-again : tie.Need-loop-again Inv-loop μ-loop
 loop-again c =
+    let at-loop = c .before .before .before .before in
+    let at-start = at-loop .before .before .before in
     let h = given-item c in
-    let l = c .before .before .before .before .loop in
-    let k = marked-length (c .before .before .before .before .before .before .before .args .text .now) (c .before .before .before .before .before .before .before .args .map .now) in
+    let l = at-loop .loop in
+    let k = marked-length (at-start .args .text .now) (at-start .args .map .now) in
     (omega (arith, h .behind, h .beyond), omega (arith, h .within), omega (arith, l .inv .2, parts-count _ _ _ _ _ h))
 
 pub list-len-spec : {M : Type 1} → statement M

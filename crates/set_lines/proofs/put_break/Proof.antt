@@ -1,3 +1,5 @@
+-- `set_lines::put_break` meets its contract. The flag decides `breakText`; `stored-then` joins the two stores. Assumes
+-- nothing.
 use Rattle.set_lines.specs.Lines.{breakText}
 use Rattle.set_lines.proofs.PutLaws.{none-stored, all-stored, one-stored, stored-then}
 use borrow.Author.Needs.{needs}
@@ -16,10 +18,13 @@ same-length c = search needs
 returns : tie.Need-returns
 unfolding breakText
 returns c =
-    let a = c .before .before .before .before .before .before .before .before .before .before .before .args in
-    let p = c .before .before .before .before .before .before .put in
+    let at-put = c .before .before .before .before .before .before in
+    let at-if1 = at-put .before .before in
+    let at-start = at-if1 .before .before .before in
+    let a = at-start .args in
+    let p = at-put .put in
     let q = c .before .before .put-all in
-    rw (c .before .before .before .before .before .before .before .before .if1 .taken)
+    rw (at-if1 .if1 .taken)
     (stored-then (a .out .now) (p .last .0) (a .n) (p .result) (q .last .0) (q .result) _ _
     (one-stored (a .out .now) (p .last .0) (a .n) (p .result) 10 (p .ensures .0) (p .ensures .1))
     (all-stored (p .last .0) (q .last .0) (p .result) (q .result) (a .indent .now) (q .ensures .0) (q .ensures .1)))

@@ -1,3 +1,5 @@
+-- `set_lines::put_limit` meets its contract. The flag decides `limitText`: nothing, or what `put_all` stores. Assumes
+-- nothing.
 use Rattle.set_lines.specs.Lines.{limitText}
 use Rattle.spec.specs.Bytes.{ascii}
 use Rattle.set_lines.proofs.PutLaws.{none-stored, all-stored}
@@ -23,9 +25,11 @@ same-length c = search needs
 returns-2 : tie.Need-returns-2
 unfolding limitText
 returns-2 c =
-    let a = c .before .before .before .before .before .before .before .args in
+    let at-if1 = c .before .before .before .before .before in
+    let at-start = at-if1 .before .before in
+    let a = at-start .args in
     let p = c .before .before .put-all in
-    rw (c .before .before .before .before .before .if1 .left) (all-stored (a .out .now) (p .last .0) (a .n) (p .result) (ascii " LIMIT 1") (p .ensures .0) (p .ensures .1))
+    rw (at-if1 .if1 .left) (all-stored (a .out .now) (p .last .0) (a .n) (p .result) (ascii " LIMIT 1") (p .ensures .0) (p .ensures .1))
 
 pub put-limit-spec : {M : Type 1} → statement M
 put-limit-spec =

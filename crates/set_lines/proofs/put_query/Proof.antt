@@ -1,3 +1,5 @@
+-- `set_lines::put_query` meets its contract. `stored-then` joins the stores of the four calls, one after the other.
+-- Assumes nothing.
 use native.Mathlib.Omega.{arith}
 use Rattle.set_lines.specs.Lines.{queryText}
 use Rattle.spec.specs.Bytes.{ascii}
@@ -16,10 +18,19 @@ put-all-requires-2 : tie.Need-put-all-requires-2
 put-all-requires-2 c κs = search needs
 
 put-all-requires-3 : tie.Need-put-all-requires-3
-put-all-requires-3 c κs = omega (arith, c .before .before .before .before .before .before .before .before .put-all .ensures .0, c .before .before .before .put-all2 .ensures .0, c .before .before .before .before .before .before .before .before .before .before .before .before .before .before .pre)
+put-all-requires-3 c κs =
+    let at-put-all2 = c .before .before .before in
+    let at-put-all = at-put-all2 .before .before .before .before .before in
+    let at-start = at-put-all .before .before .before .before .before .before in
+    omega (arith, at-put-all .put-all .ensures .0, at-put-all2 .put-all2 .ensures .0, at-start .pre)
 
 put-spaced-requires : tie.Need-put-spaced-requires
-put-spaced-requires c κs = omega (arith, c .before .before .before .before .before .before .before .before .before .before .before .before .put-all .ensures .0, c .before .before .before .before .before .before .before .put-all2 .ensures .0, c .before .before .before .put-all3 .ensures .0, c .before .before .before .before .before .before .before .before .before .before .before .before .before .before .before .before .before .before .pre)
+put-spaced-requires c κs =
+    let at-out2 = c .before .before .before .before .before .before in
+    let at-put-all2 = at-out2 .before in
+    let at-put-all = at-put-all2 .before .before .before .before .before in
+    let at-start = at-put-all .before .before .before .before .before .before in
+    omega (arith, at-put-all .put-all .ensures .0, at-put-all2 .put-all2 .ensures .0, c .before .before .before .put-all3 .ensures .0, at-start .pre)
 
 same-length : tie.Need-same-length
 same-length c = search needs
@@ -27,10 +38,14 @@ same-length c = search needs
 returns : tie.Need-returns
 unfolding queryText
 returns c =
-    let a = c .before .before .before .before .before .before .before .before .before .before .before .before .before .before .before .before .before .before .before .before .before .args in
-    let p = c .before .before .before .before .before .before .before .before .before .before .before .before .before .before .before .put-all in
-    let q = c .before .before .before .before .before .before .before .before .before .before .put-all2 in
-    let r = c .before .before .before .before .before .before .put-all3 in
+    let at-put-all3 = c .before .before .before .before .before .before in
+    let at-put-all2 = at-put-all3 .before .before .before .before in
+    let at-put-all = at-put-all2 .before .before .before .before .before in
+    let at-start = at-put-all .before .before .before .before .before .before in
+    let a = at-start .args in
+    let p = at-put-all .put-all in
+    let q = at-put-all2 .put-all2 in
+    let r = at-put-all3 .put-all3 in
     let s = c .before .before .put-spaced in
     stored-then (a .out .now) (p .last .0) (a .n) (p .result) (s .last .0) (s .result) _ _
     (all-stored (a .out .now) (p .last .0) (a .n) (p .result) (a .with .now) (p .ensures .0) (p .ensures .1))

@@ -1,3 +1,5 @@
+-- `set_lines::put_set_line` meets its contract. `stored-then` joins the stores of the six calls, one after the other;
+-- `query-length` bounds the subquery. Assumes nothing.
 use native.Mathlib.Omega.{arith}
 use Rattle.set_lines.specs.Lines.{lineText}
 use Rattle.spec.specs.Bytes.{ascii}
@@ -22,20 +24,39 @@ put-all-requires-3 : tie.Need-put-all-requires-3
 put-all-requires-3 c κs = search needs
 
 put-query-requires : tie.Need-put-query-requires
-put-query-requires c κs = omega (arith, c .before .before .before .before .before .before .before .before .before .before .before .before .put-all .ensures .0, c .before .before .before .before .before .before .before .before .put-all2 .ensures .0, c .before .before .before .put-all3 .ensures .0, c .before .before .before .before .before .before .before .before .before .before .before .before .before .before .before .before .before .before .before .before .pre)
+put-query-requires c κs =
+    let at-put-all3 = c .before .before .before in
+    let at-put-all2 = at-put-all3 .before .before .before .before .before in
+    let at-put-all = at-put-all2 .before .before .before .before in
+    let at-shared-slice-known = at-put-all .before .before .before .before .before .before in
+    let at-start = at-shared-slice-known .before .before in
+    omega (arith, at-put-all .put-all .ensures .0, at-put-all2 .put-all2 .ensures .0, at-put-all3 .put-all3 .ensures .0, at-start .pre)
 
 put-limit-requires : tie.Need-put-limit-requires
 put-limit-requires c κs =
-    let a = c .before .before .before .before .before .before .before .before .before .before .before .before .before .before .before .before .before .before .before .before .before .before .before .before .args in
-    omega (arith, c .before .before .before .before .before .before .before .before .before .before .before .before .before .before .before .before .put-all .ensures .0, c .before .before .before .before .before .before .before .before .before .before .before .before .put-all2 .ensures .0, c .before .before .before .before .before .before .before .put-all3 .ensures .0, c .before .before .before .put-query .ensures .count, query-length (a .with .now) (a .from .now) (a .col .now), c .before .before .before .before .before .before .before .before .before .before .before .before .before .before .before .before .before .before .before .before .before .before .before .before .pre)
+    let at-out3 = c .before .before .before .before .before .before in
+    let at-put-all3 = at-out3 .before in
+    let at-put-all2 = at-put-all3 .before .before .before .before .before in
+    let at-put-all = at-put-all2 .before .before .before .before in
+    let at-shared-slice-known = at-put-all .before .before .before .before .before .before in
+    let at-start = at-shared-slice-known .before .before in
+    let a = at-start .args in
+    omega (arith, at-put-all .put-all .ensures .0, at-put-all2 .put-all2 .ensures .0, at-put-all3 .put-all3 .ensures .0, c .before .before .before .put-query .ensures .count, query-length (a .with .now) (a .from .now) (a .col .now), at-start .pre)
 
 slice-aggregate-put-all-3 : tie.Need-slice-aggregate-put-all-3
 slice-aggregate-put-all-3 c = search needs
 
 put-all-requires-4 : tie.Need-put-all-requires-4
 put-all-requires-4 c κs =
-    let a = c .before .before .before .before .before .before .before .before .before .before .before .before .before .before .before .before .before .before .before .before .before .before .before .before .before .before .before .before .before .args in
-    omega (arith, c .before .before .before .before .before .before .before .before .before .before .before .before .before .before .before .before .before .before .before .before .before .put-all .ensures .0, c .before .before .before .before .before .before .before .before .before .before .before .before .before .before .before .before .before .put-all2 .ensures .0, c .before .before .before .before .before .before .before .before .before .before .before .before .put-all3 .ensures .0, c .before .before .before .before .before .before .before .before .put-query .ensures .count, query-length (a .with .now) (a .from .now) (a .col .now), c .before .before .before .before .put-limit .ensures .count, limit-length (a .held), c .before .before .before .before .before .before .before .before .before .before .before .before .before .before .before .before .before .before .before .before .before .before .before .before .before .before .before .before .before .pre)
+    let at-put-limit = c .before .before .before .before in
+    let at-put-query = at-put-limit .before .before .before .before in
+    let at-put-all3 = at-put-query .before .before .before .before in
+    let at-put-all2 = at-put-all3 .before .before .before .before .before in
+    let at-put-all = at-put-all2 .before .before .before .before in
+    let at-shared-slice-known = at-put-all .before .before .before .before .before .before in
+    let at-start = at-shared-slice-known .before .before in
+    let a = at-start .args in
+    omega (arith, at-put-all .put-all .ensures .0, at-put-all2 .put-all2 .ensures .0, at-put-all3 .put-all3 .ensures .0, at-put-query .put-query .ensures .count, query-length (a .with .now) (a .from .now) (a .col .now), at-put-limit .put-limit .ensures .count, limit-length (a .held), at-start .pre)
 
 same-length : tie.Need-same-length
 same-length c = search needs
@@ -43,12 +64,20 @@ same-length c = search needs
 returns : tie.Need-returns
 unfolding lineText
 returns c =
-    let a = c .before .before .before .before .before .before .before .before .before .before .before .before .before .before .before .before .before .before .before .before .before .before .before .before .before .before .before .before .before .before .before .before .args in
-    let p = c .before .before .before .before .before .before .before .before .before .before .before .before .before .before .before .before .before .before .before .before .before .before .before .before .put-all in
-    let q = c .before .before .before .before .before .before .before .before .before .before .before .before .before .before .before .before .before .before .before .before .put-all2 in
-    let r = c .before .before .before .before .before .before .before .before .before .before .before .before .before .before .before .put-all3 in
-    let s = c .before .before .before .before .before .before .before .before .before .before .before .put-query in
-    let t = c .before .before .before .before .before .before .before .put-limit in
+    let at-out5 = c .before .before .before .before .before .before in
+    let at-put-limit = at-out5 .before in
+    let at-put-query = at-put-limit .before .before .before .before in
+    let at-put-all3 = at-put-query .before .before .before .before in
+    let at-put-all2 = at-put-all3 .before .before .before .before .before in
+    let at-put-all = at-put-all2 .before .before .before .before in
+    let at-shared-slice-known = at-put-all .before .before .before .before .before .before in
+    let at-start = at-shared-slice-known .before .before in
+    let a = at-start .args in
+    let p = at-put-all .put-all in
+    let q = at-put-all2 .put-all2 in
+    let r = at-put-all3 .put-all3 in
+    let s = at-put-query .put-query in
+    let t = at-put-limit .put-limit in
     let u = c .before .before .put-all4 in
     stored-then (a .out .now) (p .last .0) (a .n) (p .result) (u .last .0) (u .result) _ _
     (all-stored (a .out .now) (p .last .0) (a .n) (p .result) (ascii "SET ") (p .ensures .0) (p .ensures .1))

@@ -1,3 +1,5 @@
+-- `set_lines::put_spaced` meets its contract. An empty FROM part stores nothing; else `stored-then` joins the space and
+-- the part. Assumes nothing.
 use Rattle.set_lines.proofs.PutLaws.{none-stored, all-stored, one-stored, stored-then, stored-same, spaced-none, spaced-some}
 use mathlib.Core.Path.{sym}
 use borrow.Author.Needs.{needs}
@@ -20,10 +22,13 @@ same-length c = search needs
 
 returns-2 : tie.Need-returns-2
 returns-2 c =
-    let a = c .before .before .before .before .before .before .before .before .before .before .before .args in
-    let p = c .before .before .before .before .before .before .put in
+    let at-put = c .before .before .before .before .before .before in
+    let at-if1 = at-put .before .before in
+    let at-start = at-if1 .before .before .before in
+    let a = at-start .args in
+    let p = at-put .put in
     let q = c .before .before .put-all in
-    stored-same (a .out .now) (q .last .0) (a .n) (q .result) _ _ (sym (spaced-some (a .from .now) (c .before .before .before .before .before .before .before .before .if1 .left)))
+    stored-same (a .out .now) (q .last .0) (a .n) (q .result) _ _ (sym (spaced-some (a .from .now) (at-if1 .if1 .left)))
     (stored-then (a .out .now) (p .last .0) (a .n) (p .result) (q .last .0) (q .result) _ _
     (one-stored (a .out .now) (p .last .0) (a .n) (p .result) 32 (p .ensures .0) (p .ensures .1))
     (all-stored (p .last .0) (q .last .0) (p .result) (q .result) (a .from .now) (q .ensures .0) (q .ensures .1)))

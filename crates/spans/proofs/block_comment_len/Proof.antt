@@ -1,3 +1,6 @@
+-- `spans::block_comment_len` meets its contract. The loop's invariant says that the comment's length is i and that of
+-- the rest, `depth` comments being open; a turn opens one, closes one, closes the last, or passes a byte. Assumes
+-- nothing.
 use mathlib.Core.Path.{_≡_, sym, _∙_}
 use Prim.Native.Nat.{_+_, _-_, _≤_, _<_}
 use native.Mathlib.Omega.{arith}
@@ -60,17 +63,19 @@ add-i-2 c = search needs
 
 returns-2 : tie.Need-returns-2 Inv-loop μ-loop
 returns-2 c =
-    let l = c .before .before .before .before .before .before .before .before in
-    omega (arith, at-last (l .loop .depth) (l .before .before .before .args .rest .now) (l .loop .i) (omega arith) (sym (c .before .before .before .before .is-pair .ensures) ∙ c .before .before .before .if2 .left) (sym (c .before .before .is-pair2 .ensures) ∙ c .before .if3 .taken) (omega arith))
+    let at-is-pair = c .before .before .before .before in
+    let at-loop = at-is-pair .before .before .before .before in
+    omega (arith, at-last (at-loop .loop .depth) (at-loop .before .before .before .args .rest .now) (at-loop .loop .i) (omega arith) (sym (at-is-pair .is-pair .ensures) ∙ c .before .before .before .if2 .left) (sym (c .before .before .is-pair2 .ensures) ∙ c .before .if3 .taken) (omega arith))
 
 loop-less-2 : tie.Need-loop-less-2 Inv-loop μ-loop
 loop-less-2 c = search needs
 
 loop-again-2 : tie.Need-loop-again-2 Inv-loop μ-loop
 loop-again-2 c =
-    let l = c .before .before .before .before .before .before .before .before in
-    let more : l .loop .depth ≡ 1 → ⊥ = omega (arith, c .if4 .left) in
-    omega (arith, c .if4 .left, at-back (l .loop .depth) (l .before .before .before .args .rest .now) (l .loop .i) (omega arith) (sym (c .before .before .before .before .is-pair .ensures) ∙ c .before .before .before .if2 .left) (sym (c .before .before .is-pair2 .ensures) ∙ c .before .if3 .taken) more)
+    let at-is-pair = c .before .before .before .before in
+    let at-loop = at-is-pair .before .before .before .before in
+    let more : at-loop .loop .depth ≡ 1 → ⊥ = omega (arith, c .if4 .left) in
+    omega (arith, c .if4 .left, at-back (at-loop .loop .depth) (at-loop .before .before .before .args .rest .now) (at-loop .loop .i) (omega arith) (sym (at-is-pair .is-pair .ensures) ∙ c .before .before .before .if2 .left) (sym (c .before .before .is-pair2 .ensures) ∙ c .before .if3 .taken) more)
 
 add-i-3 : tie.Need-add-i-3 Inv-loop μ-loop
 add-i-3 c = search needs
@@ -80,8 +85,9 @@ loop-less-3 c = search needs
 
 loop-again-3 : tie.Need-loop-again-3 Inv-loop μ-loop
 loop-again-3 c =
-    let l = c .before .before .before .before .before .before .before in
-    omega (arith, at-one (l .loop .depth) (l .before .before .before .args .rest .now) (l .loop .i) (omega arith) (sym (c .before .before .before .is-pair .ensures) ∙ c .before .before .if2 .left) (sym (c .before .is-pair2 .ensures) ∙ c .if3 .left))
+    let at-loop-test = c .before .before .before .before .before .before in
+    let at-loop = at-loop-test .before in
+    omega (arith, at-one (at-loop .loop .depth) (at-loop .before .before .before .args .rest .now) (at-loop .loop .i) (omega arith) (sym (c .before .before .before .is-pair .ensures) ∙ c .before .before .if2 .left) (sym (c .before .is-pair2 .ensures) ∙ c .if3 .left))
 
 returns-3 : tie.Need-returns-3 Inv-loop μ-loop
 returns-3 c =

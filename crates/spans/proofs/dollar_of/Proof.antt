@@ -1,3 +1,5 @@
+-- `spans::dollar_of` meets its contract. The definition is rewritten with where `seek` finds the delimiter again and
+-- with whether it stands there; `seek-rest` keeps the lengths within the text. Assumes nothing.
 use mathlib.Core.Path.{_≡_, sym, _∙_}
 use mathlib.Core.Bool.{true, false}
 use Prim.Native.Nat.{ℕ, _+_, _-_, _≤_}
@@ -46,26 +48,34 @@ starts-with-requires c κs = search needs
 
 add-t15 : tie.Need-add-t15
 add-t15 c =
-    let s = c .before .before .before .before .before .before .before .args in
+    let at-mark = c .before .before .before .before .before in
+    let at-start = at-mark .before .before in
+    let s = at-start .args in
     omega (arith, seek-rest (take (s .n) (s .rest .now)) (s .rest .now) (s .n) (omega arith))
 
 add-t16 : tie.Need-add-t16
 add-t16 c =
-    let s = c .before .before .before .before .before .before .before .args in
+    let at-mark = c .before .before .before .before .before in
+    let at-start = at-mark .before .before in
+    let s = at-start .args in
     omega (arith, seek-rest (take (s .n) (s .rest .now)) (s .rest .now) (s .n) (omega arith))
 
 add-t17 : tie.Need-add-t17
 add-t17 c =
-    let s = c .before .before .before .before .before .before .before .args in
+    let at-mark = c .before .before .before .before .before in
+    let at-start = at-mark .before .before in
+    let s = at-start .args in
     omega (arith, seek-rest (take (s .n) (s .rest .now)) (s .rest .now) (s .n) (omega arith))
 
 returns : tie.Need-returns
 unfolding dollarOf
 returns c =
-    let xs = c .before .before .before .before .before .before .before .args .rest .now in
-    let n = c .before .before .before .before .before .before .before .args .n in
-    let k = c .before .before .before .seek .result in
-    let e : k ≡ seekLen (take n xs) (take (length xs - n) (drop n xs)) = c .before .before .before .seek .ensures in
+    let at-seek = c .before .before .before in
+    let at-start = at-seek .before .before .before .before in
+    let xs = at-start .args .rest .now in
+    let n = at-start .args .n in
+    let k = at-seek .seek .result in
+    let e : k ≡ seekLen (take n xs) (take (length xs - n) (drop n xs)) = at-seek .seek .ensures in
     let body = take (length xs - n) (drop n xs) in
     let g : isPrefix (take n xs) (take (length body - k) (drop k body)) ≡ true = sym (c .before .starts-with .ensures) ∙ c .if1 .taken in
     simp (sym (rw rest-of at e), simp rest-of at g)
@@ -73,10 +83,12 @@ returns c =
 returns-2 : tie.Need-returns-2
 unfolding dollarOf
 returns-2 c =
-    let xs = c .before .before .before .before .before .before .before .args .rest .now in
-    let n = c .before .before .before .before .before .before .before .args .n in
-    let k = c .before .before .before .seek .result in
-    let e : k ≡ seekLen (take n xs) (take (length xs - n) (drop n xs)) = c .before .before .before .seek .ensures in
+    let at-seek = c .before .before .before in
+    let at-start = at-seek .before .before .before .before in
+    let xs = at-start .args .rest .now in
+    let n = at-start .args .n in
+    let k = at-seek .seek .result in
+    let e : k ≡ seekLen (take n xs) (take (length xs - n) (drop n xs)) = at-seek .seek .ensures in
     let body = take (length xs - n) (drop n xs) in
     let g : isPrefix (take n xs) (take (length body - k) (drop k body)) ≡ false = sym (c .before .starts-with .ensures) ∙ c .if1 .left in
     simp (sym (rw rest-of at e), simp rest-of at g, add-zero)

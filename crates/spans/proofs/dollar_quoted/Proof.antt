@@ -1,3 +1,5 @@
+-- `spans::dollar_quoted` meets its contract. `tag` says that the tag's length is that behind the `$`; whether a literal
+-- opens decides, and `opens-in` says that its delimiter then fits. Assumes nothing.
 use native.Mathlib.Omega.{arith}
 use mathlib.Core.Path.{_≡_, sym, _∙_}
 use Prim.Native.Nat.{_-_}

@@ -1,3 +1,4 @@
+-- `spans::escapes_here` meets its contract. The flag decides `escapes`. Assumes nothing.
 use Rattle.spec.specs.Spans.{escapes}
 use Rattle.spans.proofs.escapes_here.Statement.{statement}
 use Rattle.spans.proofs.escapes_here.Tie as tie

@@ -1,3 +1,5 @@
+-- `spans::line_len` meets its contract. The loop's invariant says that the length through the newline is i and that
+-- from i on. Assumes nothing.
 use native.Mathlib.Omega.{arith}
 use Rattle.spans.proofs.RunLaws.{line-through, line-whole}
 use borrow.Author.Needs.{needs}

@@ -1,3 +1,5 @@
+-- `spans::next_span` meets its contract, with a law for each return: a line comment, a block comment, the two quotes, a
+-- `$`, or live text. Each takes the tests that failed before it. Assumes nothing.
 use native.Mathlib.Omega.{arith}
 use mathlib.Core.Path.{_≡_, sym, ap, _∙_}
 use Prim.Native.Nat.{ℕ, _+_, _-_, _<_}
@@ -16,9 +18,14 @@ two c =
     pair-two xs 45 44 (c .before .before .before .byte-at .result) (rw (← c .before .before .byte-at2 .ensures) (sym (c .before .is-pair .ensures) ∙ c .if1 .taken))
 
 -- the comment's length
-behind : (c : tie.After-line-len) → c .line-len .result ≡ lineLen (drop 2 (c .before .before .before .before .before .before .before .args .rest .now))
+behind : (c : tie.After-line-len) →
+    let at-byte-at = c .before .before .before .before .before in
+    let at-start = at-byte-at .before .before in
+    c .line-len .result ≡ lineLen (drop 2 (at-start .args .rest .now))
 behind c =
-    let xs = c .before .before .before .before .before .before .before .args .rest .now in
+    let at-byte-at = c .before .before .before .before .before in
+    let at-start = at-byte-at .before .before in
+    let xs = at-start .args .rest .now in
     let h : c .line-len .result ≡ lineLen (take (length xs - 2) (drop 2 xs)) = c .line-len .ensures in
     rw rest-of at h
 
@@ -44,10 +51,18 @@ line-len-requires : tie.Need-line-len-requires
 line-len-requires c κs = search needs
 
 add-t10 : tie.Need-add-t10
-add-t10 c = omega (arith, behind c, line-le (drop 2 (c .before .before .before .before .before .before .before .args .rest .now)), length-drop 2 (c .before .before .before .before .before .before .before .args .rest .now))
+add-t10 c =
+    let at-byte-at = c .before .before .before .before .before in
+    let at-start = at-byte-at .before .before in
+    omega (arith, behind c, line-le (drop 2 (at-start .args .rest .now)), length-drop 2 (at-start .args .rest .now))
 
 returns : tie.Need-returns
-returns c = rw (at-line (c .before .before .before .before .before .before .before .args .rest .now) _ _ (c .before .before .before .before .before .byte-at .ensures) (c .before .before .before .before .byte-at2 .ensures) (sym (c .before .before .before .is-pair .ensures) ∙ c .before .before .if1 .taken), behind c)
+returns c =
+    let at-is-pair = c .before .before .before in
+    let at-byte-at2 = at-is-pair .before in
+    let at-byte-at = at-byte-at2 .before in
+    let at-start = at-byte-at .before .before in
+    rw (at-line (at-start .args .rest .now) _ _ (at-byte-at .byte-at .ensures) (at-byte-at2 .byte-at2 .ensures) (sym (at-is-pair .is-pair .ensures) ∙ c .before .before .if1 .taken), behind c)
 
 is-pair-requires-2 : tie.Need-is-pair-requires-2
 is-pair-requires-2 c κs = search needs
@@ -56,28 +71,66 @@ block-comment-len-requires : tie.Need-block-comment-len-requires
 block-comment-len-requires c κs = search needs
 
 returns-2 : tie.Need-returns-2
-returns-2 c = rw (at-block (c .before .before .before .before .before .before .before .before .args .rest .now) _ _ (c .before .before .before .before .before .before .byte-at .ensures) (c .before .before .before .before .before .byte-at2 .ensures) (sym (c .before .before .before .before .is-pair .ensures) ∙ c .before .before .before .if1 .left) (sym (c .before .before .is-pair2 .ensures) ∙ c .before .if2 .taken), c .block-comment-len .ensures)
+returns-2 c =
+    let at-if1 = c .before .before .before in
+    let at-is-pair = at-if1 .before in
+    let at-byte-at2 = at-is-pair .before in
+    let at-byte-at = at-byte-at2 .before in
+    let at-start = at-byte-at .before .before in
+    rw (at-block (at-start .args .rest .now) _ _ (at-byte-at .byte-at .ensures) (at-byte-at2 .byte-at2 .ensures) (sym (at-is-pair .is-pair .ensures) ∙ at-if1 .if1 .left) (sym (c .before .before .is-pair2 .ensures) ∙ c .before .if2 .taken), c .block-comment-len .ensures)
 
 quoted-len-requires : tie.Need-quoted-len-requires
 quoted-len-requires c κs = search needs
 
 returns-3 : tie.Need-returns-3
-returns-3 c = rw (at-single (c .before .before .before .before .before .before .before .before .before .args .rest .now) _ _ (c .before .before .before .before .before .before .before .byte-at .ensures) (c .before .before .before .before .before .before .byte-at2 .ensures) (sym (c .before .before .before .before .before .is-pair .ensures) ∙ c .before .before .before .before .if1 .left) (sym (c .before .before .before .is-pair2 .ensures) ∙ c .before .before .if2 .left) (c .before .if3 .taken), c .quoted-len .ensures)
+returns-3 c =
+    let at-is-pair2 = c .before .before .before in
+    let at-if1 = at-is-pair2 .before in
+    let at-is-pair = at-if1 .before in
+    let at-byte-at2 = at-is-pair .before in
+    let at-byte-at = at-byte-at2 .before in
+    let at-start = at-byte-at .before .before in
+    rw (at-single (at-start .args .rest .now) _ _ (at-byte-at .byte-at .ensures) (at-byte-at2 .byte-at2 .ensures) (sym (at-is-pair .is-pair .ensures) ∙ at-if1 .if1 .left) (sym (at-is-pair2 .is-pair2 .ensures) ∙ c .before .before .if2 .left) (c .before .if3 .taken), c .quoted-len .ensures)
 
 quoted-len-requires-2 : tie.Need-quoted-len-requires-2
 quoted-len-requires-2 c κs = search needs
 
 returns-4 : tie.Need-returns-4
-returns-4 c = rw (at-double (c .before .before .before .before .before .before .before .before .before .before .args .rest .now) _ _ (c .before .before .before .before .before .before .before .before .byte-at .ensures) (c .before .before .before .before .before .before .before .byte-at2 .ensures) (sym (c .before .before .before .before .before .before .is-pair .ensures) ∙ c .before .before .before .before .before .if1 .left) (sym (c .before .before .before .before .is-pair2 .ensures) ∙ c .before .before .before .if2 .left) (c .before .before .if3 .left) (c .before .if4 .taken), c .quoted-len2 .ensures)
+returns-4 c =
+    let at-if2 = c .before .before .before in
+    let at-is-pair2 = at-if2 .before in
+    let at-if1 = at-is-pair2 .before in
+    let at-is-pair = at-if1 .before in
+    let at-byte-at2 = at-is-pair .before in
+    let at-byte-at = at-byte-at2 .before in
+    let at-start = at-byte-at .before .before in
+    rw (at-double (at-start .args .rest .now) _ _ (at-byte-at .byte-at .ensures) (at-byte-at2 .byte-at2 .ensures) (sym (at-is-pair .is-pair .ensures) ∙ at-if1 .if1 .left) (sym (at-is-pair2 .is-pair2 .ensures) ∙ at-if2 .if2 .left) (c .before .before .if3 .left) (c .before .if4 .taken), c .quoted-len2 .ensures)
 
 dollar-quoted-requires : tie.Need-dollar-quoted-requires
 dollar-quoted-requires c κs = search needs
 
 returns-5 : tie.Need-returns-5
-returns-5 c = c .dollar-quoted .ensures ∙ sym (at-opened (c .before .before .before .before .before .before .before .before .before .before .before .args .rest .now) _ _ (c .before .before .before .before .before .before .before .before .before .byte-at .ensures) (c .before .before .before .before .before .before .before .before .byte-at2 .ensures) (sym (c .before .before .before .before .before .before .before .is-pair .ensures) ∙ c .before .before .before .before .before .before .if1 .left) (sym (c .before .before .before .before .before .is-pair2 .ensures) ∙ c .before .before .before .before .if2 .left) (c .before .before .before .if3 .left) (c .before .before .if4 .left))
+returns-5 c =
+    let at-if3 = c .before .before .before in
+    let at-if2 = at-if3 .before in
+    let at-is-pair2 = at-if2 .before in
+    let at-if1 = at-is-pair2 .before in
+    let at-is-pair = at-if1 .before in
+    let at-byte-at2 = at-is-pair .before in
+    let at-byte-at = at-byte-at2 .before in
+    let at-start = at-byte-at .before .before in
+    c .dollar-quoted .ensures ∙ sym (at-opened (at-start .args .rest .now) _ _ (at-byte-at .byte-at .ensures) (at-byte-at2 .byte-at2 .ensures) (sym (at-is-pair .is-pair .ensures) ∙ at-if1 .if1 .left) (sym (at-is-pair2 .is-pair2 .ensures) ∙ at-if2 .if2 .left) (at-if3 .if3 .left) (c .before .before .if4 .left))
 
 returns-6 : tie.Need-returns-6
-returns-6 c = sym (at-code (c .before .before .before .before .before .before .before .before .before .before .args .rest .now) _ _ (c .before .before .before .before .before .before .before .before .byte-at .ensures) (c .before .before .before .before .before .before .before .byte-at2 .ensures) (sym (c .before .before .before .before .before .before .is-pair .ensures) ∙ c .before .before .before .before .before .if1 .left) (sym (c .before .before .before .before .is-pair2 .ensures) ∙ c .before .before .before .if2 .left) (c .before .before .if3 .left) (c .before .if4 .left) (c .if5 .left))
+returns-6 c =
+    let at-if2 = c .before .before .before in
+    let at-is-pair2 = at-if2 .before in
+    let at-if1 = at-is-pair2 .before in
+    let at-is-pair = at-if1 .before in
+    let at-byte-at2 = at-is-pair .before in
+    let at-byte-at = at-byte-at2 .before in
+    let at-start = at-byte-at .before .before in
+    sym (at-code (at-start .args .rest .now) _ _ (at-byte-at .byte-at .ensures) (at-byte-at2 .byte-at2 .ensures) (sym (at-is-pair .is-pair .ensures) ∙ at-if1 .if1 .left) (sym (at-is-pair2 .is-pair2 .ensures) ∙ at-if2 .if2 .left) (c .before .before .if3 .left) (c .before .if4 .left) (c .if5 .left))
 
 pub next-span-spec : {M : Type 1} → statement M
 next-span-spec =

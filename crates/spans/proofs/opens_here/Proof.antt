@@ -1,3 +1,5 @@
+-- `spans::opens_here` meets its contract. Each return rewrites `opensDollar` with the bytes read and the tests made.
+-- Assumes nothing.
 use mathlib.Core.Path.{_≡_, sym, _∙_, refl}
 use borrow.Author.Tests.{eq-eqb, ne-eqb}
 use Rattle.spec.specs.Bytes.{isDigit}
@@ -27,7 +29,12 @@ returns c = simp (sym (c .before .before .before .before .byte-at .ensures) ∙ 
 
 returns-2 : tie.Need-returns-2
 unfolding opensDollar isDigit
-returns-2 c = simp (sym (c .before .before .before .before .before .byte-at .ensures) ∙ c .before .before .before .before .if1 .taken, sym (c .before .before .before .byte-at2 .ensures), sym (c .before .before .in-range .ensures) ∙ c .before .if2 .left, sym (c .before .before .before .before .before .before .before .pre .0), sym (c .byte-at3 .ensures))
+returns-2 c =
+    let at-byte-at2 = c .before .before .before in
+    let at-if1 = at-byte-at2 .before in
+    let at-byte-at = at-if1 .before in
+    let at-start = at-byte-at .before .before in
+    simp (sym (at-byte-at .byte-at .ensures) ∙ at-if1 .if1 .taken, sym (at-byte-at2 .byte-at2 .ensures), sym (c .before .before .in-range .ensures) ∙ c .before .if2 .left, sym (at-start .pre .0), sym (c .byte-at3 .ensures))
 
 returns-3 : tie.Need-returns-3
 unfolding opensDollar isDigit

@@ -1,3 +1,6 @@
+-- `spans::quoted_len` meets its contract. The loop's invariant says that the literal's length is i and that of the
+-- rest; a turn is an escaped pair, a doubled quote, the closing quote, or another byte, with a law for each. Assumes
+-- nothing.
 use mathlib.Core.Path.{_≡_, sym, _∙_}
 use Prim.Native.Nat.{_+_, _-_, _≤_, _<_}
 use native.Mathlib.Omega.{arith}
@@ -59,18 +62,20 @@ loop-less-2 c = search needs
 
 loop-again-2 : tie.Need-loop-again-2 Inv-loop μ-loop
 loop-again-2 c =
-    let l = c .before .before .before .before .before .before .before in
-    let s = l .before .before .before .args in
-    omega (arith, at-two (s .escape) (s .q) (s .rest .now) (l .loop .i) (omega arith) (sym (c .before .before .before .before .escapes-here .ensures) ∙ c .before .before .before .if2 .left) (c .before .before .if3 .taken) (c .if4 .taken))
+    let at-loop-test = c .before .before .before .before .before .before in
+    let at-loop = at-loop-test .before in
+    let s = at-loop .before .before .before .args in
+    omega (arith, at-two (s .escape) (s .q) (s .rest .now) (at-loop .loop .i) (omega arith) (sym (c .before .before .before .before .escapes-here .ensures) ∙ c .before .before .before .if2 .left) (c .before .before .if3 .taken) (c .if4 .taken))
 
 add-result : tie.Need-add-result Inv-loop μ-loop
 add-result c = search needs
 
 returns-2 : tie.Need-returns-2 Inv-loop μ-loop
 returns-2 c =
-    let l = c .before .before .before .before .before .before .before in
-    let s = l .before .before .before .args in
-    omega (arith, at-end (s .escape) (s .q) (s .rest .now) (l .loop .i) (omega arith) (sym (c .before .before .before .before .escapes-here .ensures) ∙ c .before .before .before .if2 .left) (c .before .before .if3 .taken) (c .if4 .left))
+    let at-loop-test = c .before .before .before .before .before .before in
+    let at-loop = at-loop-test .before in
+    let s = at-loop .before .before .before .args in
+    omega (arith, at-end (s .escape) (s .q) (s .rest .now) (at-loop .loop .i) (omega arith) (sym (c .before .before .before .before .escapes-here .ensures) ∙ c .before .before .before .if2 .left) (c .before .before .if3 .taken) (c .if4 .left))
 
 add-i-3 : tie.Need-add-i-3 Inv-loop μ-loop
 add-i-3 c = search needs

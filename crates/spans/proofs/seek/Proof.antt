@@ -1,3 +1,5 @@
+-- `spans::seek` meets its contract. The loop's invariant says that the pattern's first place is i and its first place
+-- in the text from i on. Assumes nothing.
 use lib.ListN.{take}
 use Rattle.spec.proofs.AheadLaws.{rest-of}
 use mathlib.Core.Bool.{true, false}
@@ -35,8 +37,10 @@ starts-with-requires c κs = search needs
 
 returns : tie.Need-returns Inv-loop μ-loop
 returns c =
-    let s = c .before .before .before .before .before .before .before .args in
-    let i = c .before .before .before .before .loop .i in
+    let at-loop = c .before .before .before .before in
+    let at-start = at-loop .before .before .before in
+    let s = at-start .args in
+    let i = at-loop .loop .i in
     let h : isPrefix (s .pat .now) (take (length (s .text .now) - i) (drop i (s .text .now))) ≡ true = sym (c .before .starts-with .ensures) ∙ c .if1 .taken in
     omega (arith, at-found (s .text .now) i (omega arith) (s .pat .now) (rw rest-of at h))
 
@@ -48,8 +52,10 @@ loop-less c = search needs
 
 loop-again : tie.Need-loop-again Inv-loop μ-loop
 loop-again c =
-    let s = c .before .before .before .before .before .before .before .args in
-    let i = c .before .before .before .before .loop .i in
+    let at-loop = c .before .before .before .before in
+    let at-start = at-loop .before .before .before in
+    let s = at-start .args in
+    let i = at-loop .loop .i in
     let h : isPrefix (s .pat .now) (take (length (s .text .now) - i) (drop i (s .text .now))) ≡ false = sym (c .before .starts-with .ensures) ∙ c .if1 .left in
     omega (arith, at-missed (s .text .now) i (omega arith) (s .pat .now) (rw rest-of at h))
 

@@ -1,3 +1,5 @@
+-- `targets::cases_after` meets its contract. `casesAfter` computes once the mark is known; 0 less 1 is 0. Assumes
+-- nothing.
 use native.Mathlib.Omega.{arith}
 use mathlib.Core.Path.{refl}
 use borrow.Author.Needs.{needs}

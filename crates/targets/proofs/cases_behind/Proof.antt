@@ -1,3 +1,5 @@
+-- `targets::cases_behind` meets its contract. `casesMet` computes once it is known what is met, for a word to what
+-- `cases_after` ensures. Assumes nothing.
 use mathlib.Core.Path.{refl}
 use borrow.Author.Needs.{needs}
 use Rattle.targets.proofs.cases_behind.Statement.{statement}

@@ -1,3 +1,5 @@
+-- `targets::is_word_at` meets its contract. `compared` says that the comparison is with the rest of the statement; each
+-- return rewrites the conjunction with the two answers. Assumes nothing.
 use native.Mathlib.Omega.{arith}
 use mathlib.Core.Path.{_≡_, sym, ap, _∙_}
 use Prim.Native.Nat.{_-_}

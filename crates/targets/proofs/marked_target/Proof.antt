@@ -1,3 +1,6 @@
+-- `targets::marked_target` meets its contract. The loop's invariant says that the first target of the whole is that
+-- from i on, with the open CASEs and the byte before in hand, and that there are at most i of them. `walk-step` is a
+-- turn. Assumes nothing.
 use native.Mathlib.Omega.{arith}
 use borrow.Author.Needs.{needs}
 use mathlib.Core.Path.{_≡_, refl, sym, ap, _∙_}
@@ -37,8 +40,10 @@ is-target-requires c κs = search needs
 
 returns : tie.Need-returns Inv-loop μ-loop
 returns c =
-    let a = c .before .before .before .before .before .before .before .before .args in
-    let l = c .before .before .before .before .before .loop in
+    let at-loop = c .before .before .before .before .before in
+    let at-start = at-loop .before .before .before in
+    let a = at-start .args in
+    let l = at-loop .loop in
     rw (l .inv .2 ∙ walk-step (a .statement .now) (a .map .now) (l .cases) (l .before) (l .i) (omega arith) _ (c .before .before .before .marking-at .ensures .0))
     (tells-first _ _ _ _ (sym (c .before .is-target .ensures) ∙ c .if1 .taken) (behind (c .before .before)))
 
@@ -56,8 +61,11 @@ loop-less c = search needs
 
 loop-again : tie.Need-loop-again Inv-loop μ-loop
 loop-again c =
-    let a = c .before .before .before .before .before .before .before .before .before .before .args in
-    let l = c .before .before .before .before .before .before .before .loop in (
+    let at-loop-test = c .before .before .before .before .before .before in
+    let at-loop = at-loop-test .before in
+    let at-start = at-loop .before .before .before in
+    let a = at-start .args in
+    let l = at-loop .loop in (
       omega arith,
       omega (arith, c .before .cases-behind .ensures, cases-le (c .before .before .before .before .before .marking-at .result) (l .cases)),
       l .inv .2

@@ -1,3 +1,6 @@
+-- `targets::marking_at` meets its contract. The loop's invariant says that the first word of the table that stands here
+-- is the first from place k on. Before the loop a quoted byte and a word byte before i are sorted out (`is-live`,
+-- `is-edge`). Assumes nothing.
 use native.Mathlib.Omega.{arith}
 use borrow.Author.Needs.{needs}
 use mathlib.Core.Path.{_≡_, refl, sym, ap, _∙_}
@@ -28,9 +31,15 @@ is-edge : (c : tie.Else2 Inv-loop μ-loop) → isWord (c .before .before .before
 is-edge c = sym (c .before .is-word-byte .ensures) ∙ c .if2 .left
 
 -- what the test of the k-th word tells
-tested : (c : tie.After-is-word-at Inv-loop μ-loop) → c .is-word-at .result ≡ isEntryAt (c .before .before .before .before .before .before .before .before .before .before .args .statement .now) (c .before .before .before .before .before .before .before .before .before .before .args .i) (c .before .before .before .loop .k)
+tested : (c : tie.After-is-word-at Inv-loop μ-loop) →
+    let at-loop = c .before .before .before in
+    let at-byte-at = at-loop .before .before .before .before in
+    let at-start = at-byte-at .before .before .before in
+    c .is-word-at .result ≡ isEntryAt (at-start .args .statement .now) (at-start .args .i) (at-loop .loop .k)
 tested c =
-    let a = c .before .before .before .before .before .before .before .before .before .before .args in
+    let at-if1 = c .before .before .before .before .before .before in
+    let at-start = at-if1 .before .before .before .before in
+    let a = at-start .args in
     c .is-word-at .ensures
     ∙ ap (λ (e : Marking). prefixBy upper (take (e .len) (e .word)) (drop (a .i) (a .statement .now)) && not (isWord (getD (a .statement .now) (a .i + e .len) 0))) (c .before .marking-of .ensures)
 
@@ -57,7 +66,9 @@ is-word-at-requires c κs = (omega arith, omega (arith, entry-long (c .before .b
 
 returns-3 : tie.Need-returns-3 Inv-loop μ-loop
 returns-3 c =
-    let a = c .before .before .before .before .before .before .before .before .before .before .before .args in
+    let at-is-word-byte = c .before .before .before .before .before .before in
+    let at-start = at-is-word-byte .before .before .before .before .before in
+    let a = at-start .args in
     let k = c .before .before .before .before .loop .k in
     let q : isEntryAt (a .statement .now) (a .i) k ≡ true = sym (tested (c .before)) ∙ c .if3 .taken in
     let p = prefix-by-len upper _ (drop (a .i) (a .statement .now)) (and-left (prefixBy upper (take (getD entries k blank .len) (getD entries k blank .word)) (drop (a .i) (a .statement .now))) _ q) in
@@ -74,13 +85,17 @@ loop-less c = search needs
 
 loop-again : tie.Need-loop-again Inv-loop μ-loop
 loop-again c =
-    let a = c .before .before .before .before .before .before .before .before .before .before .before .args in
+    let at-is-word-byte = c .before .before .before .before .before .before in
+    let at-start = at-is-word-byte .before .before .before .before .before in
+    let a = at-start .args in
     let k = c .before .before .before .before .loop .k in
     (omega arith, c .before .before .before .before .loop .inv .1 ∙ met-miss (a .statement .now) (a .map .now) (a .before) (a .i) (omega arith) (is-live (c .before .before .before .before .before)) (is-edge (c .before .before .before .before .before)) k (omega arith) (sym (tested (c .before)) ∙ c .if3 .left))
 
 returns-4 : tie.Need-returns-4 Inv-loop μ-loop
 returns-4 c =
-    let a = c .before .before .before .before .before .before .before .before .args in
+    let at-byte-at = c .before .before .before .before .before in
+    let at-start = at-byte-at .before .before .before in
+    let a = at-start .args in
     (sym (c .before .loop .inv .1 ∙ met-none (a .statement .now) (a .map .now) (a .before) (a .i) (omega arith) (is-live (c .before .before)) (is-edge (c .before .before)) (c .before .loop .k) (omega arith)), omega arith)
 
 pub marking-at-spec : {M : Type 1} → statement M

@@ -1,3 +1,5 @@
+-- `targets::marking_of` meets its contract. The code's table is that of the definition, element by element. Assumes
+-- nothing.
 use mathlib.Core.Path.{refl}
 use Rattle.targets.specs.Words.{entries, blank}
 use borrow.Author.Needs.{needs}

@@ -1,3 +1,5 @@
+-- `targets::qualified_assignment_target` meets its contract. A target of `:=` is the answer (`tells-first`); without
+-- one the definition is what `qualified_equals_target` tells (`tells-next`). Assumes nothing.
 use mathlib.Core.Path.{sym, _∙_}
 use Rattle.spec.specs.Assignments.{statementTarget}
 use Rattle.targets.proofs.NameLaws.{tells-first, tells-next}

@@ -1,3 +1,5 @@
+-- `targets::qualified_equals_target` meets its contract. A target at the front is the answer (`tells-first`); without
+-- one the definition is what `marked_target` tells (`tells-next`). Assumes nothing.
 use mathlib.Core.Path.{sym, _∙_}
 use Rattle.spec.proofs.MapLaws.{marked-bytes}
 use Rattle.targets.proofs.NameLaws.{tells-first, tells-next}

@@ -1,3 +1,6 @@
+-- `targets::qualified_name_at_with_equals` meets its contract, with a law for each return: no qualifier, no dot, no
+-- name, and with all three the lone `=` decides. `name-within` says that the name ends within the statement. Assumes
+-- nothing.
 use Prim.Native.Nat.{_≤_}
 use Rattle.targets.proofs.NameLaws.{same-length, equals-no-qualifier, equals-no-dot, equals-no-name, equals-found}
 use native.Mathlib.Omega.{arith}

@@ -1,3 +1,6 @@
+-- `targets::qualified_walrus_target` meets its contract. The loop's invariant says that the target of the whole is that
+-- of the first `:=` from `from` on that has one. `found-at` and `found-within` place the next `:=`, `before` says what
+-- stands before it. Assumes nothing.
 use native.Mathlib.Omega.{arith}
 use borrow.Author.Needs.{needs}
 use mathlib.Core.Path.{_≡_, refl, sym, _∙_}
@@ -30,19 +33,33 @@ unfolding assignHere
 sought c = c .find-str-in .ensures ∙ nonempty-word (ascii ":=") _ (omega arith)
 
 -- it stands at the place found
-found-at : (c : tie.After-known-told Inv-loop μ-loop) → first assignHere (c .before .before .before .before .before .loop .from) (marked (c .before .before .before .before .before .before .before .before .args .statement .now) (c .before .before .before .before .before .before .before .before .args .map .now)) ≡ At (c .before .found .given .0 .0)
+found-at : (c : tie.After-known-told Inv-loop μ-loop) →
+    let at-loop = c .before .before .before .before .before in
+    let at-start = at-loop .before .before .before in
+    first assignHere (at-loop .loop .from) (marked (at-start .args .statement .now) (at-start .args .map .now)) ≡ At (c .before .found .given .0 .0)
 found-at c = sym (sought (c .before .before .before)) ∙ c .before .found .given .1
 
 -- and within the statement
-found-within : (c : tie.After-known-told Inv-loop μ-loop) → (c .before .before .before .before .before .loop .from ≤ c .before .found .given .0 .0) × (c .before .found .given .0 .0 < length (c .before .before .before .before .before .before .before .before .args .statement .now))
+found-within : (c : tie.After-known-told Inv-loop μ-loop) →
+    let at-loop = c .before .before .before .before .before in
+    let at-start = at-loop .before .before .before in
+    (at-loop .loop .from ≤ c .before .found .given .0 .0) × (c .before .found .given .0 .0 < length (at-start .args .statement .now))
 found-within c =
-    let a = c .before .before .before .before .before .before .before .before .args in
+    let at-loop = c .before .before .before .before .before in
+    let at-start = at-loop .before .before .before in
+    let a = at-start .args in
     let w = first-within assignHere (marked (a .statement .now) (a .map .now)) _ _ (found-at c) in
     (w .0, omega (arith, w .1, marked-length (a .statement .now) (a .map .now)))
 
 -- what stands before it
-before : (c : tie.After-qualified-name-before Inv-loop μ-loop) → Tells (marked (c .before .before .before .before .before .before .before .before .before .args .statement .now) (c .before .before .before .before .before .before .before .before .before .args .map .now)) (targetBefore (reverse (take (c .before .before .found .given .0 .0) (marked (c .before .before .before .before .before .before .before .before .before .args .statement .now) (c .before .before .before .before .before .before .before .before .before .args .map .now))))) (c .qualified-name-before .result)
-before c = c .qualified-name-before .ensures _ (marked-bytes (c .before .before .before .before .before .before .before .before .before .args .statement .now) (c .before .before .before .before .before .before .before .before .before .args .map .now))
+before : (c : tie.After-qualified-name-before Inv-loop μ-loop) →
+    let at-loop = c .before .before .before .before .before .before in
+    let at-start = at-loop .before .before .before in
+    Tells (marked (at-start .args .statement .now) (at-start .args .map .now)) (targetBefore (reverse (take (c .before .before .found .given .0 .0) (marked (at-start .args .statement .now) (at-start .args .map .now))))) (c .qualified-name-before .result)
+before c =
+    let at-loop = c .before .before .before .before .before .before in
+    let at-start = at-loop .before .before .before in
+    c .qualified-name-before .ensures _ (marked-bytes (at-start .args .statement .now) (at-start .args .map .now))
 
 loop-holds : tie.Need-loop-holds Inv-loop μ-loop
 loop-holds c = refl
@@ -61,9 +78,11 @@ enum-told c = search needs
 
 returns : tie.Need-returns Inv-loop μ-loop
 returns c =
-    let a = c .before .before .before .before .before .before .before .args in
+    let at-loop = c .before .before .before .before in
+    let at-start = at-loop .before .before .before in
+    let a = at-start .args in
     record {
-      target = c .before .before .before .before .loop .inv ∙ assign-none (marked (a .statement .now) (a .map .now)) (c .before .before .before .before .loop .from) (sym (sought (c .before .before)) ∙ c .enum-told .given .1);
+      target = at-loop .loop .inv ∙ assign-none (marked (a .statement .now) (a .map .now)) (at-loop .loop .from) (sym (sought (c .before .before)) ∙ c .enum-told .given .1);
       inside = tt;
     }
 
@@ -75,8 +94,11 @@ is-target-requires c κs = search needs
 
 returns-2 : tie.Need-returns-2 Inv-loop μ-loop
 returns-2 c =
-    let a = c .before .before .before .before .before .before .before .before .before .before .before .args in
-    rw (c .before .before .before .before .before .before .before .before .loop .inv ∙ assign-at (marked (a .statement .now) (a .map .now)) (c .before .before .before .before .before .before .before .before .loop .from) _ (found-at (c .before .before .before)))
+    let at-known-told = c .before .before .before in
+    let at-loop = at-known-told .before .before .before .before .before in
+    let at-start = at-loop .before .before .before in
+    let a = at-start .args in
+    rw (at-loop .loop .inv ∙ assign-at (marked (a .statement .now) (a .map .now)) (at-loop .loop .from) _ (found-at at-known-told))
     (tells-first _ _ _ _ (sym (c .before .is-target .ensures) ∙ c .if1 .taken) (before (c .before .before)))
 
 add-from : tie.Need-add-from Inv-loop μ-loop
@@ -87,9 +109,12 @@ loop-less c = let w = found-within (c .before .before .before) in omega arith
 
 loop-again : tie.Need-loop-again Inv-loop μ-loop
 loop-again c =
-    let a = c .before .before .before .before .before .before .before .before .before .before .before .args in
-    c .before .before .before .before .before .before .before .before .loop .inv
-    ∙ (assign-at (marked (a .statement .now) (a .map .now)) (c .before .before .before .before .before .before .before .before .loop .from) _ (found-at (c .before .before .before))
+    let at-known-told = c .before .before .before in
+    let at-loop = at-known-told .before .before .before .before .before in
+    let at-start = at-loop .before .before .before in
+    let a = at-start .args in
+    at-loop .loop .inv
+    ∙ (assign-at (marked (a .statement .now) (a .map .now)) (at-loop .loop .from) _ (found-at at-known-told)
     ∙ tells-next _ _ _ _ (sym (c .before .is-target .ensures) ∙ c .if1 .left) (before (c .before .before)))
 
 pub qualified-walrus-target-spec : {M : Type 1} → statement M

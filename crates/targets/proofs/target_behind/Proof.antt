@@ -1,3 +1,5 @@
+-- `targets::target_behind` meets its contract. `targetMet` computes once it is known what is met, for a word to what
+-- `target_past` ensures. Assumes nothing.
 use mathlib.Core.Path.{refl}
 use Prim.Native.Nat.{_+_, _≤_}
 use lib.ListN.{length}

@@ -1,3 +1,5 @@
+-- `rewrite::read_text` meets its contract. The loop's invariant says that the two buffers keep their lengths and that n
+-- is within the text; its measure is the count of turns left. Assumes nothing.
 use borrow.Author.Needs.{needs}
 use mathlib.Core.Path.{_≡_, refl, sym, ap, _∙_}
 use Prim.Native.Nat.{ℕ, _≤_}

@@ -1,3 +1,5 @@
+-- `rewrite::print_answer` is safe to run: the part that it writes is within the output, by what `output_length`
+-- ensures. Assumes nothing.
 use mathlib.Core.Path.{sym}
 use lib.Seq.{length-take-le}
 use borrow.Author.Needs.{needs}
