@@ -20,16 +20,26 @@ use Rattle.assignments.proofs.put_assignment.Statement.{statement}
 use Rattle.assignments.proofs.put_assignment.Tie as tie
 
 -- the right side has the bytes found
-right-bytes : (c : tie.After-right-side) (t : List Marked) → bytes t ≡ c .before .before .before .before .before .before .before .args .statement .now → bytes (rightSide (drop (c .before .before .before .before .before .before .before .args .at + 2) t)) ≡ c .right-side .result .now
+right-bytes : (c : tie.After-right-side) →
+    let at-run-start = c .before .before .before .before in
+    let at-start = at-run-start .before .before .before in
+    (t : List Marked) → bytes t ≡ at-start .args .statement .now → bytes (rightSide (drop (at-start .args .at + 2) t)) ≡ c .right-side .result .now
 right-bytes c t e =
-    let a = c .before .before .before .before .before .before .before .args in
+    let at-run-start = c .before .before .before .before in
+    let at-start = at-run-start .before .before .before in
+    let a = at-start .args in
     c .right-side .ensures (drop (a .at + 2) t)
     (bytes-drop (a .at + 2) t ∙ (ap (λ (l : List ℕ). drop (a .at + 2) l) e ∙ sym (rest-of (a .statement .now) (a .at + 2))))
 
 -- it is no longer than what stands behind the `:=`
-right-short : (c : tie.After-right-side) → length (c .right-side .result .now) ≤ length (c .before .before .before .before .before .before .before .args .statement .now) - (c .before .before .before .before .before .before .before .args .at + 2)
+right-short : (c : tie.After-right-side) →
+    let at-run-start = c .before .before .before .before in
+    let at-start = at-run-start .before .before .before in
+    length (c .right-side .result .now) ≤ length (at-start .args .statement .now) - (at-start .args .at + 2)
 right-short c =
-    let a = c .before .before .before .before .before .before .before .args in
+    let at-run-start = c .before .before .before .before in
+    let at-start = at-run-start .before .before .before in
+    let a = at-start .args in
     let t = marked (a .statement .now) [] in
     let b = right-bytes c t (marked-bytes (a .statement .now) []) in
     omega (
@@ -42,10 +52,16 @@ right-short c =
     )
 
 -- the name is that of any text with the statement's bytes
-name-told : (c : tie.After-starts-name) (t : List Marked) → bytes t ≡ c .before .before .before .before .before .before .before .before .args .statement .now → c .starts-name .result ≡ startsName (take (c .before .before .before .before .before .run-start .result - c .before .before .before .before .run-start2 .result) (drop (c .before .before .before .before .run-start2 .result) t))
+name-told : (c : tie.After-starts-name) →
+    let at-run-start2 = c .before .before .before .before in
+    let at-run-start = at-run-start2 .before in
+    let at-start = at-run-start .before .before .before in
+    (t : List Marked) → bytes t ≡ at-start .args .statement .now → c .starts-name .result ≡ startsName (take (at-run-start .run-start .result - at-run-start2 .run-start2 .result) (drop (at-run-start2 .run-start2 .result) t))
 name-told c t e =
-    let a = c .before .before .before .before .before .before .before .before .args in
-    c .starts-name .ensures _ (name-bytes (a .statement .now) t e (a .at) _ _ (omega arith) (c .before .before .before .before .before .run-start .ensures .0) (c .before .before .before .before .run-start2 .ensures .0))
+    let at-run-start = c .before .before .before .before .before in
+    let at-start = at-run-start .before .before .before in
+    let a = at-start .args in
+    c .starts-name .ensures _ (name-bytes (a .statement .now) t e (a .at) _ _ (omega arith) (at-run-start .run-start .ensures .0) (c .before .before .before .before .run-start2 .ensures .0))
 
 run-start-requires : tie.Need-run-start-requires
 run-start-requires c κs = search needs
@@ -84,14 +100,22 @@ put-all-requires : tie.Need-put-all-requires
 put-all-requires c κs = search needs
 
 slice-aggregate-put-set : tie.Need-slice-aggregate-put-set
-slice-aggregate-put-set c = sym (length-take-le (c .before .before .before .before .before .before .before .before .run-start2 .result) (c .before .before .before .before .before .before .before .before .before .before .before .before .args .statement .now) (omega arith))
+slice-aggregate-put-set c =
+    let at-right-side = c .before .before .before .before .before in
+    let at-run-start2 = at-right-side .before .before .before in
+    let at-start = at-run-start2 .before .before .before .before in
+    sym (length-take-le (at-run-start2 .run-start2 .result) (at-start .args .statement .now) (omega arith))
 
 put-set-requires : tie.Need-put-set-requires
 put-set-requires c κs =
-    let xs = c .before .before .before .before .before .before .before .before .before .before .before .before .args .statement .now in
-    let s = c .before .before .before .before .before .before .before .before .run-start2 .result in
-    let m = c .before .before .before .before .before .before .before .before .before .run-start .result in
-    omega (arith, right-short (c .before .before .before .before .before), length-take-le s xs (omega arith), length-take-le (m - s) (drop s xs) (omega (arith, length-drop s xs)))
+    let at-right-side = c .before .before .before .before .before in
+    let at-run-start2 = at-right-side .before .before .before in
+    let at-run-start = at-run-start2 .before in
+    let at-start = at-run-start .before .before .before in
+    let xs = at-start .args .statement .now in
+    let s = at-run-start2 .run-start2 .result in
+    let m = at-run-start .run-start .result in
+    omega (arith, right-short at-right-side, length-take-le s xs (omega arith), length-take-le (m - s) (drop s xs) (omega (arith, length-drop s xs)))
 
 put-all-requires-2 : tie.Need-put-all-requires-2
 put-all-requires-2 c κs = search needs
@@ -101,9 +125,14 @@ same-length c = search needs
 
 returns : tie.Need-returns
 returns c =
-    let a = c .before .before .before .before .before .before .before .before .before .before .before .before .before .before .args in
+    let at-starts-name = c .before .before .before .before .before .before in
+    let at-right-side = at-starts-name .before in
+    let at-run-start2 = at-right-side .before .before .before in
+    let at-run-start = at-run-start2 .before in
+    let at-start = at-run-start .before .before .before in
+    let a = at-start .args in
     λ t e.
-    rw (no-right (a .statement .now) t e (a .at) _ _ (omega arith) (c .before .before .before .before .before .before .before .before .before .before .before .run-start .ensures .0) (c .before .before .before .before .before .before .before .before .before .before .run-start2 .ensures .0) _ (right-bytes (c .before .before .before .before .before .before .before) t e) (sym (name-told (c .before .before .before .before .before .before) t e) ∙ c .before .before .before .before .before .if1 .taken) (c .before .before .before .before .if2 .taken))
+    rw (no-right (a .statement .now) t e (a .at) _ _ (omega arith) (at-run-start .run-start .ensures .0) (at-run-start2 .run-start2 .ensures .0) _ (right-bytes at-right-side t e) (sym (name-told at-starts-name t e) ∙ c .before .before .before .before .before .if1 .taken) (c .before .before .before .before .if2 .taken))
     (record { counted = c .before .before .put-all .ensures .0; stored = c .before .before .put-all .ensures .1 })
 
 same-length-2 : tie.Need-same-length-2
@@ -111,9 +140,15 @@ same-length-2 c = search needs
 
 returns-2 : tie.Need-returns-2
 returns-2 c =
-    let a = c .before .before .before .before .before .before .before .before .before .before .before .before .before .before .before .args in
+    let at-if1 = c .before .before .before .before .before .before in
+    let at-starts-name = at-if1 .before in
+    let at-right-side = at-starts-name .before in
+    let at-run-start2 = at-right-side .before .before .before in
+    let at-run-start = at-run-start2 .before in
+    let at-start = at-run-start .before .before .before in
+    let a = at-start .args in
     λ t e.
-    rw (set-bytes (a .statement .now) t e (a .at) _ _ (omega arith) (c .before .before .before .before .before .before .before .before .before .before .before .before .run-start .ensures .0) (c .before .before .before .before .before .before .before .before .before .before .before .run-start2 .ensures .0) _ (right-bytes (c .before .before .before .before .before .before .before .before) t e) (sym (name-told (c .before .before .before .before .before .before .before) t e) ∙ c .before .before .before .before .before .before .if1 .taken) (c .before .before .before .before .before .if2 .left))
+    rw (set-bytes (a .statement .now) t e (a .at) _ _ (omega arith) (at-run-start .run-start .ensures .0) (at-run-start2 .run-start2 .ensures .0) _ (right-bytes at-right-side t e) (sym (name-told at-starts-name t e) ∙ at-if1 .if1 .taken) (c .before .before .before .before .before .if2 .left))
     (c .before .before .put-set .ensures)
 
 same-length-3 : tie.Need-same-length-3
@@ -121,9 +156,13 @@ same-length-3 c = search needs
 
 returns-3 : tie.Need-returns-3
 returns-3 c =
-    let a = c .before .before .before .before .before .before .before .before .before .before .before .before .before .args in
+    let at-right-side = c .before .before .before .before .before .before in
+    let at-run-start2 = at-right-side .before .before .before in
+    let at-run-start = at-run-start2 .before in
+    let at-start = at-run-start .before .before .before in
+    let a = at-start .args in
     λ t e.
-    rw (no-name (a .statement .now) t e (a .at) _ _ (omega arith) (c .before .before .before .before .before .before .before .before .before .before .run-start .ensures .0) (c .before .before .before .before .before .before .before .before .before .run-start2 .ensures .0) (sym (name-told (c .before .before .before .before .before) t e) ∙ c .before .before .before .before .if1 .left))
+    rw (no-name (a .statement .now) t e (a .at) _ _ (omega arith) (at-run-start .run-start .ensures .0) (at-run-start2 .run-start2 .ensures .0) (sym (name-told (c .before .before .before .before .before) t e) ∙ c .before .before .before .before .if1 .left))
     (record { counted = c .before .before .put-all2 .ensures .0; stored = c .before .before .put-all2 .ensures .1 })
 
 pub put-assignment-spec : {M : Type 1} → statement M

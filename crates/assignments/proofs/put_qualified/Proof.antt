@@ -42,7 +42,10 @@ put-all-requires : tie.Need-put-all-requires
 put-all-requires c κs = omega (arith, q-long (c .before .before .before .before))
 
 put-requires : tie.Need-put-requires
-put-requires c κs = omega (arith, q-long (c .before .before .before .before .before .before .before .before), c .before .before .before .put-all .ensures .0)
+put-requires c κs =
+    let at-put-all = c .before .before .before in
+    let at-start = at-put-all .before .before .before .before .before in
+    omega (arith, q-long at-start, at-put-all .put-all .ensures .0)
 
 add-put-all-2 : tie.Need-add-put-all-2
 add-put-all-2 c = search needs
@@ -57,24 +60,32 @@ part-put-all-end-2 : tie.Need-part-put-all-end-2
 part-put-all-end-2 c = search needs
 
 put-all-requires-2 : tie.Need-put-all-requires-2
-put-all-requires-2 c κs = omega (arith, q-long (c .before .before .before .before .before .before .before .before .before .before .before .before .before), n-long (c .before .before .before .before .before .before .before .before .before .before .before .before .before), c .before .before .before .before .before .before .before .before .put-all .ensures .0, c .before .before .before .before .put .ensures .0)
+put-all-requires-2 c κs =
+    let at-put = c .before .before .before .before in
+    let at-put-all = at-put .before .before .before .before in
+    let at-start = at-put-all .before .before .before .before .before in
+    omega (arith, q-long at-start, n-long at-start, at-put-all .put-all .ensures .0, at-put .put .ensures .0)
 
 same-length : tie.Need-same-length
 same-length c = search needs
 
 returns : tie.Need-returns
 returns c =
-    let a = c .before .before .before .before .before .before .before .before .before .before .before .before .before .before .before .before .args in
+    let at-out2 = c .before .before .before .before .before .before in
+    let at-put = at-out2 .before in
+    let at-put-all = at-put .before .before .before .before in
+    let at-start = at-put-all .before .before .before .before .before in
+    let a = at-start .args in
     let xs = a .statement .now in
     let q = take (a .a + a .k - a .a) (drop (a .a) xs) in
     let n = take (a .b + a .m - a .b) (drop (a .b) xs) in
-    let ql : length q ≡ a .k = q-long (c .before .before .before .before .before .before .before .before .before .before .before .before .before .before .before .before) in
-    let nl : length n ≡ a .m = n-long (c .before .before .before .before .before .before .before .before .before .before .before .before .before .before .before .before) in
+    let ql : length q ≡ a .k = q-long at-start in
+    let nl : length n ≡ a .m = n-long at-start in
     let qk : a .a + a .k - a .a ≡ a .k = omega arith in
     let nm : a .b + a .m - a .b ≡ a .m = omega arith in
     let w : take (length q + 1 + length n) (c .before .before .put-all2 .last .0) ≡ q ++ (46 ∷ n) =
-    target-written q n (a .out .now) _ _ _ _ _ (c .before .before .before .before .before .before .before .before .before .before .before .put-all .ensures .1) (c .before .before .before .before .before .before .before .before .before .before .before .put-all .ensures .0) (c .before .before .before .before .before .before .before .put .ensures .1) (c .before .before .before .before .before .before .before .put .ensures .0) (c .before .before .put-all2 .ensures .1) (omega arith) in
-    (ap (λ (l : ℕ). Refused (QualifiedTarget (a .k) l)) (omega (arith, c .before .before .before .before .before .before .before .before .before .before .before .put-all .ensures .0, c .before .before .before .before .before .before .before .put .ensures .0, c .before .before .put-all2 .ensures .0)), rw (ql, nl, qk, nm) at w)
+    target-written q n (a .out .now) _ _ _ _ _ (at-put-all .put-all .ensures .1) (at-put-all .put-all .ensures .0) (at-put .put .ensures .1) (at-put .put .ensures .0) (c .before .before .put-all2 .ensures .1) (omega arith) in
+    (ap (λ (l : ℕ). Refused (QualifiedTarget (a .k) l)) (omega (arith, at-put-all .put-all .ensures .0, at-put .put .ensures .0, c .before .before .put-all2 .ensures .0)), rw (ql, nl, qk, nm) at w)
 
 pub put-qualified-spec : {M : Type 1} → statement M
 put-qualified-spec =

@@ -35,12 +35,20 @@ abbrev μ-loop : tie.MeasureT-loop
 μ-loop text map out₀ n₀ from₀ out n from = length text - from
 
 -- the next live `;` stands at the place found, within the text
-found-at : (c : tie.After-known-told Inv-loop μ-loop) → first (byteHere 59) (c .before .before .before .before .loop .from) (marked (c .before .before .before .before .before .before .before .before .args .text .now) (c .before .before .before .before .before .before .before .before .args .map .now)) ≡ At (c .before .found .given .0 .0)
+found-at : (c : tie.After-known-told Inv-loop μ-loop) →
+    let at-loop = c .before .before .before .before in
+    let at-start = at-loop .before .before .before .before in
+    first (byteHere 59) (at-loop .loop .from) (marked (at-start .args .text .now) (at-start .args .map .now)) ≡ At (c .before .found .given .0 .0)
 found-at c = sym (c .before .before .before .find-byte-in .ensures) ∙ c .before .found .given .1
 
-within : (c : tie.After-known-told Inv-loop μ-loop) → (c .before .before .before .before .loop .from ≤ c .before .found .given .0 .0) × (c .before .found .given .0 .0 < length (c .before .before .before .before .before .before .before .before .args .text .now))
+within : (c : tie.After-known-told Inv-loop μ-loop) →
+    let at-loop = c .before .before .before .before in
+    let at-start = at-loop .before .before .before .before in
+    (at-loop .loop .from ≤ c .before .found .given .0 .0) × (c .before .found .given .0 .0 < length (at-start .args .text .now))
 within c =
-    let a = c .before .before .before .before .before .before .before .before .args in
+    let at-loop = c .before .before .before .before in
+    let at-start = at-loop .before .before .before .before in
+    let a = at-start .args in
     let w = first-within (byteHere 59) (marked (a .text .now) (a .map .now)) _ _ (found-at c) in
     (w .0, omega (arith, w .1, marked-length (a .text .now) (a .map .now)))
 
@@ -50,32 +58,60 @@ partTo c l = take (c .before .found .given .0 .0 - c .before .before .before .be
 
 -- the statement beside its map, and its length
 abbrev pieceOf : (c : tie.After-known-told Inv-loop μ-loop) → List Marked
-pieceOf c = partTo c (marked (c .before .before .before .before .before .before .before .before .args .text .now) (c .before .before .before .before .before .before .before .before .args .map .now))
+pieceOf c =
+    let at-loop = c .before .before .before .before in
+    let at-start = at-loop .before .before .before .before in
+    partTo c (marked (at-start .args .text .now) (at-start .args .map .now))
 
-part-long : (c : tie.After-known-told Inv-loop μ-loop) → length (partTo c (c .before .before .before .before .before .before .before .before .args .text .now)) ≡ c .before .found .given .0 .0 - c .before .before .before .before .loop .from
+part-long : (c : tie.After-known-told Inv-loop μ-loop) →
+    let at-loop = c .before .before .before .before in
+    let at-start = at-loop .before .before .before .before in
+    length (partTo c (at-start .args .text .now)) ≡ c .before .found .given .0 .0 - at-loop .loop .from
 part-long c =
+    let at-loop = c .before .before .before .before in
+    let at-start = at-loop .before .before .before .before in
     let w = within c in
-    length-take-le _ (drop (c .before .before .before .before .loop .from) (c .before .before .before .before .before .before .before .before .args .text .now)) (omega (arith, length-drop (c .before .before .before .before .loop .from) (c .before .before .before .before .before .before .before .before .args .text .now)))
+    length-take-le _ (drop (at-loop .loop .from) (at-start .args .text .now)) (omega (arith, length-drop (at-loop .loop .from) (at-start .args .text .now)))
 
 piece-long : (c : tie.After-known-told Inv-loop μ-loop) → length (pieceOf c) ≡ c .before .found .given .0 .0 - c .before .before .before .before .loop .from
 piece-long c =
+    let at-loop = c .before .before .before .before in
+    let at-start = at-loop .before .before .before .before in
     let w = within c in
-    let t = marked (c .before .before .before .before .before .before .before .before .args .text .now) (c .before .before .before .before .before .before .before .before .args .map .now) in
-    length-take-le _ (drop (c .before .before .before .before .loop .from) t) (omega (arith, length-drop (c .before .before .before .before .loop .from) t, marked-length (c .before .before .before .before .before .before .before .before .args .text .now) (c .before .before .before .before .before .before .before .before .args .map .now)))
+    let t = marked (at-start .args .text .now) (at-start .args .map .now) in
+    length-take-le _ (drop (at-loop .loop .from) t) (omega (arith, length-drop (at-loop .loop .from) t, marked-length (at-start .args .text .now) (at-start .args .map .now)))
 
-piece-same : (c : tie.After-known-told Inv-loop μ-loop) → marked (partTo c (c .before .before .before .before .before .before .before .before .args .text .now)) (partTo c (c .before .before .before .before .before .before .before .before .args .map .now)) ≡ pieceOf c
-piece-same c = marked-part (c .before .before .before .before .loop .from) (c .before .found .given .0 .0 - c .before .before .before .before .loop .from) (c .before .before .before .before .before .before .before .before .args .text .now) (c .before .before .before .before .before .before .before .before .args .map .now)
+piece-same : (c : tie.After-known-told Inv-loop μ-loop) →
+    let at-loop = c .before .before .before .before in
+    let at-start = at-loop .before .before .before .before in
+    marked (partTo c (at-start .args .text .now)) (partTo c (at-start .args .map .now)) ≡ pieceOf c
+piece-same c =
+    let at-loop = c .before .before .before .before in
+    let at-start = at-loop .before .before .before .before in
+    marked-part (at-loop .loop .from) (c .before .found .given .0 .0 - at-loop .loop .from) (at-start .args .text .now) (at-start .args .map .now)
 
 -- what is made of it, and what is left
-answered : (c : tie.After-put-statement2 Inv-loop μ-loop) → c .put-statement2 .result ≡ answerFrom (c .before .before .before .before .before .before .before .before .loop .n) (outcome (pieceOf (c .before .before .before .before)))
+answered : (c : tie.After-put-statement2 Inv-loop μ-loop) →
+    let at-known-told = c .before .before .before .before in
+    let at-loop = at-known-told .before .before .before .before in
+    c .put-statement2 .result ≡ answerFrom (at-loop .loop .n) (outcome (pieceOf at-known-told))
 answered c =
-    let h : c .put-statement2 .result ≡ answerFrom (c .before .before .before .before .before .before .before .before .loop .n) (outcome (marked (partTo (c .before .before .before .before) (c .before .before .before .before .before .before .before .before .before .before .before .before .args .text .now)) (partTo (c .before .before .before .before) (c .before .before .before .before .before .before .before .before .before .before .before .before .args .map .now)))) = c .put-statement2 .ensures .0 in
-    rw (piece-same (c .before .before .before .before)) at h
+    let at-known-told = c .before .before .before .before in
+    let at-loop = at-known-told .before .before .before .before in
+    let at-start = at-loop .before .before .before .before in
+    let h : c .put-statement2 .result ≡ answerFrom (at-loop .loop .n) (outcome (marked (partTo at-known-told (at-start .args .text .now)) (partTo at-known-told (at-start .args .map .now)))) = c .put-statement2 .ensures .0 in
+    rw (piece-same at-known-told) at h
 
-left-in : (c : tie.After-put-statement2 Inv-loop μ-loop) → LeavesFrom (c .before .before .before .before .before .before .before .before .loop .n) (outcome (pieceOf (c .before .before .before .before))) (c .before .before .before .before .before .before .before .before .loop .out) (c .put-statement2 .last .0)
+left-in : (c : tie.After-put-statement2 Inv-loop μ-loop) →
+    let at-known-told = c .before .before .before .before in
+    let at-loop = at-known-told .before .before .before .before in
+    LeavesFrom (at-loop .loop .n) (outcome (pieceOf at-known-told)) (at-loop .loop .out) (c .put-statement2 .last .0)
 left-in c =
-    let h : LeavesFrom (c .before .before .before .before .before .before .before .before .loop .n) (outcome (marked (partTo (c .before .before .before .before) (c .before .before .before .before .before .before .before .before .before .before .before .before .args .text .now)) (partTo (c .before .before .before .before) (c .before .before .before .before .before .before .before .before .before .before .before .before .args .map .now)))) (c .before .before .before .before .before .before .before .before .loop .out) (c .put-statement2 .last .0) = c .put-statement2 .ensures .1 in
-    rw (piece-same (c .before .before .before .before)) at h
+    let at-known-told = c .before .before .before .before in
+    let at-loop = at-known-told .before .before .before .before in
+    let at-start = at-loop .before .before .before .before in
+    let h : LeavesFrom (at-loop .loop .n) (outcome (marked (partTo at-known-told (at-start .args .text .now)) (partTo at-known-told (at-start .args .map .now)))) (at-loop .loop .out) (c .put-statement2 .last .0) = c .put-statement2 .ensures .1 in
+    rw (piece-same at-known-told) at h
 
 turn-in : (c : tie.After-known-told Inv-loop μ-loop)
     → let l = c .before .before .before .before in
@@ -91,11 +127,23 @@ turn-in c =
     rw (left-cut t (l .loop .from) _ (found-at c)) at r
 
 -- where it is text, its end
-done-at : (c : tie.After-known-told2 Inv-loop μ-loop) → Done (c .before .pass .given .0 .0) ≡ answerFrom (c .before .before .before .before .before .before .before .before .before .before .before .before .before .loop .n) (outcome (pieceOf (c .before .before .before .before .before .before .before .before .before)))
+done-at : (c : tie.After-known-told2 Inv-loop μ-loop) →
+    let at-put-statement2 = c .before .before .before .before .before in
+    let at-known-told = at-put-statement2 .before .before .before .before in
+    let at-loop = at-known-told .before .before .before .before in
+    Done (c .before .pass .given .0 .0) ≡ answerFrom (at-loop .loop .n) (outcome (pieceOf at-known-told))
 done-at c = sym (c .before .pass .given .1) ∙ answered (c .before .before .before .before .before)
 
-end-within : (c : tie.After-known-told2 Inv-loop μ-loop) → c .before .pass .given .0 .0 ≤ c .before .before .before .before .before .before .before .before .before .before .before .before .before .loop .n + (c .before .before .before .before .before .before .before .before .before .before .found .given .0 .0 - c .before .before .before .before .before .before .before .before .before .before .before .before .before .loop .from) + 7
-end-within c = omega (arith, statement-long (pieceOf (c .before .before .before .before .before .before .before .before .before)) (c .before .before .before .before .before .before .before .before .before .before .before .before .before .loop .n) _ (done-at c), piece-long (c .before .before .before .before .before .before .before .before .before))
+end-within : (c : tie.After-known-told2 Inv-loop μ-loop) →
+    let at-put-statement2 = c .before .before .before .before .before in
+    let at-found = at-put-statement2 .before .before .before .before .before in
+    let at-loop = at-found .before .before .before in
+    c .before .pass .given .0 .0 ≤ at-loop .loop .n + (at-found .found .given .0 .0 - at-loop .loop .from) + 7
+end-within c =
+    let at-put-statement2 = c .before .before .before .before .before in
+    let at-known-told = at-put-statement2 .before .before .before .before in
+    let at-loop = at-known-told .before .before .before .before in
+    omega (arith, statement-long (pieceOf at-known-told) (at-loop .loop .n) _ (done-at c), piece-long at-known-told)
 
 loop-holds : tie.Need-loop-holds Inv-loop μ-loop
 loop-holds c = (omega arith, refl, omega arith, turn-start _ _)
@@ -135,8 +183,12 @@ same-length c = search needs
 
 returns : tie.Need-returns Inv-loop μ-loop
 returns c =
-    let a = c .before .before .before .before .before .before .before .before .before .before .before .before .before .args in
-    let l = c .before .before .before .before .before .before .before .before .before .loop in
+    let at-enum-told = c .before .before .before .before .before .before in
+    let at-find-byte-in = at-enum-told .before .before in
+    let at-loop = at-find-byte-in .before in
+    let at-start = at-loop .before .before .before .before in
+    let a = at-start .args in
+    let l = at-loop .loop in
     let xs = a .text .now in
     let ms = a .map .now in
     let last : marked (take (length xs - l .from) (drop (l .from) xs)) (take (length ms - l .from) (drop (l .from) ms)) ≡ drop (l .from) (marked xs ms) =
@@ -144,7 +196,7 @@ returns c =
     let p : c .before .before .put-statement .result ≡ answerFrom (l .n) (outcome (marked (take (length xs - l .from) (drop (l .from) xs)) (take (length ms - l .from) (drop (l .from) ms)))) = c .before .before .put-statement .ensures .0 in
     let q : LeavesFrom (l .n) (outcome (marked (take (length xs - l .from) (drop (l .from) xs)) (take (length ms - l .from) (drop (l .from) ms)))) (l .out) (c .before .before .put-statement .last .0) = c .before .before .put-statement .ensures .1 in
     let r : Turn (a .out .now) 0 (assignments (marked xs ms)) (l .out) (l .n) (leftFrom (marked xs ms) (l .from)) = l .inv .3 in
-    let s = rw (left-last (marked xs ms) (l .from) (sym (c .before .before .before .before .before .before .before .before .find-byte-in .ensures) ∙ c .before .before .before .before .before .before .enum-told .given .1)) at r in
+    let s = rw (left-last (marked xs ms) (l .from) (sym (at-find-byte-in .find-byte-in .ensures) ∙ at-enum-told .enum-told .given .1)) at r in
     (rw last at p ∙ sym (turn-answer s), turn-leaves s _ (rw last at q))
 
 sub-put-statement-3 : tie.Need-sub-put-statement-3 Inv-loop μ-loop
@@ -186,21 +238,38 @@ returns-2 c =
     (answered at-put-statement2 ∙ sym (turn-answer r), turn-leaves r _ (left-in at-put-statement2))
 
 put-requires : tie.Need-put-requires Inv-loop μ-loop
-put-requires c κs = let w = within (c .before .before .before .before .before .before .before .before .before .before) in omega (arith, end-within (c .before))
+put-requires c κs =
+    let at-put-statement2 = c .before .before .before .before .before .before in
+    let at-known-told = at-put-statement2 .before .before .before .before in
+    let w = within at-known-told in omega (arith, end-within (c .before))
 
 add-from : tie.Need-add-from Inv-loop μ-loop
-add-from c = let w = within (c .before .before .before .before .before .before .before .before .before .before .before .before .before) in omega arith
+add-from c =
+    let at-pass = c .before .before .before .before .before in
+    let at-put-statement2 = at-pass .before .before .before .before in
+    let at-known-told = at-put-statement2 .before .before .before .before in
+    let at-loop = at-known-told .before .before .before .before in
+    let at-start = at-loop .before .before .before .before in
+    let w = within at-known-told in omega (arith, at-start .pre .0)
 
 loop-less : tie.Need-loop-less Inv-loop μ-loop
-loop-less c = let w = within (c .before .before .before .before .before .before .before .before .before .before .before .before .before) in omega arith
+loop-less c =
+    let at-pass = c .before .before .before .before .before in
+    let at-put-statement2 = at-pass .before .before .before .before in
+    let at-known-told = at-put-statement2 .before .before .before .before in
+    let w = within at-known-told in omega arith
 
 loop-again : tie.Need-loop-again Inv-loop μ-loop
 loop-again c =
-    let w = within (c .before .before .before .before .before .before .before .before .before .before .before .before .before) in (
+    let at-pass = c .before .before .before .before .before in
+    let at-put-statement2 = at-pass .before .before .before .before in
+    let at-known-told = at-put-statement2 .before .before .before .before in
+    let at-loop = at-known-told .before .before .before .before in
+    let w = within at-known-told in (
       omega arith,
-      c .before .before .put .kept .0 ∙ (c .before .before .before .before .before .before .before .before .before .put-statement2 .kept .0 ∙ c .before .before .before .before .before .before .before .before .before .before .before .before .before .before .before .before .before .loop .inv .1),
+      c .before .before .put .kept .0 ∙ (at-put-statement2 .put-statement2 .kept .0 ∙ at-loop .loop .inv .1),
       omega (arith, end-within (c .before .before .before .before), c .before .before .put .ensures .0),
-      statement-turn _ _ _ _ _ _ _ _ _ _ (turn-in (c .before .before .before .before .before .before .before .before .before .before .before .before .before)) (done-at (c .before .before .before .before)) (left-in (c .before .before .before .before .before .before .before .before .before)) (c .before .before .put .ensures .0) (c .before .before .put .ensures .1),
+      statement-turn _ _ _ _ _ _ _ _ _ _ (turn-in at-known-told) (done-at (c .before .before .before .before)) (left-in at-put-statement2) (c .before .before .put .ensures .0) (c .before .before .put .ensures .1),
     )
 
 pub transform-assignments-spec : {M : Type 1} → statement M

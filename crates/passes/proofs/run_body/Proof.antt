@@ -29,11 +29,17 @@ slice-relend-prefix-run-passes-3 : tie.Need-slice-relend-prefix-run-passes-3
 slice-relend-prefix-run-passes-3 c = search needs
 
 slice-aggregate-run-passes-3 : tie.Need-slice-aggregate-run-passes-3
-slice-aggregate-run-passes-3 c = sym (length-take-le (c .before .before .before .before .before .before .before .args .size) (c .before .before .before .before .before .before .before .args .spare .now) (c .before .before .before .before .before .before .before .pre .1 .1 .1 .1))
+slice-aggregate-run-passes-3 c =
+    let at-shared-slice-known = c .before .before .before .before .before .before in
+    let at-start = at-shared-slice-known .before in
+    sym (length-take-le (at-start .args .size) (at-start .args .spare .now) (at-start .pre .1 .1 .1 .1))
 
 run-passes-requires : tie.Need-run-passes-requires
-run-passes-requires c κs = let s = c .before .before .before .before .before .before .before .args in
-    let p = c .before .before .before .before .before .before .before .pre in
+run-passes-requires c κs =
+    let at-shared-slice-known = c .before .before .before .before .before .before in
+    let at-start = at-shared-slice-known .before in
+    let s = at-start .args in
+    let p = at-start .pre in
     (p .1 .0, (length-take-le (s .size) (s .output .now) (p .1 .1 .0) ∙ p .0, (length-take-le (s .size) (s .work .now) (p .1 .1 .1 .0) ∙ p .0, length-take-le (s .size) (s .spare .now) (p .1 .1 .1 .1) ∙ p .0)))
 
 output-length-requires : tie.Need-output-length-requires
@@ -59,15 +65,23 @@ same-length-3 c = search needs
 
 returns : tie.Need-returns
 unfolding bodyResult
-returns c = let s = c .before .before .before .before .before .before .before .before .before .before .before .before .before .before .before .before .before .before .before .before .before .before .before .before .before .before .before .args in
-    let p = c .before .before .before .before .before .before .before .before .before .before .before .before .before .before .before .before .before .before .before .before .before .before .before .before .before .before .before .pre in
-    let run = c .before .before .before .before .before .before .before .before .before .before .before .before .before .before .before .before .before .before .before .run-passes in
-    let n = c .before .before .before .before .before .before .before .before .before .before .before .before .output-length .ensures ∙ (ap (λ r. callNumbers r .length) (run .ensures .answered) ∙ answer-length [] (rewriting actionOf (s .text .now))) in (
+returns c =
+    let at-fill2 = c .before .before .before .before .before .before in
+    let at-fill = at-fill2 .before .before .before .before in
+    let at-output-length = at-fill .before .before in
+    let at-output = at-output-length .before .before .before .before .before .before in
+    let at-run-passes = at-output .before in
+    let at-slice-known = at-run-passes .before .before .before .before .before .before in
+    let at-start = at-slice-known .before .before in
+    let s = at-start .args in
+    let p = at-start .pre in
+    let run = at-run-passes .run-passes in
+    let n = at-output-length .output-length .ensures ∙ (ap (λ r. callNumbers r .length) (run .ensures .answered) ∙ answer-length [] (rewriting actionOf (s .text .now))) in (
       run .ensures .answered,
       (
-        c .before .before .before .before .before .before .before .before .before .before .fill .ensures ∙ zeros-behind-part (s .size) (c .before .before .before .before .before .before .before .before .before .before .before .before .output-length .result) (run .last .1 .0) (s .output .now) (bodyResult (s .text .now) .output) (run .kept .1 .0 ∙ length-take-le (s .size) (s .output .now) (p .1 .1 .0)) n (run .ensures .held),
+        at-fill .fill .ensures ∙ zeros-behind-part (s .size) (at-output-length .output-length .result) (run .last .1 .0) (s .output .now) (bodyResult (s .text .now) .output) (run .kept .1 .0 ∙ length-take-le (s .size) (s .output .now) (p .1 .1 .0)) n (run .ensures .held),
         (
-          c .before .before .before .before .before .before .fill2 .ensures ∙ zeros-behind-part (s .size) 0 (run .last .1 .1 .0) (s .work .now) [] (run .kept .1 .1 .0 ∙ length-take-le (s .size) (s .work .now) (p .1 .1 .1 .0)) refl refl,
+          at-fill2 .fill2 .ensures ∙ zeros-behind-part (s .size) 0 (run .last .1 .1 .0) (s .work .now) [] (run .kept .1 .1 .0 ∙ length-take-le (s .size) (s .work .now) (p .1 .1 .1 .0)) refl refl,
           c .before .before .fill3 .ensures ∙ zeros-behind-part (s .size) 0 (run .last .1 .1 .1 .0) (s .spare .now) [] (run .kept .1 .1 .1 .0 ∙ length-take-le (s .size) (s .spare .now) (p .1 .1 .1 .1)) refl refl,
         ),
       ),

@@ -29,9 +29,15 @@ enum-told : tie.Need-enum-told
 enum-told c = search needs
 
 run-function-requires : tie.Need-run-function-requires
-run-function-requires c κs = let s = c .before .before .before .before .before .before .before .before .before .before .before .before .before .before .before .before .args in
-    let h = check-only 16384 (c .before .before .before .before .before .before .before .before .before .all-lent .result) (s .text .now) [] Passed (sym (c .before .before .before .before .before .before .before .check-texts .ensures) ∙ c .before .before .before .before .before .enum-told .given .1) in
-    let t = two-lent _ _ _ (sym (c .before .before .before .before .before .before .before .before .before .all-lent .ensures) ∙ h .1) in
+run-function-requires c κs =
+    let at-enum-told = c .before .before .before .before .before in
+    let at-check-texts = at-enum-told .before .before in
+    let at-all-lent = at-check-texts .before .before in
+    let at-shared-slice-known = at-all-lent .before .before .before .before .before .before in
+    let at-start = at-shared-slice-known .before in
+    let s = at-start .args in
+    let h = check-only 16384 (at-all-lent .all-lent .result) (s .text .now) [] Passed (sym (at-check-texts .check-texts .ensures) ∙ at-enum-told .enum-told .given .1) in
+    let t = two-lent _ _ _ (sym (at-all-lent .all-lent .ensures) ∙ h .1) in
     let l = three-lent _ _ _ (t .0) in
     (refl, (refl, (h .0, (l .0, (l .1, (l .2, (t .1, t .2)))))))
 
@@ -52,9 +58,15 @@ same-length-5 c = search needs
 
 returns : tie.Need-returns
 unfolding functionAnswer functionOutput functionText functionRecords workExit functionCheck areLent bufferSize textLimit recordNumbers recordWidth recordLimit
-returns c = let e = c .before .before .before .before .before .before .before .before .before .before .before .before .before .before .before .before .before .before .before .before .all-lent .ensures in
-    let p = sym (c .before .before .before .before .before .before .before .before .before .before .before .before .before .before .before .before .before .before .check-texts .ensures) ∙ c .before .before .before .before .before .before .before .before .before .before .before .before .before .before .before .before .enum-told .given .1 in
-    rw (← e, p) (c .before .before .before .before .before .before .before .before .before .before .run-function .ensures)
+returns c =
+    let at-spare = c .before .before .before .before .before in
+    let at-run-function = at-spare .before .before .before .before .before in
+    let at-enum-told = at-run-function .before .before .before .before .before .before in
+    let at-check-texts = at-enum-told .before .before in
+    let at-all-lent = at-check-texts .before .before in
+    let e = at-all-lent .all-lent .ensures in
+    let p = sym (at-check-texts .check-texts .ensures) ∙ at-enum-told .enum-told .given .1 in
+    rw (← e, p) (at-run-function .run-function .ensures)
 
 returns-2 : tie.Need-returns-2
 unfolding functionAnswer functionOutput functionText functionRecords workExit functionCheck areLent bufferSize textLimit recordNumbers recordWidth recordLimit

@@ -12,9 +12,14 @@ use Rattle.targets.proofs.qualified_name_at_with_equals.Statement.{stat
 use Rattle.targets.proofs.qualified_name_at_with_equals.Tie as tie
 
 -- the name ends within the statement
-name-within : (c : tie.After-run-end3) → c .run-end3 .result ≤ length (c .before .before .before .before .before .before .before .args .statement .now)
+name-within : (c : tie.After-run-end3) →
+    let at-run-end = c .before .before .before .before .before in
+    let at-start = at-run-end .before .before in
+    c .run-end3 .result ≤ length (at-start .args .statement .now)
 name-within c =
-    let xs = c .before .before .before .before .before .before .before .args .statement .now in
+    let at-run-end = c .before .before .before .before .before in
+    let at-start = at-run-end .before .before in
+    let xs = at-start .args .statement .now in
     let d = seen xs _ 45 (sym (c .before .before .byte-at .ensures) ∙ c .before .if2 .left) in
     c .run-end3 .ensures .1 (omega arith)
 
@@ -60,15 +65,26 @@ sub-t14 c = search needs
 
 returns-4 : tie.Need-returns-4
 returns-4 c =
+    let at-byte-at = c .before .before .before .before .before .before in
+    let at-if1 = at-byte-at .before in
+    let at-run-end2 = at-if1 .before in
+    let at-run-end = at-run-end2 .before in
     λ t e. record {
-      target = equals-found _ t e _ _ _ (c .before .before .before .before .before .before .before .before .before .run-end .ensures .0) (c .before .before .before .before .before .before .before .before .run-end2 .ensures .0) (c .before .before .before .before .before .before .before .if1 .left) (sym (c .before .before .before .before .before .before .byte-at .ensures) ∙ c .before .before .before .before .before .if2 .left) _ (c .before .before .before .before .run-end3 .ensures .0) (c .before .before .before .if3 .left) _ (c .before .before .run-end4 .ensures .0) ∙ simp (sym (c .before .lone-equals .ensures t e) ∙ c .if4 .taken);
-      inside = (omega arith, omega (arith, name-within (c .before .before .before .before), same-length _ t e));
+      target = equals-found _ t e _ _ _ (at-run-end .run-end .ensures .0) (at-run-end2 .run-end2 .ensures .0) (at-if1 .if1 .left) (sym (at-byte-at .byte-at .ensures) ∙ c .before .before .before .before .before .if2 .left) _ (c .before .before .before .before .run-end3 .ensures .0) (c .before .before .before .if3 .left) _ (c .before .before .run-end4 .ensures .0) ∙ simp (sym (c .before .lone-equals .ensures t e) ∙ c .if4 .taken);
+      inside = (omega (arith, at-run-end2 .run-end2 .ensures .0), omega (arith, at-run-end2 .run-end2 .ensures .0, c .before .before .before .before .run-end3 .ensures .0, name-within (c .before .before .before .before), same-length _ t e));
     }
 
 returns-5 : tie.Need-returns-5
 returns-5 c =
+    let at-if3 = c .before .before .before in
+    let at-run-end3 = at-if3 .before in
+    let at-if2 = at-run-end3 .before in
+    let at-byte-at = at-if2 .before in
+    let at-if1 = at-byte-at .before in
+    let at-run-end2 = at-if1 .before in
+    let at-run-end = at-run-end2 .before in
     λ t e. record {
-      target = equals-found _ t e _ _ _ (c .before .before .before .before .before .before .before .before .before .run-end .ensures .0) (c .before .before .before .before .before .before .before .before .run-end2 .ensures .0) (c .before .before .before .before .before .before .before .if1 .left) (sym (c .before .before .before .before .before .before .byte-at .ensures) ∙ c .before .before .before .before .before .if2 .left) _ (c .before .before .before .before .run-end3 .ensures .0) (c .before .before .before .if3 .left) _ (c .before .before .run-end4 .ensures .0) ∙ simp (sym (c .before .lone-equals .ensures t e) ∙ c .if4 .left);
+      target = equals-found _ t e _ _ _ (at-run-end .run-end .ensures .0) (at-run-end2 .run-end2 .ensures .0) (at-if1 .if1 .left) (sym (at-byte-at .byte-at .ensures) ∙ at-if2 .if2 .left) _ (at-run-end3 .run-end3 .ensures .0) (at-if3 .if3 .left) _ (c .before .before .run-end4 .ensures .0) ∙ simp (sym (c .before .lone-equals .ensures t e) ∙ c .if4 .left);
       inside = tt;
     }
 
