@@ -15,7 +15,8 @@ use Rattle.spec.specs.Bytes.{ascii, isDigit, isIdent, isW}
 use Rattle.spec.specs.Lists.{isEmpty, dropEnd}
 use Rattle.spec.specs.Map.{Marked, bytes, lives, frontLive, ofByte}
 use Rattle.spec.specs.Search.{first, starts, needleHere}
-use Rattle.spec.specs.Assignments.{assignHere, trim, rightSide, startsName, assignmentAt}
+use Rattle.spec.specs.Assignments.{assignHere, rightSide, startsName, assignmentAt}
+use Rattle.spec.specs.Parts.{trim}
 use Rattle.spec.specs.declared.Found.the-variants.{At}
 use Rattle.spec.proofs.Choice.{and-right}
 use Rattle.spec.proofs.FirstLaws.{first-least}

@@ -8,7 +8,7 @@ use borrow.Author.Tests.{eq-eqb, ne-eqb}
 use lib.Dec.{eqb}
 use lib.ListN.{length, take, drop, getD, length-drop, drop-of-length-le}
 use lib.Seq.{drop-drop, drop-nil}
-use Rattle.spec.specs.Bytes.{ascii, isPair, isIdent, upper}
+use Rattle.spec.specs.Bytes.{ascii, isPair, isIdent, upper, prefixBy}
 use Rattle.spec.specs.Lists.{takeWhile, dropWhile, any, all}
 use Rattle.spec.specs.Spans.{kindAt, opensDollar, spanOf, spanAt, spanLen, Lexeme, lexemeAt, lexemesFrom, lexemes}
 use Rattle.spec.specs.Map.{Marked, live, byte, mark, marked, lives, frontByte, ofByte, isLiveByte}
@@ -21,7 +21,7 @@ use Rattle.spec.proofs.MapLaws.{mark-byte, marked-length, marked-bytes}
 use Rattle.spec.proofs.RunPlaces.{endFrom, ahead-at}
 use Rattle.spec.proofs.SpanLaws.{lexemes-step}
 use Rattle.spec.proofs.SearchLaws.{prefix-at}
-use Rattle.spec.proofs.WalkLaws.{mark-live-byte, marked-at, marked-step, marked-drop, front-live, front-byte, prefixBy, starts-case-at}
+use Rattle.spec.proofs.WalkLaws.{mark-live-byte, marked-at, marked-step, marked-drop, front-live, front-byte, starts-case-at}
 use Rattle.spans.proofs.StepLaws.{by-front, Stepped}
 
 -- ---- the last byte

@@ -11,7 +11,7 @@ use Rattle.spec.proofs.WalkLaws.{first-within}
 use Rattle.spec.specs.Bytes.{ascii}
 use Rattle.spec.specs.Map.{Marked, markedText}
 use Rattle.spec.specs.Search.{first, keywordHere}
-use Rattle.spec.specs.SelectInto.{part}
+use Rattle.spec.specs.Parts.{part}
 use Rattle.spec.specs.Declarations.{declareSection, recordsOf}
 use Rattle.spec.specs.declared.Found.{Found}
 use Rattle.spec.specs.declared.Found.the-variants.{At, Nothing}
@@ -36,7 +36,7 @@ declare-end t Nothing e = zero-le
 
 -- the part that is cut out
 cut : (t : List Marked) (f g : Found) → between (sectionOf f g .from) (sectionOf f g .to) t ≡ declareSection f g t
-unfolding declareSection part
+unfolding declareSection
 cut t (At d) (At b) =
     by (leb (d + 7) b)
     (λ e. rw (e, lt-ltb d b (omega (arith, leb-true (d + 7) b e))) refl)

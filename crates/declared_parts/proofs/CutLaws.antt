@@ -7,7 +7,7 @@ use native.Mathlib.Omega.{arith}
 use lib.Dec.{eqb}
 use lib.ListN.{length, drop, take, length-drop}
 use mathlib.Core.List.{reverse}
-use Rattle.spec.specs.Bytes.{ascii, isPrefix}
+use Rattle.spec.specs.Bytes.{ascii, isPrefix, prefixBy}
 use Rattle.spec.specs.Map.{Marked, frontByte, marked}
 use Rattle.spec.specs.Search.{first, keywordHere}
 use Rattle.spec.specs.declared.Found.{Found}
@@ -15,7 +15,7 @@ use Rattle.spec.specs.declared.Found.the-variants.{At, Nothing}
 use Rattle.spec.proofs.FirstLaws.{first-least}
 use Rattle.spec.proofs.LengthLaws.{starts-any-case, word-in}
 use Rattle.spec.proofs.MapLaws.{marked-length}
-use Rattle.spec.proofs.WalkLaws.{prefixBy, starts-length, starts-exact-at, passesAt, first-end, first-hit, first-miss}
+use Rattle.spec.proofs.WalkLaws.{starts-length, starts-exact-at, passesAt, first-end, first-hit, first-miss}
 use Rattle.declared_parts.specs.Parts.{walrusHere, cutOf, cutIn}
 
 -- exact comparison

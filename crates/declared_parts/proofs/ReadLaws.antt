@@ -17,7 +17,7 @@ use Rattle.spec.specs.Bytes.{ascii, isW}
 use Rattle.spec.specs.Lists.{isEmpty, takeWhile, dropWhile, dropEnd}
 use Rattle.spec.specs.Map.{Marked, bytes, marked, ofByte}
 use Rattle.spec.specs.Search.{first, keywordHere}
-use Rattle.spec.specs.Assignments.{trim, trimEnd}
+use Rattle.spec.specs.Parts.{trim, trimEnd}
 use Rattle.spec.specs.Declarations.{requotedDefault, words, declaredOf, partAt, declaration}
 use Rattle.spec.specs.declared.Found.{Found}
 use Rattle.spec.specs.declared.Found.the-variants.{At, Nothing}

@@ -16,7 +16,7 @@ use Rattle.spec.proofs.LengthLaws.{trim-le}
 use Rattle.spec.proofs.ListLaws.{while-sum, drop-while-le}
 use Rattle.spec.specs.Lists.{isEmpty, takeWhile, dropWhile}
 use Rattle.spec.specs.Map.{Marked, bytes}
-use Rattle.spec.specs.Assignments.{trim}
+use Rattle.spec.specs.Parts.{trim}
 use Rattle.spec.specs.Declarations.{Declared, delimiterOf, requotedDefault, words, declaredOf, declaration, textOr, packedRecord}
 use Rattle.declared_parts.specs.Parts.{cutIn, isWhole, spaced}
 use Rattle.declared_parts.proofs.CutLaws.{cut-fits}

@@ -1,1 +1,1 @@
-pub mod Thin
+pub mod ScannerWalks

@@ -17,7 +17,8 @@ use Rattle.spec.specs.Lists.{isEmpty, takeWhile, dropWhile, dropEnd, all}
 use Rattle.spec.specs.Map.{Marked, live, quoted, byte, lives, frontLive, ofByte}
 use Rattle.spec.specs.Search.{first, starts, needleHere, byteHere, pieces}
 use Rattle.spec.specs.Outcome.{Outcome, accepted, refused, _⊕_}
-use Rattle.spec.specs.Assignments.{trimEnd, trim, Target, assignHere, statementTarget, rightSide, startsName, assignmentAt, assignment, checkedStatement, statement, joinStatements, assignments}
+use Rattle.spec.specs.Assignments.{Target, assignHere, statementTarget, rightSide, startsName, assignmentAt, assignment, checkedStatement, statement, joinStatements, assignments}
+use Rattle.spec.specs.Parts.{trimEnd, trim}
 use Rattle.spec.specs.Closed.{endsLive}
 use Rattle.spec.specs.Computed.{computed}
 use Rattle.spec.specs.declared.Found.{Found}
@@ -103,14 +104,14 @@ module _ (k : Reading) where
       (piece-end (λ c. eqb c 59) (λ c e. or-second (isW c) (eqb c 59) e) (trim t) (k .start) (piece-trim t p))
 
   -- a word leaves a state that may have a space behind it
-  firm-word : (n : List Marked) (s : k .State) → all (ofByte isIdent) n ≡ true → NoQuote n → Read k s n → k .rest (ends k s n) ≡ true → k .firm s ≡ true
-      → k .firm (ends k s n) ≡ true
+  before-space-word : (n : List Marked) (s : k .State) → all (ofByte isIdent) n ≡ true → NoQuote n → Read k s n → k .rest (ends k s n) ≡ true → k .beforeSpace s ≡ true
+      → k .beforeSpace (ends k s n) ≡ true
   unfolding all ofByte
-  firm-word [] s a q r h f = f
-  firm-word (x ∷ n) s a q r h f =
+  before-space-word [] s a q r h f = f
+  before-space-word (x ∷ n) s a q r h f =
       let i = and-left (isIdent (byte x)) (all (ofByte isIdent) n) a in
       let z = back-over k n (k .after s x) (q .1) (r .1) h in
-      firm-word n (k .after s x) (and-right (isIdent (byte x)) (all (ofByte isIdent) n) a) (q .1) (r .1) h
+      before-space-word n (k .after s x) (and-right (isIdent (byte x)) (all (ofByte isIdent) n) a) (q .1) (r .1) h
       (k .settle s x (ident-not-w (byte x) i) (r .0) z)
 
   set-parts : (front name w : List Marked) (y : Marked) (a : List Marked)
@@ -140,7 +141,7 @@ module _ (k : Reading) where
       let N = ends k (k .start) name in
       let g2 = cut ok next w u N (d2 .1) in
       let zn2 : k .rest N ≡ true = back-over k w N nw (g2 .0) (k .alive (ends k N w) 58 (g2 .1 .0)) in
-      let fn : k .firm N ≡ true = firm-word name (k .start) i nn (d2 .0) zn2 (k .firm-start) in
+      let fn : k .beforeSpace N ≡ true = before-space-word name (k .start) i nn (d2 .0) zn2 (k .before-space-start) in
       let C = next W (live 58) in
       let zc : k .rest C ≡ true = k .forth W (live 58) refl (g .1 .0) zw in
       let qy : isQuote (byte y) ≡ false = rw b refl in

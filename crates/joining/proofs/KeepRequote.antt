@@ -12,11 +12,11 @@ use Rattle.spec.proofs.ByteSets.{sign-not-ident}
 use Rattle.spec.proofs.BytesLaws.{bytes-append}
 use Rattle.spec.proofs.Choice.{by, and-left, and-right, or-left, or-right}
 use Rattle.spec.proofs.SpanLaws.{by-kind, lexemes-step, opens-in, seen}
-use Rattle.spec.proofs.MapLaws.{spanFlag, mark-byte, text-length}
+use Rattle.spec.proofs.MapLaws.{mark-byte, text-length}
 use Rattle.spec.specs.Bytes.{within, isDigit, isLower, isUpper, isIdent, isQuote, isPair, isPrefix, isW, upper}
 use Rattle.spec.specs.Lists.{isEmpty, any, all, concat}
 use Rattle.spec.specs.Spans.{escapes, quoteLen, quotedLen, tagLen, seekLen, opensDollar, dollarOf, Kind, line, block, single, double, dollar, code, kindAt, spanOf, spanAt, spanLen, Lexeme, lexemeAt, lexemes, lexemesFrom}
-use Rattle.spec.specs.Map.{Marked, live, quoted, mark, marked, markedText, bytes, regionOf}
+use Rattle.spec.specs.Map.{Marked, live, quoted, mark, marked, markedText, bytes, regionOf, spanFlag}
 use Rattle.spec.specs.Requote.{doubled, singleQuoted, requoteSpan, requoteLexeme, requoted}
 use Rattle.spec.specs.Closed.{endsLive, isPlainRegion, isPlainSpan, raisesFollowed, isClosed}
 use Rattle.joining.proofs.Bools.{clash, no, or-second, and-no, at, another}

@@ -16,14 +16,14 @@ use Rattle.spec.specs.Bytes.{ascii, within, isLower, isIdent, isQuote, isW, upp
 use Rattle.spec.specs.Lists.{isEmpty, takeWhile, dropWhile, dropEnd}
 use Rattle.spec.specs.Map.{Marked, live, byte, lives, frontByte, frontLive, ofByte, isLiveByte}
 use Rattle.spec.specs.Search.{first, startsIgnoringCase, wordHere, byteHere, pieces}
-use Rattle.spec.specs.Assignments.{trimEnd, trim}
-use Rattle.spec.specs.SelectInto.{depthOf, topWordHere, commaHere, listed, indentation, hasLimit, subquery, setLine, setLines, pairUp, part, placeOr, fromPart, frontPlace, selectCut, intoAt, selectAt, selectStatement, joinSelects, selectInto}
+use Rattle.spec.specs.Parts.{trimEnd, trim, part}
+use Rattle.spec.specs.SelectInto.{depthOf, topWordHere, commaHere, listed, indentation, hasLimit, subquery, setLine, setLines, pairUp, placeOr, fromPart, frontPlace, selectCut, intoAt, selectAt, selectStatement, joinSelects, selectInto}
 use Rattle.spec.specs.Closed.{endsLive}
 use Rattle.spec.specs.declared.Found.{Found}
 use Rattle.spec.specs.declared.Found.the-variants.{At, Nothing}
 use Rattle.joining.proofs.Bools.{clash, no}
 use Rattle.joining.proofs.Reading.{reads-more, leaves-append, cut, paste, Takes, takes-append, Reading}
-use Rattle.joining.proofs.Parts.{PlainWord, Read, ends, Part, Firm, nil-part, drop-end, firm-end, at-word, behind-word, part-between, AllFirm, comma-parts, trim-parts, keep-firm}
+use Rattle.joining.proofs.Parts.{PlainWord, Read, ends, StandsAlone, BeforeSpace, nil-part, drop-end, before-space-end, at-word, behind-word, part-between, AllBeforeSpace, comma-parts, trim-parts, keep-before-space}
 use Rattle.joining.proofs.Statements.{is-live, ends-append, Shut, shut-leaves, shut-append, Statements, FirstOf, statements}
 
 -- the list is empty, or its front fails the test
@@ -83,7 +83,7 @@ module _ (k : Reading) where
       ten : not (eqb (byte x) 10) ≡ false → eqb (byte x) 10 ≡ true
       ten h = by (eqb (byte x) 10) (λ e. e) (λ e. clash (sym (rw e refl) ∙ h))
 
-  indent-part : (t : List Marked) → Part k t → Part k (indentation t)
+  indent-part : (t : List Marked) → StandsAlone k t → StandsAlone k (indentation t)
   unfolding indentation
   indent-part t p =
       let f = ofByte (λ c. not (eqb c 10)) in
@@ -106,7 +106,7 @@ module _ (k : Reading) where
   whole t s r = record { reads = r; end = refl }
 
   -- a space and the FROM part
-  space-from : (f : List Marked) (s : k .State) → k .firm s ≡ true → FromFront f → Part k f
+  space-from : (f : List Marked) (s : k .State) → k .beforeSpace s ≡ true → FromFront f → StandsAlone k f
       → Read k s (live 32 ∷ f) × (k .rest (ends k s (live 32 ∷ f)) ≡ true)
   space-from [] s h l p = let g = k .gap s h in ((g .0 .reads .0, tt), g .1)
   space-from (x ∷ t) s h l p =
@@ -114,7 +114,7 @@ module _ (k : Reading) where
       let w = k .gap-from s x t h l (p .reads) in
       ((g .0 .reads .0, w .0), subst (λ (z : k .State). k .rest z ≡ true) (sym (w .1)) (p .out))
 
-  query-part : (w f c : List Marked) → Part k w → Part k f → FromFront f → Firm k c → Part k (subquery w f c)
+  query-part : (w f c : List Marked) → StandsAlone k w → StandsAlone k f → FromFront f → BeforeSpace k c → StandsAlone k (subquery w f c)
   unfolding subquery
   query-part w f c pw pf l pc =
       let ok = k .ok in
@@ -129,19 +129,19 @@ module _ (k : Reading) where
       (takes-append ok next c tail (k .start) C (ends k C tail) (whole c (k .start) (pc .reads)) (whole tail C (g .0)))) in
       record { reads = all .reads; out = subst (λ (z : k .State). k .rest z ≡ true) (sym (all .end)) (g .1) }
 
-  line-close : (b : Bool) (s : k .State) → k .firm s ≡ true → Goes s (k .start) (cond b [] (lives (ascii " LIMIT 1")) ++ lives (ascii ");"))
+  line-close : (b : Bool) (s : k .State) → k .beforeSpace s ≡ true → Goes s (k .start) (cond b [] (lives (ascii " LIMIT 1")) ++ lives (ascii ");"))
   unfolding lives
   line-close true s h = k .closing s h
   line-close false s h = k .limit s h
 
-  line-goes : (w f c v : List Marked) (s : k .State) → Part k w → Part k f → FromFront f → Firm k c → Firm k v → k .rest s ≡ true
+  line-goes : (w f c v : List Marked) (s : k .State) → StandsAlone k w → StandsAlone k f → FromFront f → BeforeSpace k c → BeforeSpace k v → k .rest s ≡ true
       → Goes s (k .start) (setLine w f c v)
   unfolding setLine
   line-goes w f c v s pw pf l pc pv h =
       let ok = k .safe in
       let next = k .after in
       let q = subquery w f c in
-      let d = firm-end k q (query-part w f c pw pf l pc) in
+      let d = before-space-end k q (query-part w f c pw pf l pc) in
       let VV = ends k (k .start) v in
       let D = ends k (k .start) (trimEnd q) in
       let M = lives (ascii " = (") in
@@ -165,8 +165,8 @@ module _ (k : Reading) where
 
   -- ---- the lines
 
-  module _ (i w f : List Marked) (pi : Part k i) (pw : Part k w) (pf : Part k f) (l : FromFront f) where
-    lines-go : (cs vs : List (List Marked)) (s : k .State) → length cs ≡ length vs → isEmpty cs ≡ false → AllFirm k cs → AllFirm k vs → k .rest s ≡ true
+  module _ (i w f : List Marked) (pi : StandsAlone k i) (pw : StandsAlone k w) (pf : StandsAlone k f) (l : FromFront f) where
+    lines-go : (cs vs : List (List Marked)) (s : k .State) → length cs ≡ length vs → isEmpty cs ≡ false → AllBeforeSpace k cs → AllBeforeSpace k vs → k .rest s ≡ true
         → Goes s (k .start) (setLines i (setLine w f) cs vs) × (endsLive (setLines i (setLine w f) cs vs) ≡ true)
     unfolding setLines isEmpty
     lines-go [] vs s n e pc pv h = clash e
@@ -189,8 +189,8 @@ module _ (k : Reading) where
   -- ---- where the statement is cut
 
   record Place (w : List ℕ) (j : ℕ) (t : List Marked) : Type 0 where
-    before : Part k (take j t)
-    here : Part k (drop j t)
+    before : StandsAlone k (take j t)
+    here : StandsAlone k (drop j t)
     is-live : frontLive (drop j t) ≡ true
     matches : startsIgnoringCase w (drop j t) ≡ true
     behind : Read k (k .start) (drop (j + length w) t)
@@ -212,7 +212,7 @@ module _ (k : Reading) where
       let rt : k .rest (ends k (k .start) t) ≡ true = subst (λ (z : k .State). k .rest z ≡ true) (sym (shut-leaves k t (k .start) (sh .ended))) (k .rest-start) in
       let bh = behind-word k w u pl m ir (at .reads) in
       record {
-        before = subst (λ (z : List Marked). Part k z) (reverse-reverse (take j t)) (at .before);
+        before = subst (λ (z : List Marked). StandsAlone k z) (reverse-reverse (take j t)) (at .before);
         here = record { reads = at .reads; out = at .out (subst (λ (z : List Marked). k .rest (ends k (k .start) z) ≡ true) (sym s) rt) };
         is-live = lv;
         matches = m;
@@ -223,11 +223,11 @@ module _ (k : Reading) where
   unfolding commaHere byteHere
   comma-live back u x h = is-live 44 x (and-left (isLiveByte 44 x) (eqb (depthOf back) 0) h)
 
-  listed-firm : (t : List Marked) → Part k t → AllFirm k (listed t)
+  listed-before-space : (t : List Marked) → StandsAlone k t → AllBeforeSpace k (listed t)
   unfolding listed
-  listed-firm t p = keep-firm k _ (map trim (pieces commaHere t)) (trim-parts k (pieces commaHere t) (comma-parts k commaHere comma-live t p))
+  listed-before-space t p = keep-before-space k _ (map trim (pieces commaHere t)) (trim-parts k (pieces commaHere t) (comma-parts k commaHere comma-live t p))
 
-  from-part : (f : Found) (t : List Marked) → ((j : ℕ) → f ≡ At j → Place (ascii "FROM") j t) → Part k (fromPart f t) × FromFront (fromPart f t)
+  from-part : (f : Found) (t : List Marked) → ((j : ℕ) → f ≡ At j → Place (ascii "FROM") j t) → StandsAlone k (fromPart f t) × FromFront (fromPart f t)
   unfolding fromPart trimEnd
   from-part Nothing t h = (nil-part k, tt)
   from-part (At j) t h =
@@ -238,17 +238,17 @@ module _ (k : Reading) where
 
   vars-part : (f : Found) (i : ℕ) (t : List Marked) → Shut k (k .ok) t → ((j : ℕ) → f ≡ At j → Place (ascii "FROM") j t)
       → Read k (k .start) (drop (i + 4) t)
-      → Part k (part (i + 4) (placeOr f (length t - 1)) t)
+      → StandsAlone k (part (i + 4) (placeOr f (length t - 1)) t)
   vars-part Nothing i t sh h r = part-between k (i + 4) (length t - 1) t r (last-live t (sh .ended))
   vars-part (At j) i t sh h r = part-between k (i + 4) j t r (h j refl .is-live)
 
   -- the front part and the WITH part
   front-parts : (f : Found) (s : ℕ) (t : List Marked) → ((j : ℕ) → f ≡ At j → Place (ascii "WITH") j t) → Place (ascii "SELECT") s t
-      → Part k (take (frontPlace f s) t) × Part k (part (frontPlace f s) s t)
+      → StandsAlone k (take (frontPlace f s) t) × StandsAlone k (part (frontPlace f s) s t)
   unfolding frontPlace
   front-parts Nothing s t h p = (p .before, part-between k s s t (p .here .reads) (p .is-live))
   front-parts (At j) s t h p =
-      cond-case (λ (n : ℕ). Part k (take n t) × Part k (part n s t)) (ltb j s) j s
+      cond-case (λ (n : ℕ). StandsAlone k (take n t) × StandsAlone k (part n s t)) (ltb j s) j s
       (λ _. let q = h j refl in (q .before, part-between k j s t (q .here .reads) (p .is-live)))
       (λ _. (p .before, part-between k s s t (p .here .reads) (p .is-live)))
 
@@ -276,8 +276,8 @@ module _ (k : Reading) where
       let fp = front-parts wf s t (found-place (ascii "WITH") 0 t plain-with sh) ps in
       let cols = listed (part (s + 6) i t) in
       let vars = listed (part (i + 4) (placeOr from (length t - 1)) t) in
-      let pc = listed-firm (part (s + 6) i t) (part-between k (s + 6) i t (ps .behind) (pi .is-live)) in
-      let pv = listed-firm (part (i + 4) (placeOr from (length t - 1)) t) (vars-part from i t sh hf (pi .behind)) in
+      let pc = listed-before-space (part (s + 6) i t) (part-between k (s + 6) i t (ps .behind) (pi .is-live)) in
+      let pv = listed-before-space (part (i + 4) (placeOr from (length t - 1)) t) (vars-part from i t sh hf (pi .behind)) in
       let fr = from-part from t hf in
       let indent = indentation (take front t) in
       let lines = setLines indent (setLine (part front s t) (fromPart from t)) cols vars in

@@ -15,8 +15,7 @@ use Rattle.spec.specs.Bytes.{within, isLower, isIdent, isQuote, isW, upper}
 use Rattle.spec.specs.Lists.{isEmpty, dropWhile, dropEnd, all, keep}
 use Rattle.spec.specs.Map.{Marked, live, quoted, byte, frontByte, frontLive, ofByte}
 use Rattle.spec.specs.Search.{Test, startsIgnoringCase, ontoFirst, piecesFrom, pieces}
-use Rattle.spec.specs.Assignments.{trimEnd, trim}
-use Rattle.spec.specs.SelectInto.{part}
+use Rattle.spec.specs.Parts.{trimEnd, trim, part}
 use Rattle.joining.proofs.Bools.{clash, yes, or-first, or-second, quotes, no-quote}
 use Rattle.joining.proofs.Reading.{Reads, leaves, leaves-append, cut, Reading}
 
@@ -61,16 +60,16 @@ module _ (k : Reading) where
   ends s t = leaves (k .after) s t
 
   -- a part that may stand by itself
-  pub record Part (t : List Marked) : Type 0 where
+  pub record StandsAlone (t : List Marked) : Type 0 where
     pub reads : Read (k .start) t
     pub out : k .rest (ends (k .start) t) ≡ true
 
   -- and may have a space behind it
-  pub record Firm (t : List Marked) : Type 0 where
+  pub record BeforeSpace (t : List Marked) : Type 0 where
     pub reads : Read (k .start) t
-    pub end : k .firm (ends (k .start) t) ≡ true
+    pub end : k .beforeSpace (ends (k .start) t) ≡ true
 
-  pub nil-part : Part []
+  pub nil-part : StandsAlone []
   nil-part = record { reads = tt; out = k .rest-start }
 
   -- bytes that are no quotes open and close no literal
@@ -98,7 +97,7 @@ module _ (k : Reading) where
   -- ---- trims
 
   -- without W at the front
-  pub drop-front : (t : List Marked) → Part t → Part (dropWhile (ofByte isW) t)
+  pub drop-front : (t : List Marked) → StandsAlone t → StandsAlone (dropWhile (ofByte isW) t)
   unfolding dropWhile ofByte
   drop-front [] p = p
   drop-front (x ∷ t) p =
@@ -124,28 +123,28 @@ module _ (k : Reading) where
             (λ e. rw e ((r .0, tt), w .1))
         go (y ∷ u) w = by (f (byte x)) (λ e. rw e ((r .0, w .0), w .1)) (λ e. rw e ((r .0, w .0), w .1))
 
-    pub drop-end : (t : List Marked) → Part t → Part (dropEnd (ofByte f) t)
+    pub drop-end : (t : List Marked) → StandsAlone t → StandsAlone (dropEnd (ofByte f) t)
     drop-end t p = let w = drop-end-from t (k .start) (p .reads) (p .out) in record { reads = w .0; out = w .1 }
 
   -- without W at the end, a text may have a space behind it
-  firm-from : (t : List Marked) (s : k .State)
-      → (isEmpty (dropEnd (ofByte isW) t) ≡ true → k .firm s ≡ true)
+  before-space-from : (t : List Marked) (s : k .State)
+      → (isEmpty (dropEnd (ofByte isW) t) ≡ true → k .beforeSpace s ≡ true)
       → Read s (dropEnd (ofByte isW) t)
       → k .rest (ends s (dropEnd (ofByte isW) t)) ≡ true
-      → k .firm (ends s (dropEnd (ofByte isW) t)) ≡ true
+      → k .beforeSpace (ends s (dropEnd (ofByte isW) t)) ≡ true
   unfolding dropEnd ofByte isEmpty
-  firm-from [] s = λ e r h. e refl
-  firm-from (x ∷ t) s = go (dropEnd (ofByte isW) t) (firm-from t (k .after s x))
+  before-space-from [] s = λ e r h. e refl
+  before-space-from (x ∷ t) s = go (dropEnd (ofByte isW) t) (before-space-from t (k .after s x))
     where
       go : (u : List Marked)
-          → ((isEmpty u ≡ true → k .firm (k .after s x) ≡ true) → Read (k .after s x) u → k .rest (ends (k .after s x) u) ≡ true → k .firm (ends (k .after s x) u) ≡ true)
-          → (isEmpty (cond (isW (byte x) && isEmpty u) [] (x ∷ u)) ≡ true → k .firm s ≡ true)
+          → ((isEmpty u ≡ true → k .beforeSpace (k .after s x) ≡ true) → Read (k .after s x) u → k .rest (ends (k .after s x) u) ≡ true → k .beforeSpace (ends (k .after s x) u) ≡ true)
+          → (isEmpty (cond (isW (byte x) && isEmpty u) [] (x ∷ u)) ≡ true → k .beforeSpace s ≡ true)
           → Read s (cond (isW (byte x) && isEmpty u) [] (x ∷ u))
           → k .rest (ends s (cond (isW (byte x) && isEmpty u) [] (x ∷ u))) ≡ true
-          → k .firm (ends s (cond (isW (byte x) && isEmpty u) [] (x ∷ u))) ≡ true
+          → k .beforeSpace (ends s (cond (isW (byte x) && isEmpty u) [] (x ∷ u))) ≡ true
       go [] ih =
           cond-case
-          (λ (l : List Marked). (isEmpty l ≡ true → k .firm s ≡ true) → Read s l → k .rest (ends s l) ≡ true → k .firm (ends s l) ≡ true)
+          (λ (l : List Marked). (isEmpty l ≡ true → k .beforeSpace s ≡ true) → Read s l → k .rest (ends s l) ≡ true → k .beforeSpace (ends s l) ≡ true)
           (isW (byte x) && true) [] (x ∷ [])
           (λ c e r h. e refl)
           (λ c e r h. k .settle s x (not-white c) (r .0) h)
@@ -154,26 +153,26 @@ module _ (k : Reading) where
           not-white c = by (isW (byte x)) (λ w. clash (sym (rw w refl) ∙ c)) (λ w. w)
       go (y ∷ u) ih =
           cond-case
-          (λ (l : List Marked). (isEmpty l ≡ true → k .firm s ≡ true) → Read s l → k .rest (ends s l) ≡ true → k .firm (ends s l) ≡ true)
+          (λ (l : List Marked). (isEmpty l ≡ true → k .beforeSpace s ≡ true) → Read s l → k .rest (ends s l) ≡ true → k .beforeSpace (ends s l) ≡ true)
           (isW (byte x) && false) [] (x ∷ y ∷ u)
           (λ c e r h. e refl)
           (λ c e r h. ih (λ z. absurd (false≢true z)) (r .1) h)
 
-  pub firm-end : (t : List Marked) → Part t → Firm (trimEnd t)
+  pub before-space-end : (t : List Marked) → StandsAlone t → BeforeSpace (trimEnd t)
   unfolding trimEnd
-  firm-end t p =
+  before-space-end t p =
       let d = drop-end isW (sign-not-w 39 refl) (sign-not-w 34 refl) t p in
-      record { reads = d .reads; end = firm-from t (k .start) (λ _. k .firm-start) (d .reads) (d .out) }
+      record { reads = d .reads; end = before-space-from t (k .start) (λ _. k .before-space-start) (d .reads) (d .out) }
 
-  pub trim-firm : (t : List Marked) → Part t → Firm (trim t)
+  pub trim-before-space : (t : List Marked) → StandsAlone t → BeforeSpace (trim t)
   unfolding trim
-  trim-firm t p = firm-end (dropWhile (ofByte isW) t) (drop-front t p)
+  trim-before-space t p = before-space-end (dropWhile (ofByte isW) t) (drop-front t p)
 
   -- ---- words
 
   -- from a word on: what stands before it is a part, and it is read from the start
   pub record AtWord (t u : List Marked) : Type 0 where
-    pub before : Part t
+    pub before : StandsAlone t
     pub reads : Read (k .start) u
     pub out : k .rest (ends (k .start) (t ++ u)) ≡ true → k .rest (ends (k .start) u) ≡ true
 
@@ -212,8 +211,7 @@ module _ (k : Reading) where
       (f .0, (λ h. f .1 (subst (λ (s : k .State). k .rest s ≡ true) (q .3) h)))
 
   -- the part from one place to another, where a live byte stands
-  pub part-between : (a b : ℕ) (t : List Marked) → Read (k .start) (drop a t) → frontLive (drop b t) ≡ true → Part (part a b t)
-  unfolding part
+  pub part-between : (a b : ℕ) (t : List Marked) → Read (k .start) (drop a t) → frontLive (drop b t) ≡ true → StandsAlone (part a b t)
   part-between a b t r l =
       by (leb a b)
       (λ e.
@@ -233,11 +231,11 @@ module _ (k : Reading) where
   -- all of them are parts, may have a space behind them
   abbrev pub AllParts : List (List Marked) → Type 0
   AllParts [] = Unit {0}
-  AllParts (p ∷ ps) = Part p × AllParts ps
+  AllParts (p ∷ ps) = StandsAlone p × AllParts ps
 
-  abbrev pub AllFirm : List (List Marked) → Type 0
-  AllFirm [] = Unit {0}
-  AllFirm (p ∷ ps) = Firm p × AllFirm ps
+  abbrev pub AllBeforeSpace : List (List Marked) → Type 0
+  AllBeforeSpace [] = Unit {0}
+  AllBeforeSpace (p ∷ ps) = BeforeSpace p × AllBeforeSpace ps
 
   -- the first piece is read from s
   abbrev FirstFrom : k .State → List (List Marked) → Type 0
@@ -273,15 +271,15 @@ module _ (k : Reading) where
       (λ e. rw e (first-onto x s (piecesFrom p (x ∷ back) t) (r .0) (comma-from p c t (x ∷ back) (k .after s x) (r .1) h)))
 
   pub comma-parts : (p : Test) → ((back u : List Marked) (x : Marked) → p back (x ∷ u) ≡ true → x ≡ live 44)
-      → (t : List Marked) → Part t → AllParts (pieces p t)
+      → (t : List Marked) → StandsAlone t → AllParts (pieces p t)
   unfolding pieces
   comma-parts p c t q = first-start (piecesFrom p [] t) (comma-from p c t [] (k .start) (q .reads) (q .out))
 
-  pub trim-parts : (ps : List (List Marked)) → AllParts ps → AllFirm (map trim ps)
+  pub trim-parts : (ps : List (List Marked)) → AllParts ps → AllBeforeSpace (map trim ps)
   trim-parts [] a = tt
-  trim-parts (p ∷ ps) a = (trim-firm p (a .0), trim-parts ps (a .1))
+  trim-parts (p ∷ ps) a = (trim-before-space p (a .0), trim-parts ps (a .1))
 
-  pub keep-firm : (f : List Marked → Bool) (ps : List (List Marked)) → AllFirm ps → AllFirm (keep f ps)
+  pub keep-before-space : (f : List Marked → Bool) (ps : List (List Marked)) → AllBeforeSpace ps → AllBeforeSpace (keep f ps)
   unfolding keep
-  keep-firm f [] a = tt
-  keep-firm f (p ∷ ps) a = by (f p) (λ e. rw e (a .0, keep-firm f ps (a .1))) (λ e. rw e (keep-firm f ps (a .1)))
+  keep-before-space f [] a = tt
+  keep-before-space f (p ∷ ps) a = by (f p) (λ e. rw e (a .0, keep-before-space f ps (a .1))) (λ e. rw e (keep-before-space f ps (a .1)))

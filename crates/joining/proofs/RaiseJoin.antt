@@ -15,12 +15,12 @@ use Rattle.spec.proofs.ByteSets.{sign-not-ident, sign-not-w, gap-w, ident-not-w
 use Rattle.spec.proofs.BytesLaws.{bytes-append}
 use Rattle.spec.proofs.Apart.{apart}
 use Rattle.spec.proofs.Choice.{by, cond-case, and-left, and-right, or-left, or-right}
-use Rattle.spec.proofs.MapLaws.{mark-byte, spanFlag, text-length}
+use Rattle.spec.proofs.MapLaws.{mark-byte, text-length}
 use Rattle.spec.proofs.LengthLaws.{word-in}
 use Rattle.spec.specs.Bytes.{ascii, within, isLower, isIdent, isWord, isW, isPair, upper}
 use Rattle.spec.specs.Lists.{takeWhile, dropWhile, all}
 use Rattle.spec.specs.Spans.{opensDollar, kindAt, spanOf, spanAt, spanLen}
-use Rattle.spec.specs.Map.{Marked, live, quoted, byte, bytes, mark, markedText, isLiveByte, frontByte, frontLive, ofByte}
+use Rattle.spec.specs.Map.{Marked, live, quoted, byte, bytes, mark, markedText, isLiveByte, frontByte, frontLive, ofByte, spanFlag}
 use Rattle.spec.specs.Search.{startsIgnoringCase, wordHere}
 use Rattle.spec.specs.Outcome.{Outcome, accepted, refused, _⊕_}
 use Rattle.spec.specs.Raise.{passed, Level, exception, notice, warning, debug, log, info, LevelWord, levelWords, levelIn, endsLevel, isException, levelLen, contentOf, Action, raisedAt, Token, kept, raised, raisesFrom, tokenText, joinTokens, raise}

@@ -68,19 +68,19 @@ pub record Reading : Type 1 where
   -- the state is none of a literal; a part that is cut out may end here
   pub rest : State → Bool
   -- besides, it is not the state of a space that needs a word
-  pub firm : State → Bool
+  pub beforeSpace : State → Bool
   -- the byte before is no identifier byte
   pub edge : State → Bool
   pub safer : (s : State) (x : Marked) → ok s x ≡ true → safe s x ≡ true
   pub rest-start : rest start ≡ true
-  pub firm-start : firm start ≡ true
+  pub before-space-start : beforeSpace start ≡ true
   pub edge-start : edge start ≡ true
   -- before a live byte no literal is open
   pub alive : (s : State) (c : ℕ) → ok s (live c) ≡ true → rest s ≡ true
   -- a byte that is no quote opens and closes no literal
   pub back : (s : State) (x : Marked) → isQuote (byte x) ≡ false → ok s x ≡ true → rest (after s x) ≡ true → rest s ≡ true
   pub forth : (s : State) (x : Marked) → isQuote (byte x) ≡ false → ok s x ≡ true → rest s ≡ true → rest (after s x) ≡ true
-  pub settle : (s : State) (x : Marked) → isW (byte x) ≡ false → ok s x ≡ true → rest (after s x) ≡ true → firm (after s x) ≡ true
+  pub settle : (s : State) (x : Marked) → isW (byte x) ≡ false → ok s x ≡ true → rest (after s x) ≡ true → beforeSpace (after s x) ≡ true
   pub edges : (s : State) (x : Marked) → isIdent (byte x) ≡ false → edge (after s x) ≡ true
   -- what begins at the edge of a word is read from the start
   pub fresh : (u : List Marked) (s : State) → (edge s || not (isIdent (frontByte u))) ≡ true → rest s ≡ true → Reads ok after s u
@@ -96,11 +96,11 @@ pub record Reading : Type 1 where
   -- the texts that the passes put in
   pub set-word : (s : State) → rest s ≡ true → Takes ok after s start (lives (ascii "SET "))
   pub select-word : (s : State) → rest s ≡ true → Takes ok after s start (lives (ascii "SELECT "))
-  pub equals : (s : State) → firm s ≡ true → Takes ok after s start (lives (ascii " = "))
-  pub equals-open : (s : State) → firm s ≡ true → Takes ok after s start (lives (ascii " = ("))
-  pub limit : (s : State) → firm s ≡ true → Takes safe after s start (lives (ascii " LIMIT 1);"))
-  pub closing : (s : State) → firm s ≡ true → Takes safe after s start (lives (ascii ");"))
+  pub equals : (s : State) → beforeSpace s ≡ true → Takes ok after s start (lives (ascii " = "))
+  pub equals-open : (s : State) → beforeSpace s ≡ true → Takes ok after s start (lives (ascii " = ("))
+  pub limit : (s : State) → beforeSpace s ≡ true → Takes safe after s start (lives (ascii " LIMIT 1);"))
+  pub closing : (s : State) → beforeSpace s ≡ true → Takes safe after s start (lives (ascii ");"))
   -- a space, and then nothing or the FROM part
-  pub gap : (s : State) → firm s ≡ true → Takes ok after s (after s (live 32)) (live 32 ∷ []) × (rest (after s (live 32)) ≡ true)
-  pub gap-from : (s : State) (x : Marked) (t : List Marked) → firm s ≡ true → eqb (upper (byte x)) 70 ≡ true → Reads ok after start (x ∷ t)
+  pub gap : (s : State) → beforeSpace s ≡ true → Takes ok after s (after s (live 32)) (live 32 ∷ []) × (rest (after s (live 32)) ≡ true)
+  pub gap-from : (s : State) (x : Marked) (t : List Marked) → beforeSpace s ≡ true → eqb (upper (byte x)) 70 ≡ true → Reads ok after start (x ∷ t)
       → Reads ok after (after s (live 32)) (x ∷ t) × (leaves after (after s (live 32)) (x ∷ t) ≡ leaves after start (x ∷ t))

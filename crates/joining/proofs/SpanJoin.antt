@@ -13,10 +13,10 @@ use lib.Seq.{length-take-le, take-append-le, drop-append-le}
 use Rattle.spec.proofs.ByteSets.{sign-not-ident}
 use Rattle.spec.proofs.Choice.{cond-case}
 use Rattle.spec.proofs.SpanLaws.{seek-le, prefix-len, opens-in, by-kind, span-pos, span-le}
-use Rattle.spec.proofs.MapLaws.{map-append, map-length, map-step, spanFlag}
+use Rattle.spec.proofs.MapLaws.{map-append, map-length, map-step}
 use Rattle.spec.specs.Bytes.{isIdent, isPair, isPrefix}
 use Rattle.spec.specs.Spans.{lineLen, commentLen, blockLen, escapes, quoteLen, quotedLen, tagLen, seekLen, opensDollar, dollarOf, code, kindAt, spanOf, spanAt, spanLen, Lexeme, lexemeAt, lexemesFrom, lexemes}
-use Rattle.spec.specs.Map.{regionOf, regionsOf, flag, mapOf, Marked, live, quoted, mark, marked, markedText, isLiveByte}
+use Rattle.spec.specs.Map.{regionOf, regionsOf, flag, mapOf, Marked, live, quoted, mark, marked, markedText, isLiveByte, spanFlag}
 use Rattle.spec.specs.Closed.{endsLive}
 use Rattle.spec.specs.declared.Span.the-variants.{Verbatim, Dollar, Code}
 

@@ -12,10 +12,10 @@ use lib.ListN.{length, take, drop, getD, replicate}
 use Rattle.spec.proofs.ByteSets.{sign-not-ident}
 use Rattle.spec.proofs.Choice.{by, and-left, and-right, or-left, or-right}
 use Rattle.spec.proofs.SpanLaws.{span-le}
-use Rattle.spec.proofs.MapLaws.{spanFlag, map-step}
+use Rattle.spec.proofs.MapLaws.{map-step}
 use Rattle.spec.specs.Bytes.{within, isDigit, isIdent, isQuote, isPair}
 use Rattle.spec.specs.Spans.{escapes, quoteLen, quotedLen, tagLen, opensDollar, single, double, code, kindAt, spanOf, spanAt, spanLen}
-use Rattle.spec.specs.Map.{Marked, live, quoted, byte, mark, marked, markedText, mapOf, bytes}
+use Rattle.spec.specs.Map.{Marked, live, quoted, byte, mark, marked, markedText, mapOf, bytes, spanFlag}
 use Rattle.spec.specs.SelectInto.{quoteAfter, quoteWalk}
 use Rattle.joining.proofs.Bools.{clash, no, and-no, at, other, another, quotes}
 use Rattle.joining.proofs.Reading.{Reads, leaves}

@@ -12,12 +12,12 @@ use lib.Seq.{take-all, take-length}
 use Rattle.spec.proofs.BytesLaws.{bytes-lives, bytes-while, bytes-take, bytes-drop}
 use Rattle.spec.proofs.RefusalBounds.{bytes-length}
 use Rattle.spec.proofs.Choice.{by}
-use Rattle.spec.proofs.WalkLaws.{prefixBy, starts-case}
-use Rattle.spec.specs.Bytes.{ascii, upper}
+use Rattle.spec.proofs.WalkLaws.{starts-case}
+use Rattle.spec.specs.Bytes.{ascii, upper, prefixBy}
 use Rattle.spec.specs.Lists.{takeWhile}
 use Rattle.spec.specs.Map.{Marked, bytes, lives, ofByte}
 use Rattle.spec.specs.Search.{startsIgnoringCase}
-use Rattle.spec.specs.Assignments.{trim}
+use Rattle.spec.specs.Parts.{trim}
 use Rattle.spec.specs.Outcome.{accepted, forget}
 use Rattle.spec.specs.Raise.{Level, exception, notice, warning, debug, log, info, levelWords, levelIn, endsLevel, isException, levelLen, actionOf, contentOf, actionFate, fateText, raisedAt}
 use Rattle.messages.specs.declared.RaiseLevel.the-variants as level

@@ -13,8 +13,8 @@ use Rattle.spec.proofs.Choice.{by}
 use Rattle.spec.proofs.ListLaws.{empty-length}
 use Rattle.spec.proofs.RefusalBounds.{bytes-length}
 use Rattle.spec.proofs.RunPlaces.{byte-ahead, endFrom, ahead-at}
-use Rattle.spec.proofs.WalkLaws.{prefixBy, starts-case}
-use Rattle.spec.specs.Bytes.{ascii, upper, isW}
+use Rattle.spec.proofs.WalkLaws.{starts-case}
+use Rattle.spec.specs.Bytes.{ascii, upper, isW, prefixBy}
 use Rattle.spec.specs.Lists.{isEmpty, dropWhile}
 use Rattle.spec.specs.Map.{Marked, bytes, lives, frontByte, ofByte}
 use Rattle.spec.specs.Search.{startsIgnoringCase}

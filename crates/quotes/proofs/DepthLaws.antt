@@ -10,8 +10,8 @@ use lib.ListN.{length, take, drop, getD, length-take, length-reverse}
 use lib.Seq.{drop-drop, take-all}
 use Rattle.spec.proofs.Choice.{cond-le}
 use Rattle.spec.proofs.MapLaws.{marked-length}
-use Rattle.spec.proofs.WalkLaws.{marked-step, marked-back, mark-live-byte, front-live, front-byte, byte-before, prefixBy, starts-case-at, passesAt, first-end, first-hit, first-miss}
-use Rattle.spec.specs.Bytes.{upper, isIdent}
+use Rattle.spec.proofs.WalkLaws.{marked-step, marked-back, mark-live-byte, front-live, front-byte, byte-before, starts-case-at, passesAt, first-end, first-hit, first-miss}
+use Rattle.spec.specs.Bytes.{upper, isIdent, prefixBy}
 use Rattle.spec.specs.Map.{Marked, live, quoted, mark, marked, frontByte}
 use Rattle.spec.specs.Search.{first, byteHere, wordHere}
 use Rattle.spec.specs.SelectInto.{depthAfter, depthOf, topWordHere, commaHere, placeOr}

@@ -18,7 +18,7 @@ use Rattle.spec.proofs.ListLaws.{drop-end-le}
 use Rattle.spec.proofs.MapLaws.{marked-length}
 use Rattle.spec.proofs.WalkLaws.{marked-drop, drop-step, back-step, while-drop, while-length, while-fails, passesAt, pieces-cut, pieces-last}
 use Rattle.spec.proofs.PartLaws.{bytes-part}
-use Rattle.spec.specs.Assignments.{trim, trimEnd}
+use Rattle.spec.specs.Parts.{trim, trimEnd}
 use Rattle.spec.specs.Bytes.{isW}
 use Rattle.spec.specs.Lists.{isEmpty, takeWhile, dropWhile, dropEnd, keep}
 use Rattle.spec.specs.Map.{Marked, live, quoted, isLiveByte, marked, ofByte}

@@ -10,8 +10,8 @@ use lib.ListN.{length, drop, getD, drop-of-length-le}
 use lib.Seq.{drop-cons}
 use Rattle.spec.proofs.AheadLaws.{drop-one}
 use Rattle.spec.proofs.Choice.{by}
-use Rattle.spec.proofs.WalkLaws.{prefixBy, starts-case}
-use Rattle.spec.specs.Bytes.{ascii, within, isLower, upper}
+use Rattle.spec.proofs.WalkLaws.{starts-case}
+use Rattle.spec.specs.Bytes.{ascii, within, isLower, upper, prefixBy}
 use Rattle.spec.specs.Map.{Marked, bytes, lives}
 use Rattle.spec.specs.Search.{firstFrom, first, isFound, startsIgnoringCase}
 use Rattle.spec.specs.SelectInto.{hasLimit}

@@ -14,7 +14,7 @@ use Rattle.spec.proofs.EndLaws.{drop-end-take, drop-end-hit, drop-end-miss, dro
 use Rattle.spec.proofs.ListLaws.{drop-end-le, drop-while-le}
 use Rattle.spec.proofs.RunPlaces.{endFrom, startFrom}
 use Rattle.spec.proofs.WalkLaws.{drop-step, while-drop, while-length, while-length-end, while-length-hit, while-length-miss}
-use Rattle.spec.specs.Assignments.{trim, trimEnd}
+use Rattle.spec.specs.Parts.{trim, trimEnd}
 use Rattle.spec.specs.Bytes.{isW}
 use Rattle.spec.specs.Lists.{takeWhile, dropWhile, dropEnd, any}
 use Rattle.spec.specs.Map.{Marked, bytes, ofByte}

@@ -11,9 +11,9 @@ use lib.Seq.{drop-drop}
 use Rattle.spec.proofs.ByteSets.{sign-not-word}
 use Rattle.spec.proofs.Choice.{by}
 use Rattle.spec.proofs.MapLaws.{marked-length}
-use Rattle.spec.proofs.WalkLaws.{prefix-by-len, prefixBy, prefix-hit, starts-case-at, passesAt, front-live, front-byte, byte-before, first-hit, first-miss}
+use Rattle.spec.proofs.WalkLaws.{prefix-by-len, prefix-hit, starts-case-at, passesAt, front-live, front-byte, byte-before, first-hit, first-miss}
 use Rattle.spec.proofs.FirstLaws.{none-first}
-use Rattle.spec.specs.Bytes.{isWord, upper}
+use Rattle.spec.specs.Bytes.{isWord, upper, prefixBy}
 use Rattle.spec.specs.Map.{marked, frontByte}
 use Rattle.spec.specs.Search.{first, wordHere, keywordHere}
 use Rattle.spec.specs.declared.Found.the-variants.{At, Nothing}

@@ -7,12 +7,12 @@ use native.Mathlib.Omega.{arith}
 use borrow.Author.Tests.{eq-eqb, ne-eqb}
 use lib.Dec.{eqb}
 use lib.ListN.{length, drop, getD}
-use Rattle.spec.specs.Bytes.{isPrefix}
+use Rattle.spec.specs.Bytes.{isPrefix, prefixBy}
 use Rattle.spec.specs.Map.{marked}
 use Rattle.spec.specs.Search.{first, needleHere}
 use Rattle.spec.specs.declared.Found.the-variants.{At, Nothing}
 use Rattle.spec.proofs.MapLaws.{marked-length}
-use Rattle.spec.proofs.WalkLaws.{prefixBy, front-live, starts-exact-at, passesAt, first-end, first-hit, first-miss}
+use Rattle.spec.proofs.WalkLaws.{front-live, starts-exact-at, passesAt, first-end, first-hit, first-miss}
 
 -- exact comparison
 prefix-exact : (w xs : List ℕ) → prefixBy (λ (b : ℕ). b) w xs ≡ isPrefix w xs

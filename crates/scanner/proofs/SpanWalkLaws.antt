@@ -7,11 +7,11 @@ use Prim.Native.Nat.{ℕ, _+_, _-_, _≤_}
 use native.Mathlib.Omega.{arith}
 use lib.ListN.{length, drop, replicate, length-drop, length-replicate, drop-of-length-le}
 use lib.Seq.{sets, sets-eq}
-use Rattle.spec.proofs.MapLaws.{spanFlag, map-step, map-length}
+use Rattle.spec.proofs.MapLaws.{map-step, map-length}
 use Rattle.spec.proofs.SpanLaws.{lexemes-step}
 use Rattle.spec.specs.Answers.{keptBehind}
 use Rattle.spec.specs.Lists.{any}
-use Rattle.spec.specs.Map.{regionsOf, mapOf}
+use Rattle.spec.specs.Map.{regionsOf, mapOf, spanFlag}
 use Rattle.spec.specs.Search.{isUnclosed, hasUnterminatedDollarQuote}
 use Rattle.spec.specs.Spans.{spanAt, spanLen, Lexeme, lexemeAt, lexemesFrom, lexemes}
 use Rattle.spec.specs.declared.Span.{Span}

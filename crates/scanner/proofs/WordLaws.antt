@@ -9,13 +9,13 @@ use borrow.Author.Tests.{eq-eqb, ne-eqb}
 use lib.Dec.{eqb}
 use lib.ListN.{length, take, drop, getD, length-drop, drop-of-length-le}
 use lib.Seq.{drop-drop}
-use Rattle.spec.specs.Bytes.{upper}
+use Rattle.spec.specs.Bytes.{upper, prefixBy}
 use Rattle.spec.specs.Lists.{takeWhile}
 use Rattle.spec.specs.Map.{Marked, live, byte, mark, marked, bytes}
 use Rattle.spec.specs.Search.{isSkipped, isWordMark, nextWord, isWordText}
 use Rattle.spec.proofs.AheadLaws.{drop-one}
 use Rattle.spec.proofs.MapLaws.{marked-length}
-use Rattle.spec.proofs.WalkLaws.{map-take, prefixBy, marked-at, bytes-drop, starts-case, while-take, while-drop, while-length, while-length-end, while-length-hit, while-length-miss}
+use Rattle.spec.proofs.WalkLaws.{map-take, marked-at, bytes-drop, starts-case, while-take, while-drop, while-length, while-length-end, while-length-hit, while-length-miss}
 
 -- ---- where the bytes that pass a test end
 

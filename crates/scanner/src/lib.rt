@@ -15,14 +15,12 @@ ghost use Prim.Native.Nat.{_+_, _-_, _≤_, _<_};
 ghost use lib.Dec.{eqb};
 ghost use lib.ListN.{length, getD, drop, replicate};
 ghost use lib.Seq.{sets};
-ghost use Rattle.spec.specs.Bytes.{ascii, isWord, upper};
+ghost use Rattle.spec.specs.Bytes.{ascii, isWord, upper, prefixBy};
 ghost use Rattle.spec.specs.Lists.{isEmpty, takeWhile};
-ghost use Rattle.spec.specs.Map.{mapOf, mark, marked, isLiveByte};
+ghost use Rattle.spec.specs.Map.{mapOf, mark, marked, isLiveByte, spanFlag};
 ghost use Rattle.spec.specs.Search.{first, keywordHere, byteHere, needleHere, isSkipped, isWordMark, nextWord, isWordText, pieces, startsFrom, isUnclosed, hasUnterminatedDollarQuote, isFound, handlerHere};
 ghost use Rattle.spec.specs.Answers.{keptBehind};
 ghost use Rattle.spec.specs.declared.Found.the-variants.{Nothing};
-ghost use Rattle.spec.proofs.MapLaws.{spanFlag};
-ghost use Rattle.spec.proofs.WalkLaws.{prefixBy};
 ghost use Rattle.scanner.specs.Edges.{edges};
 
 // The map byte of a span: 0 for live text, 1 for the others.

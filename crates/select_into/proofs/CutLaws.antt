@@ -18,8 +18,8 @@ use Rattle.spec.specs.Bytes.{ascii, isIdent, isW, upper}
 use Rattle.spec.specs.Lists.{dropEnd}
 use Rattle.spec.specs.Map.{Marked, byte, marked, bytes, ofByte, frontByte}
 use Rattle.spec.specs.Search.{Test, first, startsIgnoringCase, wordHere}
-use Rattle.spec.specs.Assignments.{trimEnd}
-use Rattle.spec.specs.SelectInto.{depthOf, topWordHere, listed, pairUp, part, placeOr, fromPart, frontPlace, indentation, setLine, setLines, selectCut}
+use Rattle.spec.specs.Parts.{trimEnd, part}
+use Rattle.spec.specs.SelectInto.{depthOf, topWordHere, listed, pairUp, placeOr, fromPart, frontPlace, indentation, setLine, setLines, selectCut}
 use Rattle.spec.specs.declared.Found.{Found}
 use Rattle.spec.specs.declared.Found.the-variants.{At, Nothing}
 use Rattle.set_lines.specs.Lines.{Shared, linesText}
@@ -53,7 +53,6 @@ found-bound p xs ms i Nothing e = zero-le
 module _ (xs ms : List ℕ) where
   -- the bytes from a up to b, where c is the greater of both
   pub part-marked : (a b c : ℕ) → c ≡ a + (b - a) → marked (take (c - a) (drop a xs)) (take (c - a) (drop a ms)) ≡ part a b (marked xs ms)
-  unfolding part
   part-marked a b c e =
       let k : c - a ≡ b - a = omega arith in
       marked-part a (c - a) xs ms ∙ ap (λ (n : ℕ). take n (drop a (marked xs ms))) k
@@ -75,7 +74,7 @@ module _ (xs ms : List ℕ) where
   shared-bytes : (front s : ℕ) (f : Found)
       → sharedBy (bytes (part front s (marked xs ms))) (bytes (fromPart f (marked xs ms))) (bytes (indentation (take front (marked xs ms))))
       ≡ sharedOf xs front s (placeOr f (length xs))
-  unfolding part sharedOf
+  unfolding sharedOf
   shared-bytes front s f =
       rw (bytes-part front (s - front) xs ms, from-bytes f, indentation-bytes (take front (marked xs ms)), front-bytes front) refl
 

@@ -10,7 +10,7 @@ use Rattle.spec.specs.Bytes.{isW}
 use Rattle.spec.specs.Lists.{isEmpty, dropWhile, dropEnd, keep}
 use Rattle.spec.specs.Map.{Marked, ofByte}
 use Rattle.spec.specs.Search.{pieces}
-use Rattle.spec.specs.Assignments.{trim, trimEnd}
+use Rattle.spec.specs.Parts.{trim, trimEnd}
 use Rattle.spec.specs.SelectInto.{listed, commaHere}
 
 some-behind : {A : Type 0} (a b : List A) → 0 < length b → isEmpty (a ++ b) ≡ false

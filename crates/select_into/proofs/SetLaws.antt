@@ -13,7 +13,7 @@ use Rattle.spec.proofs.Choice.{by, cond-case, cond-le}
 use Rattle.spec.specs.Bytes.{ascii, isW, upper, isLower, within}
 use Rattle.spec.specs.Lists.{isEmpty, takeWhile, dropEnd}
 use Rattle.spec.specs.Map.{Marked, live, byte, bytes, lives, ofByte}
-use Rattle.spec.specs.Assignments.{trimEnd}
+use Rattle.spec.specs.Parts.{trimEnd}
 use Rattle.spec.specs.SelectInto.{hasLimit, subquery, setLine, setLines, indentation}
 use Rattle.quotes.specs.Limits.{limitNext, limitFrom}
 use Rattle.set_lines.specs.Lines.{spaced, queryText, limitText, lineText, limited, breakText, sharedLine, linesText}

@@ -18,9 +18,10 @@ use Rattle.spec.proofs.RefusalBounds.{bytes-length}
 use Rattle.spec.proofs.RunPlaces.{flags-length, marked-flags, byte-inside, byte-behind, back-rest, Behind, behind, start-same}
 use Rattle.spec.proofs.ByteSets.{sign-not-ident, ident-not-w, w-not-ident}
 use Rattle.spec.proofs.SearchLaws.{prefix-at, at-prefix}
-use Rattle.spec.proofs.TargetPlaces.{flags, byteAt, part, IsRun, IsAssignAt, IsNameBefore, IsAssignTarget, FirstFrom, NoPlace}
-use Rattle.spec.proofs.WalkLaws.{drop-step, back-step, live-inside, needle-at, prefixBy}
-use Rattle.spec.specs.Bytes.{ascii, isIdent, isW}
+use Rattle.spec.proofs.TargetPlaces.{flags, byteAt, IsRun, IsAssignAt, IsNameBefore, IsAssignTarget, FirstFrom, NoPlace}
+use Rattle.spec.specs.Parts.{part}
+use Rattle.spec.proofs.WalkLaws.{drop-step, back-step, live-inside, needle-at}
+use Rattle.spec.specs.Bytes.{ascii, isIdent, isW, prefixBy}
 use Rattle.spec.specs.Lists.{takeWhile}
 use Rattle.spec.specs.Map.{Marked, live, bytes, frontByte, ofByte}
 use Rattle.spec.specs.Search.{needleHere}
@@ -72,7 +73,7 @@ assign-says t i = (sound, complete)
 module _ (t : List Marked) (i m s a : ℕ) (h : i ≤ length t) (w : Behind isW t m i) (n : Behind isIdent t s m)
     (q : Behind isIdent t a (s - 1)) where
   abbrev found : Target
-  found = record { qualifier = part t a (s - 1); name = part t s m }
+  found = record { qualifier = part a (s - 1) t; name = part s m t }
 
   abbrev test : Bool
   test = not (eqb (m - s) 0) && (eqb (frontByte (reverse (take s t))) 46 && not (eqb (s - 1 - a) 0))

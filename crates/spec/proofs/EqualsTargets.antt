@@ -16,7 +16,8 @@ use Rattle.spec.proofs.FirstTarget.{Exactly, choice-exactly, none-exact
 use Rattle.spec.proofs.ListLaws.{empty-length}
 use Rattle.spec.proofs.RunPlaces.{byte-ahead, byte-inside, Ahead, endFrom, ahead, end-same}
 use Rattle.spec.proofs.ByteSets.{sign-not-ident, sign-not-w, ident-not-w, w-not-ident, n-w, not-n}
-use Rattle.spec.proofs.TargetPlaces.{byteAt, part, IsLoneEqualsAt, IsEqualsTarget}
+use Rattle.spec.proofs.TargetPlaces.{byteAt, IsLoneEqualsAt, IsEqualsTarget}
+use Rattle.spec.specs.Parts.{part}
 use Rattle.spec.specs.Bytes.{isIdent, isN}
 use Rattle.spec.specs.Lists.{takeWhile}
 use Rattle.spec.specs.Map.{Marked, ofByte}
@@ -67,7 +68,7 @@ NoRunOver t i = 0 < i → isIdent (byteAt t (i - 1)) ≡ true → isIdent (byteA
 module _ (t : List Marked) (from a d e i : ℕ) (w : Ahead isN t from a) (q : Ahead isIdent t a d)
     (n : Ahead isIdent t (d + 1) e) (v : Ahead isN t e i) where
   abbrev found : Target
-  found = record { qualifier = part t a d; name = part t (d + 1) e }
+  found = record { qualifier = part a d t; name = part (d + 1) e t }
 
   abbrev test : Bool
   test = not (eqb (d - a) 0) && (eqb (byteAt t d) 46 && (not (eqb (e - (d + 1)) 0) && loneEquals (drop i t)))

@@ -27,7 +27,8 @@ use Rattle.spec.specs.Requote.{doubled, singleQuoted, requoteSpan, requo
 use Rattle.spec.specs.Elsif.{elsifFrom, elsif}
 use Rattle.spec.specs.Outcome.{resultTooLong, Outcome, accepted, refused, _⊕_, Rewriting, forget}
 use Rattle.spec.specs.Raise.{Level, Action}
-use Rattle.spec.specs.Assignments.{trimEnd, trim, Target, assignHere, rightSide, startsName, assignmentAt, assignment, checkedStatement, statement, statementTarget, joinStatements, assignments}
+use Rattle.spec.specs.Assignments.{Target, assignHere, rightSide, startsName, assignmentAt, assignment, checkedStatement, statement, statementTarget, joinStatements, assignments}
+use Rattle.spec.specs.Parts.{trimEnd, trim}
 use Rattle.spec.specs.Body.{bufferSize, requotePass, elsifPass, assignPass, selectPass, raisePass, limited, andThen, rewriting}
 use Rattle.spec.specs.Answers.{textLimit}
 use Rattle.spec.specs.declared.Found.{Found}

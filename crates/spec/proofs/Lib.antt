@@ -1,3 +1,4 @@
+pub mod RowForms
 pub mod Rows
 pub mod ClosedRows
 pub mod Choice

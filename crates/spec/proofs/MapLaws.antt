@@ -11,7 +11,7 @@ use Rattle.spec.proofs.SpanLaws.{span-le, lexemes-step, tiles}
 use Rattle.spec.specs.Lists.{all, concat}
 use Rattle.spec.specs.Bytes.{within}
 use Rattle.spec.specs.Spans.{Kind, line, block, single, double, dollar, code, kindAt, spanOf, spanAt, spanLen, Lexeme, lexemeAt, lexemes}
-use Rattle.spec.specs.Map.{Region, inCode, inLiteral, inComment, regionOf, regionsOf, flag, mapOf, Marked, live, quoted, byte, isLive, mark, marked, markedText, bytes}
+use Rattle.spec.specs.Map.{Region, inCode, inLiteral, inComment, regionOf, regionsOf, flag, mapOf, Marked, live, quoted, byte, isLive, mark, marked, markedText, bytes, spanFlag}
 use Rattle.spec.specs.declared.Span.{Span}
 use Rattle.spec.specs.declared.Span.the-variants.{Verbatim, Dollar, Code}
 
@@ -47,12 +47,6 @@ map-append f (x ∷ s) t = ap (λ l. f x ∷ l) (map-append f s t)
 pub map-replicate : {A B : Type 0} (f : A → B) (n : ℕ) (a : A) → map f (replicate n a) ≡ replicate n (f a)
 map-replicate f zero a = refl
 map-replicate f (suc n) a = ap (λ l. f a ∷ l) (map-replicate f n a)
-
--- the map byte of a span: 0 for live text, 1 for the others
-abbrev pub spanFlag : Span → ℕ
-spanFlag (Verbatim n) = 1
-spanFlag (Dollar d) = 1
-spanFlag (Code n) = 0
 
 flag-of-kind : (k : Kind) (xs : List ℕ) → flag (regionOf k) ≡ spanFlag (spanOf k xs)
 unfolding spanOf

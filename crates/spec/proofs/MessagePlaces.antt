@@ -20,7 +20,7 @@ use Rattle.spec.proofs.WalkLaws.{while-take, while-length, while-passes
 use Rattle.spec.specs.Bytes.{isW}
 use Rattle.spec.specs.Lists.{takeWhile}
 use Rattle.spec.specs.Map.{Marked, bytes, frontByte, ofByte}
-use Rattle.spec.specs.Assignments.{trim}
+use Rattle.spec.specs.Parts.{trim}
 use Rattle.spec.specs.Raise.{closeLen, message}
 
 -- the first comma of xs stands at e; where there is none, xs ends there

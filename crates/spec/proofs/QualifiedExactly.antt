@@ -6,7 +6,8 @@ use mathlib.Core.Logic.{_↔_}
 use Prim.Native.Nat.{ℕ}
 use Rattle.spec.proofs.RefusalLaws.{after2, Through2, accepted-exactly, qualified-exactly}
 use Rattle.spec.proofs.StatementTargets.{target-in-exactly, target-in-none}
-use Rattle.spec.proofs.TargetPlaces.{part, IsStatement, HasNoTarget, IsFirstTarget}
+use Rattle.spec.proofs.TargetPlaces.{IsStatement, HasNoTarget, IsFirstTarget}
+use Rattle.spec.specs.Parts.{part}
 use Rattle.spec.specs.Map.{bytes, markedText}
 use Rattle.spec.specs.Assignments.{Target}
 use Rattle.spec.specs.Outcome.{qualifiedTarget, accepted, refused}
@@ -35,5 +36,5 @@ qualified-in-words act xs q n = (
 
 -- where a text is accepted, no statement of the text after pass 2 has a qualified target
 pub accepted-no-target : (act : Level → Action) (xs zs : List ℕ) → rewriting act xs ≡ accepted zs
-    → (a e : ℕ) → IsStatement (after2 xs) a e → HasNoTarget (part (markedText (after2 xs)) a e)
+    → (a e : ℕ) → IsStatement (after2 xs) a e → HasNoTarget (part a e (markedText (after2 xs)))
 accepted-no-target act xs zs h = target-in-none (after2 xs) .0 (accepted-exactly act xs zs .0 h .before .before .noTarget)

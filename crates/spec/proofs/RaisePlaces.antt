@@ -24,7 +24,7 @@ use Rattle.spec.specs.Bytes.{ascii, upper, isLower, within}
 use Rattle.spec.specs.Lists.{takeWhile}
 use Rattle.spec.specs.Map.{Marked, live, bytes, markedText, ofByte, isLiveByte}
 use Rattle.spec.specs.Search.{startsIgnoringCase, byteHere}
-use Rattle.spec.specs.Assignments.{trim}
+use Rattle.spec.specs.Parts.{trim}
 use Rattle.spec.specs.Raise.{dropped, passed, refusedClause, abortFate, Level, exception, notice, warning, debug, log, info, levelWords, levelIn, endsLevel, isException, levelLen, actionOf, contentOf, actionFate, Raised, raisedAt}
 
 -- ---- the words

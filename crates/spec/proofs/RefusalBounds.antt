@@ -22,7 +22,8 @@ use Rattle.spec.specs.Bytes.{ascii, isW, isN, isIdent, isWord}
 use Rattle.spec.specs.Lists.{isEmpty, takeWhile, dropWhile, dropEnd}
 use Rattle.spec.specs.Map.{Marked, live, byte, bytes, markedText, frontByte, ofByte, isLiveByte}
 use Rattle.spec.specs.Search.{byteHere, piecesFrom, pieces, startsIgnoringCase, wordHere}
-use Rattle.spec.specs.Assignments.{Target, orElse, trimEnd, trim, assignHere, targetBefore, assignTarget, loneEquals, equalsTarget, Mark, opensCase, closesCase, opensStatement, Marking, markings, markingHere, casesBehind, targetPast, targetBehind, markedTarget, statementTarget}
+use Rattle.spec.specs.Assignments.{Target, orElse, assignHere, targetBefore, assignTarget, loneEquals, equalsTarget, Mark, opensCase, closesCase, opensStatement, Marking, markings, markingHere, casesBehind, targetPast, targetBehind, markedTarget, statementTarget}
+use Rattle.spec.specs.Parts.{trimEnd, trim}
 use Rattle.spec.specs.Raise.{Fate, rewritten, refusedClause, message, usingFate, abortFate, Level, levelIn, levelWords, levelLen, actionOf, Action, abort, drops, contentOf, actionFate, raisedAt, Token, raisesFrom}
 use Rattle.spec.specs.Outcome.{qualifiedTarget, usingClause, resultTooLong, accepted, refused, Rewriting}
 use Rattle.spec.specs.Body.{bufferSize, rewriting}

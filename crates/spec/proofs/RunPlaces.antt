@@ -15,7 +15,8 @@ use Rattle.spec.proofs.Choice.{by, neither-less}
 use Rattle.spec.proofs.EndLaws.{end-sum}
 use Rattle.spec.proofs.FirstLaws.{fails-not}
 use Rattle.spec.proofs.RefusalBounds.{bytes-length}
-use Rattle.spec.proofs.TargetPlaces.{flagOf, flags, byteAt, part}
+use Rattle.spec.proofs.TargetPlaces.{flagOf, flags, byteAt}
+use Rattle.spec.specs.Parts.{part}
 use Rattle.spec.proofs.WalkLaws.{back-step, while-take, while-drop, while-length, while-passes-at, while-fails-at}
 use Rattle.spec.specs.Lists.{takeWhile, dropWhile, dropEnd}
 use Rattle.spec.specs.Map.{Marked, live, quoted, byte, bytes, marked, frontByte, ofByte}
@@ -87,7 +88,7 @@ module _ (f : ℕ → Bool) (t : List Marked) where
     pub all : (k : ℕ) → i ≤ k → k < e → f (byteAt t k) ≡ true
     pub stops : e < length t → f (byteAt t e) ≡ false
     pub long : length (takeWhile (ofByte f) (drop i t)) ≡ e - i
-    pub front : takeWhile (ofByte f) (drop i t) ≡ part t i e
+    pub front : takeWhile (ofByte f) (drop i t) ≡ part i e t
     pub rest : dropWhile (ofByte f) (drop i t) ≡ drop e t
 
   -- such an end there is
@@ -130,7 +131,7 @@ module _ (f : ℕ → Bool) (t : List Marked) where
     pub all : (k : ℕ) → s ≤ k → k < i → f (byteAt t k) ≡ true
     pub stops : 0 < s → f (byteAt t (s - 1)) ≡ false
     pub long : length (takeWhile (ofByte f) (reverse (take i t))) ≡ i - s
-    pub front : reverse (takeWhile (ofByte f) (reverse (take i t))) ≡ part t s i
+    pub front : reverse (takeWhile (ofByte f) (reverse (take i t))) ≡ part s i t
     pub rest : dropWhile (ofByte f) (reverse (take i t)) ≡ reverse (take s t)
 
   -- one byte more

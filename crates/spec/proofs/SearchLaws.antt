@@ -14,9 +14,9 @@ use lib.Seq.{getD-drop, drop-drop}
 use Rattle.spec.proofs.ByteSets.{sign-not-word, word-not-n}
 use Rattle.spec.proofs.Choice.{by, cond-case, and-left, and-right, and-both, or-cases}
 use Rattle.spec.proofs.MapLaws.{map-length, marked-length, text-length}
-use Rattle.spec.proofs.WalkLaws.{climb, any-default, map-take, mark-skipped, mark-word, marked-at, live-inside, word-at, needle-at, byte-at, byte-before, bytes-drop, prefixBy, prefix-by-len, starts-case, passesAt, while-take, while-drop, while-length, while-passes, while-fails, while-passes-at, while-fails-at, while-exactly, while-exactly-at, while-hit, cutsFrom, cutsAt, starts-cuts, cuts-end, cuts-hit, cuts-miss}
+use Rattle.spec.proofs.WalkLaws.{climb, any-default, map-take, mark-skipped, mark-word, marked-at, live-inside, word-at, needle-at, byte-at, byte-before, bytes-drop, prefix-by-len, starts-case, passesAt, while-take, while-drop, while-length, while-passes, while-fails, while-passes-at, while-fails-at, while-exactly, while-exactly-at, while-hit, cutsFrom, cutsAt, starts-cuts, cuts-end, cuts-hit, cuts-miss}
 use Rattle.spec.proofs.FirstLaws.{apart, LeastOf, NoneOf, Says, found-least, least-found, found-none, none-found, sought-least, least-sought, sought-none, none-sought}
-use Rattle.spec.specs.Bytes.{ascii, isWord, isN, isHigh, upper}
+use Rattle.spec.specs.Bytes.{ascii, isWord, isN, isHigh, upper, prefixBy}
 use Rattle.spec.specs.Lists.{isEmpty, takeWhile, dropWhile, any, keep}
 use Rattle.spec.specs.Spans.{Lexeme, lexemes}
 use Rattle.spec.specs.Map.{Marked, live, byte, mark, mapOf, marked, markedText, bytes, frontByte, isLiveByte}

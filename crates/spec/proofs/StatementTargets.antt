@@ -20,7 +20,8 @@ use Rattle.spec.proofs.RefusalLaws.{targetIn}
 use Rattle.spec.proofs.RefusalOutcomes.{firstTarget}
 use Rattle.spec.proofs.SearchLaws.{IsByteAt, byte-says}
 use Rattle.spec.proofs.TargetLaws.{statement-target-exactly, statement-target-none}
-use Rattle.spec.proofs.TargetPlaces.{part, IsTargetOf, HasNoTarget, IsStatement, IsFirstTarget}
+use Rattle.spec.proofs.TargetPlaces.{IsTargetOf, HasNoTarget, IsStatement, IsFirstTarget}
+use Rattle.spec.specs.Parts.{part}
 use Rattle.spec.proofs.WalkLaws.{piecesAt, pieces-cut, pieces-last}
 use Rattle.spec.specs.Map.{Marked, markedText}
 use Rattle.spec.specs.Search.{first, byteHere, pieces}
@@ -93,7 +94,7 @@ IsStart ys i = 0 < i → IsByteAt ys 59 (i - 1)
 
 -- no statement at or behind i has a target
 abbrev NoneFrom : List ℕ → ℕ → Type 0
-NoneFrom ys i = (a e : ℕ) → i ≤ a → IsStatement ys a e → HasNoTarget (part (markedText ys) a e)
+NoneFrom ys i = (a e : ℕ) → i ≤ a → IsStatement ys a e → HasNoTarget (part a e (markedText ys))
 
 -- the statements from i on find what they should
 abbrev FindsFrom : List ℕ → ℕ → List (List Marked) → Type 0
@@ -105,7 +106,7 @@ from ys i = piecesAt (byteHere 59) (markedText ys) i
 -- the statement that starts at i
 module _ (ys : List ℕ) (i e : ℕ) (s : IsStatement ys i e) where
   abbrev here : List Marked
-  here = part (markedText ys) i e
+  here = part i e (markedText ys)
 
   at-head : (r : Target) → IsTargetOf here r → IsFirstTarget ys i r
   at-head r w =
@@ -123,7 +124,7 @@ module _ (ys : List ℕ) (i e : ℕ) (s : IsStatement ys i e) where
       let same = one-end ys i (f .stop) e (rw z at (f .statement)) s in
       rw (z, same) at (f .target)
 
-  head-none : (a f : ℕ) → a ≡ i → IsStatement ys a f → HasNoTarget here → HasNoTarget (part (markedText ys) a f)
+  head-none : (a f : ℕ) → a ≡ i → IsStatement ys a f → HasNoTarget here → HasNoTarget (part a f (markedText ys))
   head-none a f z u n =
       let same = one-end ys i f e (rw z at u) s in
       rw (z, same) n
@@ -147,7 +148,7 @@ module _ (ys : List ℕ) (i : ℕ) (h : i ≤ length ys) (s : IsStart ys i) wher
         let e = length ys in
         let all = take-all (e - i) (drop i (markedText ys)) (omega (arith, length-drop i (markedText ys), text-length ys)) in
         rw (sym all)
-        (finds-as (finds-cons (part (markedText ys) i e) [] finds-nothing)
+        (finds-as (finds-cons (part i e (markedText ys)) [] finds-nothing)
         (λ r. (
           (λ w. ⊎-elim (at-head ys i e rest r) (λ y. absurd (y .1)) w),
           (λ f. inl (head-target ys i e rest r f (no-later (f .start) (f .stop) (f .from) (f .statement)))),
@@ -170,7 +171,7 @@ module _ (ys : List ℕ) (i : ℕ) (h : i ≤ length ys) (s : IsStart ys i) wher
         (λ q. omega (arith, ltb-false (a - 1) j q))
 
     -- where it has no target, the first behind it is the first
-    onward : (r : Target) → HasNoTarget (part (markedText ys) i j) → IsFirstTarget ys (j + 1) r → IsFirstTarget ys i r
+    onward : (r : Target) → HasNoTarget (part i j (markedText ys)) → IsFirstTarget ys (j + 1) r → IsFirstTarget ys i r
     onward r n f =
         record {
           start = f .start;
@@ -185,7 +186,7 @@ module _ (ys : List ℕ) (i : ℕ) (h : i ≤ length ys) (s : IsStart ys i) wher
         }
 
     parted : (r : Target) → IsFirstTarget ys i r
-        → IsTargetOf (part (markedText ys) i j) r ⊎ (HasNoTarget (part (markedText ys) i j) × IsFirstTarget ys (j + 1) r)
+        → IsTargetOf (part i j (markedText ys)) r ⊎ (HasNoTarget (part i j (markedText ys)) × IsFirstTarget ys (j + 1) r)
     parted r f =
         by (eqb (f .start) i)
         (λ q. inl (head-target ys i j cut r f (eqb-true (f .start) i q)))
@@ -202,9 +203,9 @@ module _ (ys : List ℕ) (i : ℕ) (h : i ≤ length ys) (s : IsStart ys i) wher
         } in
         inr (f .least i j (omega arith) cut (omega arith), w))
 
-    finds-cut : FindsFrom ys (j + 1) (from ys (j + 1)) → FindsFrom ys i (part (markedText ys) i j ∷ from ys (j + 1))
+    finds-cut : FindsFrom ys (j + 1) (from ys (j + 1)) → FindsFrom ys i (part i j (markedText ys) ∷ from ys (j + 1))
     finds-cut w =
-        finds-as (finds-cons (part (markedText ys) i j) (from ys (j + 1)) w)
+        finds-as (finds-cons (part i j (markedText ys)) (from ys (j + 1)) w)
         (λ r. ((λ y. ⊎-elim (at-head ys i j cut r) (λ f. onward r (f .0) (f .1)) y), parted r)) (
           (λ n a e l u.
               by (eqb a i)
@@ -230,7 +231,7 @@ from-cut ys i j h s e more =
     rw (pieces-cut (byteHere 59) (markedText ys) i j e)
     (go (found-least (byteHere 59) (markedText ys) (IsByteAt ys 59) (byte-says ys 59) i j e))
   where
-    go : LeastOf (IsByteAt ys 59) i j → FindsFrom ys i (part (markedText ys) i j ∷ from ys (j + 1))
+    go : LeastOf (IsByteAt ys 59) i j → FindsFrom ys i (part i j (markedText ys) ∷ from ys (j + 1))
     go m =
         let g = cut-inside ys j (m .holds) in
         let k : j + 1 - 1 ≡ j = omega arith in
@@ -259,7 +260,7 @@ module _ (ys : List ℕ) where
   target-in-exactly = whole .some-target
 
   -- and none exactly if no statement has one
-  pub target-in-none : (targetIn ys ≡ none) ↔ ((a e : ℕ) → IsStatement ys a e → HasNoTarget (part (markedText ys) a e))
+  pub target-in-none : (targetIn ys ≡ none) ↔ ((a e : ℕ) → IsStatement ys a e → HasNoTarget (part a e (markedText ys)))
   unfolding targetIn pieces
   target-in-none =
       ((λ h a e. whole .no-target .0 h a e (omega arith)), (λ n. whole .no-target .1 (λ a e l. n a e)))

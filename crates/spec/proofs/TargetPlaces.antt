@@ -7,6 +7,7 @@ use Prim.Native.Nat.{ℕ, suc, _+_, _-_, _≤_, _<_}
 use lib.ListN.{length, take, drop, getD}
 use Rattle.spec.proofs.SearchLaws.{IsWordAt, IsByteAt}
 use Rattle.spec.specs.Bytes.{ascii, isIdent, isWord, isW, isN}
+use Rattle.spec.specs.Parts.{part}
 use Rattle.spec.specs.Map.{Marked, live, quoted, bytes, markedText}
 use Rattle.spec.specs.Assignments.{Target}
 
@@ -29,10 +30,6 @@ byteAt t i = getD (bytes t) i 0
 abbrev pub IsLiveAt : List Marked → ℕ → Type 0
 IsLiveAt t i = getD (flags t) i 1 ≡ 0
 
--- what stands from a up to e
-abbrev pub part : List Marked → ℕ → ℕ → List Marked
-part t a e = take (e - a) (drop a t)
-
 -- every byte from a up to e is in the set; there may be none
 pub record AllIn (set : ℕ → Bool) (t : List Marked) (a e : ℕ) : Type 0 where
   pub order : a ≤ e
@@ -51,7 +48,7 @@ pub record IsQualifiedName (t : List Marked) (a d e : ℕ) (r : Target) : Type 0
   pub qualifier : IsRun isIdent t a d
   pub dot : byteAt t d ≡ 46
   pub name : IsRun isIdent t (d + 1) e
-  pub target : r ≡ record { qualifier = part t a d; name = part t (d + 1) e }
+  pub target : r ≡ record { qualifier = part a d t; name = part (d + 1) e t }
 
 -- ---- the first kind of place, 01's sentence on `:=`
 
@@ -173,5 +170,5 @@ pub record IsFirstTarget (ys : List ℕ) (i : ℕ) (r : Target) : Type 0 where
   pub stop : ℕ
   pub from : i ≤ start
   pub statement : IsStatement ys start stop
-  pub target : IsTargetOf (part (markedText ys) start stop) r
-  pub least : (a e : ℕ) → i ≤ a → IsStatement ys a e → e < start → HasNoTarget (part (markedText ys) a e)
+  pub target : IsTargetOf (part start stop (markedText ys)) r
+  pub least : (a e : ℕ) → i ≤ a → IsStatement ys a e → e < start → HasNoTarget (part a e (markedText ys))

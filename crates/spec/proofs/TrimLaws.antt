@@ -19,7 +19,7 @@ use Rattle.spec.proofs.WalkLaws.{while-drop, while-length, while-passes
 use Rattle.spec.specs.Bytes.{isW}
 use Rattle.spec.specs.Lists.{isEmpty, takeWhile, dropWhile, dropEnd}
 use Rattle.spec.specs.Map.{Marked, bytes, ofByte}
-use Rattle.spec.specs.Assignments.{trim, trimEnd}
+use Rattle.spec.specs.Parts.{trim, trimEnd}
 
 -- ---- for every test
 

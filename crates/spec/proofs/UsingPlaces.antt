@@ -21,8 +21,8 @@ use Rattle.spec.proofs.RunPlaces.{byte-ahead, Ahead, endFrom, ahead-at}
 use Rattle.spec.proofs.SearchLaws.{Same, prefix-at, at-prefix}
 use Rattle.spec.proofs.SpanLaws.{seen}
 use Rattle.spec.proofs.TrimLaws.{AllW}
-use Rattle.spec.proofs.WalkLaws.{prefixBy, prefix-by-len, starts-case, while-passes-at, while-exactly, while-exactly-at}
-use Rattle.spec.specs.Bytes.{ascii, upper, isW, isLower, within}
+use Rattle.spec.proofs.WalkLaws.{prefix-by-len, starts-case, while-passes-at, while-exactly, while-exactly-at}
+use Rattle.spec.specs.Bytes.{ascii, upper, isW, isLower, within, prefixBy}
 use Rattle.spec.specs.Lists.{isEmpty, dropWhile}
 use Rattle.spec.specs.Map.{Marked, bytes, ofByte}
 use Rattle.spec.specs.Search.{startsIgnoringCase}

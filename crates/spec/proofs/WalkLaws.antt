@@ -13,7 +13,7 @@ use lib.ListN.{length, take, drop, getD, length-reverse, length-drop, drop-of-le
 use lib.Seq.{length-take-le, take-suc, drop-cons, drop-nil, getD-drop, drop-drop}
 use Rattle.spec.proofs.Choice.{by, neither-less, and-right}
 use Rattle.spec.proofs.MapLaws.{mark-byte, map-length, marked-length, marked-bytes}
-use Rattle.spec.specs.Bytes.{upper, isWord, isN}
+use Rattle.spec.specs.Bytes.{upper, isWord, isN, prefixBy}
 use Rattle.spec.specs.Lists.{takeWhile, dropWhile}
 use Rattle.spec.specs.Map.{Marked, live, quoted, byte, isLive, mark, mapOf, marked, markedText, bytes, frontByte, frontLive, isLiveByte}
 use Rattle.spec.specs.Search.{Test, firstFrom, first, startsIgnoringCase, starts, wordHere, byteHere, needleHere, isSkipped, isWordMark, ontoFirst, piecesFrom, startsFrom}
@@ -174,14 +174,6 @@ unfolding frontByte
 byte-before-front xs ms = refl
 
 -- ---- texts that start with a word, compared by any function of their bytes
-
--- w stands at the front of xs where bytes are compared by f
-unfoldable pub prefixBy : (ℕ → ℕ) → List ℕ → List ℕ → Bool
-prefixBy f [] xs = true
-prefixBy f (a ∷ w) [] = false
-prefixBy f (a ∷ w) (x ∷ xs) =
-    let more = prefixBy f w xs in
-    eqb (f x) (f a) && more
 
 -- a text in front of which a word stands is at least as long
 pub prefix-by-len : (f : ℕ → ℕ) (w xs : List ℕ) → prefixBy f w xs ≡ true → length w ≤ length xs

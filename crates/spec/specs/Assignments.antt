@@ -9,16 +9,10 @@ use Rattle.spec.specs.Bytes.{ascii, isIdent, isDigit, isWord, isW, isN}
 use Rattle.spec.specs.Lists.{isEmpty, takeWhile, dropWhile, dropEnd}
 use Rattle.spec.specs.Map.{Marked, live, quoted, byte, bytes, lives, frontByte, ofByte}
 use Rattle.spec.specs.Outcome.{qualifiedTarget, Outcome, accepted, refused, _⊕_}
+use Rattle.spec.specs.Parts.{trim}
 use Rattle.spec.specs.Search.{Test, first, wordHere, needleHere, byteHere, pieces}
 use Rattle.spec.specs.declared.Found.{Found}
 use Rattle.spec.specs.declared.Found.the-variants.{At, Nothing}
-
--- without W at its end, at both ends
-unfoldable pub trimEnd : List Marked → List Marked
-trimEnd t = dropEnd (ofByte isW) t
-
-unfoldable pub trim : List Marked → List Marked
-trim t = trimEnd (dropWhile (ofByte isW) t)
 
 -- a qualified target `q.n`
 pub record Target : Type 0 where

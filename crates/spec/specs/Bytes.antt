@@ -56,6 +56,14 @@ upper b = cond (isLower b) (b - 32) b
 unfoldable pub isPair : ℕ → ℕ → ℕ → ℕ → Bool
 isPair x y c d = eqb c x && eqb d y
 
+-- w stands at the front of xs where bytes are compared by f
+unfoldable pub prefixBy : (ℕ → ℕ) → List ℕ → List ℕ → Bool
+prefixBy f [] xs = true
+prefixBy f (a ∷ w) [] = false
+prefixBy f (a ∷ w) (x ∷ xs) =
+    let more = prefixBy f w xs in
+    eqb (f x) (f a) && more
+
 -- p stands at the front of xs
 unfoldable pub isPrefix : List ℕ → List ℕ → Bool
 isPrefix [] xs = true

@@ -10,8 +10,7 @@ use Rattle.spec.specs.Lists.{isEmpty, takeWhile, keep}
 use Rattle.spec.specs.Map.{Marked, byte, bytes, markedText, ofByte, frontByte}
 use Rattle.spec.specs.Search.{Test, first, keywordHere, byteHere, starts, pieces}
 use Rattle.spec.specs.Requote.{singleQuoted}
-use Rattle.spec.specs.Assignments.{trim}
-use Rattle.spec.specs.SelectInto.{part}
+use Rattle.spec.specs.Parts.{trim, part}
 use Rattle.spec.specs.declared.Found.{Found}
 use Rattle.spec.specs.declared.Found.the-variants.{At, Nothing}
 

@@ -5,6 +5,7 @@ pub mod Map
 pub mod Search
 pub mod Requote
 pub mod Elsif
+pub mod Parts
 pub mod Outcome
 pub mod Assignments
 pub mod SelectInto
@@ -13,5 +14,4 @@ pub mod Body
 pub mod Declarations
 pub mod Closed
 pub mod Answers
-pub mod Table
 pub mod Computed

@@ -6,6 +6,8 @@ use lib.Dec.{eqb}
 use lib.ListN.{length, replicate}
 use Rattle.spec.specs.Lists.{any}
 use Rattle.spec.specs.Spans.{Kind, line, block, single, double, dollar, code, Lexeme, lexemes}
+use Rattle.spec.specs.declared.Span.{Span}
+use Rattle.spec.specs.declared.Span.the-variants.{Verbatim, Dollar, Code}
 
 -- where a byte stands: live, in a literal or in a comment
 pub data Region : Type 0 where
@@ -33,6 +35,12 @@ flag inComment = 1
 -- the region map of a text
 unfoldable pub mapOf : List ℕ → List ℕ
 mapOf xs = map flag (regionsOf (lexemes xs))
+
+-- the map byte of a span: 0 for live text, 1 for the others
+abbrev pub spanFlag : Span → ℕ
+spanFlag (Verbatim n) = 1
+spanFlag (Dollar d) = 1
+spanFlag (Code n) = 0
 
 -- a byte of a text with its map byte
 pub data Marked : Type 0 where

@@ -11,7 +11,7 @@ use Rattle.spec.specs.Lists.{isEmpty, takeWhile, dropWhile}
 use Rattle.spec.specs.Map.{Marked, live, quoted, byte, bytes, lives, markedText, frontByte, ofByte, isLiveByte}
 use Rattle.spec.specs.Search.{wordHere, startsIgnoringCase}
 use Rattle.spec.specs.Outcome.{usingClause, Outcome, accepted, refused, _⊕_}
-use Rattle.spec.specs.Assignments.{trim}
+use Rattle.spec.specs.Parts.{trim}
 
 -- behind an opening `'`: the length through the quote that closes the literal, 0 if none does; `''` stays inside,
 -- backslash is plain

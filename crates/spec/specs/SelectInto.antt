@@ -8,7 +8,7 @@ use Rattle.spec.specs.Bytes.{ascii, isIdent, isQuote, isW}
 use Rattle.spec.specs.Lists.{isEmpty, takeWhile, dropEnd, any, keep}
 use Rattle.spec.specs.Map.{Marked, live, quoted, byte, isLive, lives, frontByte, ofByte, isLiveByte}
 use Rattle.spec.specs.Search.{Test, first, isFound, wordHere, startsIgnoringCase, byteHere, pieces}
-use Rattle.spec.specs.Assignments.{trim, trimEnd}
+use Rattle.spec.specs.Parts.{trim, trimEnd, part}
 use Rattle.spec.specs.declared.Found.{Found}
 use Rattle.spec.specs.declared.Found.the-variants.{At, Nothing}
 
@@ -75,10 +75,6 @@ setLines indent line (c ∷ d ∷ cols) (v ∷ vars) = line c v ++ (live 10 ∷ 
 unfoldable pub pairUp : List (List Marked) → List (List Marked) → Bool
 pairUp cols vars =
     eqb (length cols) (length vars) && (not (isEmpty cols) && not (any (λ (v : List Marked). any (ofByte isW) v) vars))
-
--- from offset a up to offset b
-unfoldable pub part : ℕ → ℕ → List Marked → List Marked
-part a b t = take (b - a) (drop a t)
 
 abbrev pub placeOr : Found → ℕ → ℕ
 placeOr (At i) n = i

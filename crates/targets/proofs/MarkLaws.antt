@@ -10,13 +10,13 @@ use borrow.Author.Tests.{eq-eqb, ne-eqb}
 use lib.Dec.{eqb}
 use lib.ListN.{length, take, drop, getD, drop-of-length-le}
 use lib.Seq.{drop-drop}
-use Rattle.spec.specs.Bytes.{isWord, upper}
+use Rattle.spec.specs.Bytes.{isWord, upper, prefixBy}
 use Rattle.spec.specs.Map.{Marked, marked, byte}
 use Rattle.spec.specs.Search.{wordHere}
 use Rattle.spec.specs.Assignments as spec
 use Rattle.spec.specs.Assignments.{Target, orElse, markings, markingHere, casesBehind, targetBehind, markedTarget}
 use Rattle.spec.proofs.MapLaws.{mark-byte, marked-length}
-use Rattle.spec.proofs.WalkLaws.{drop-step, prefixBy, marked-step, front-live, front-byte, starts-case-at}
+use Rattle.spec.proofs.WalkLaws.{drop-step, marked-step, front-live, front-byte, starts-case-at}
 use Rattle.targets.specs.Words.{entries, blank, markOf, metOf, casesAfter, casesMet, targetPast, targetMet}
 use Rattle.targets.specs.declared.Mark.{Mark}
 use Rattle.targets.specs.declared.Met.{Met}

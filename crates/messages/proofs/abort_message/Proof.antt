@@ -9,7 +9,7 @@ use Rattle.spec.proofs.BytesLaws.{bytes-lives}
 use Rattle.spec.proofs.WalkLaws.{prefix-by-len}
 use Rattle.spec.specs.Bytes.{ascii, upper}
 use Rattle.spec.specs.Map.{bytes, lives}
-use Rattle.spec.specs.Assignments.{trim}
+use Rattle.spec.specs.Parts.{trim}
 use Rattle.spec.specs.Outcome.{accepted}
 use Rattle.spec.specs.Raise.{actionFate}
 use Rattle.runs.specs.Sets.{trimmed}

@@ -11,8 +11,7 @@ use borrow.Author.Tests.{eq-eqb, ne-eqb, le-leb, lt-leb, not-true, not-false}
 use Rattle.spec.proofs.AheadLaws.{rest-of}
 use Rattle.spec.proofs.BytesLaws.{bytes-lives}
 use Rattle.spec.proofs.SpanLaws.{seen}
-use Rattle.spec.proofs.WalkLaws.{prefixBy}
-use Rattle.spec.specs.Bytes.{ascii, upper, isW}
+use Rattle.spec.specs.Bytes.{ascii, upper, isW, prefixBy}
 use Rattle.spec.specs.Map.{Marked, bytes, lives}
 use Rattle.spec.specs.Outcome.{usingClause, accepted, refused, forget}
 use Rattle.spec.specs.Raise.{usingFate, fateText}

@@ -7,9 +7,8 @@ use mathlib.Core.Bool.{and-false}
 use Prim.Native.Nat.{_-_}
 use borrow.Author.Tests.{eq-eqb, ne-eqb}
 use lib.ListN.{length, take, drop, length-drop}
-use Rattle.spec.specs.Bytes.{upper}
+use Rattle.spec.specs.Bytes.{upper, prefixBy}
 use Rattle.spec.proofs.AheadLaws.{rest-of}
-use Rattle.spec.proofs.WalkLaws.{prefixBy}
 use Rattle.spec.proofs.WalkLaws.{prefix-by-len}
 use Rattle.quotes.proofs.DepthLaws.{word-here}
 use borrow.Author.Needs.{needs}

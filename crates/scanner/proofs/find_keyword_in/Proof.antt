@@ -9,12 +9,12 @@ use mathlib.Core.List.{List}
 use Prim.Native.Nat.{ℕ, _+_, _-_, _≤_, _<_}
 use native.Mathlib.Nat.{add-zero}
 use lib.ListN.{length, drop, getD}
-use Rattle.spec.specs.Bytes.{upper}
+use Rattle.spec.specs.Bytes.{upper, prefixBy}
 use Rattle.spec.specs.Lists.{isEmpty}
 use Rattle.spec.specs.Map.{marked}
 use Rattle.spec.specs.Search.{first, keywordHere}
 use Rattle.spec.specs.declared.Found.the-variants.{Nothing}
-use Rattle.spec.proofs.WalkLaws.{prefixBy, prefix-miss, prefix-whole}
+use Rattle.spec.proofs.WalkLaws.{prefix-miss, prefix-whole}
 use Rattle.spec.proofs.FirstLaws.{empty-word, nonempty-word}
 use Rattle.scanner.proofs.KeywordLaws.{next-byte, key-edge, key-off, key-hit, key-end}
 use Rattle.scanner.proofs.find_keyword_in.Statement.{statement}

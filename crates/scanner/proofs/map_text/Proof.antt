@@ -7,8 +7,7 @@ use mathlib.Core.Path.{_≡_, refl, sym, _∙_}
 use Prim.Native.Nat.{_-_, _≤_}
 use lib.ListN.{length, drop, replicate}
 use lib.Seq.{sets}
-use Rattle.spec.proofs.MapLaws.{spanFlag}
-use Rattle.spec.specs.Map.{mapOf}
+use Rattle.spec.specs.Map.{mapOf, spanFlag}
 use Rattle.scanner.proofs.SpanWalkLaws.{map-turn, map-over, map-kept}
 use Rattle.spans.proofs.StepLaws.{Stepped, step-taken, step-done}
 use Rattle.scanner.proofs.map_text.Statement.{statement}

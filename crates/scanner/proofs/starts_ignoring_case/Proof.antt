@@ -5,8 +5,8 @@ use borrow.Author.Needs.{needs}
 use mathlib.Core.Path.{_≡_, sym, _∙_, refl}
 use Prim.Native.Nat.{_-_, _≤_}
 use lib.ListN.{length, drop}
-use Rattle.spec.specs.Bytes.{upper}
-use Rattle.spec.proofs.WalkLaws.{prefixBy, prefix-hit, prefix-miss, prefix-short, prefix-whole}
+use Rattle.spec.specs.Bytes.{upper, prefixBy}
+use Rattle.spec.proofs.WalkLaws.{prefix-hit, prefix-miss, prefix-short, prefix-whole}
 use Rattle.scanner.proofs.starts_ignoring_case.Statement.{statement}
 use Rattle.scanner.proofs.starts_ignoring_case.Tie as tie
 

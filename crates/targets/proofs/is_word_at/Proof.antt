@@ -5,9 +5,8 @@ use mathlib.Core.Path.{_≡_, sym, ap, _∙_}
 use Prim.Native.Nat.{_-_}
 use lib.ListN.{length, take, drop}
 use lib.Seq.{length-take-le}
-use Rattle.spec.specs.Bytes.{upper, isWord}
+use Rattle.spec.specs.Bytes.{upper, isWord, prefixBy}
 use Rattle.spec.proofs.AheadLaws.{rest-of}
-use Rattle.spec.proofs.WalkLaws.{prefixBy}
 use borrow.Author.Needs.{needs}
 use Rattle.targets.proofs.is_word_at.Statement.{statement}
 use Rattle.targets.proofs.is_word_at.Tie as tie

@@ -7,9 +7,8 @@ use mathlib.Core.Path.{_≡_, refl, sym, ap, _∙_}
 use mathlib.Core.Bool.{true, false, not, _&&_}
 use Prim.Native.Nat.{_+_, _-_, _≤_}
 use lib.ListN.{take, drop, getD, length-drop}
-use Rattle.spec.specs.Bytes.{isWord, upper}
+use Rattle.spec.specs.Bytes.{isWord, upper, prefixBy}
 use Rattle.spec.proofs.Choice.{and-left}
-use Rattle.spec.proofs.WalkLaws.{prefixBy}
 use Rattle.spec.proofs.WalkLaws.{prefix-by-len}
 use Rattle.targets.specs.Words.{entries, blank}
 use Rattle.targets.specs.declared.Marking.{Marking}

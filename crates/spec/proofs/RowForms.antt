@@ -8,6 +8,7 @@ use lib.ListN.{getD, take, drop}
 use Rattle.spec.specs.Bytes.{ascii, isSame}
 use Rattle.spec.specs.Closed.{isClosed}
 use Rattle.spec.specs.Declarations.{recordWidth, recordLimit, chainFrom}
+use Rattle.spec.specs.Computed.{computed}
 use Rattle.spec.specs.Answers.{CallNumbers, callNumbers, Result, bodyResult, functionResult}
 
 -- what a call whose checks pass gives: the four numbers and the output
@@ -58,3 +59,8 @@ unfoldable pub isLoss : String → String → Bool
 isLoss a x =
     not (isClosed (ascii a))
     && not (isSame (bodyResult (ascii a ++ ascii x) .output) (bodyResult (ascii a) .output ++ bodyResult (ascii x) .output))
+
+-- with these and all definitions unfolded a row is computed
+unfoldable pub tabled : Unit {0}
+unfolding computed body unpacked unpackedAll rowOf function isLoss
+tabled = tt
