@@ -40,7 +40,9 @@ white c = omega (arith, c .run-end .ensures .0)
 lead : (c : tie.After-run-end Inv-loop μ-loop) → c .run-end .result ≤ c .before .before .comma-at .result
 lead c =
     let at-comma = c .before .before in
-    lead-within (at-comma .before .before .before .before .before .before .before .args .text .now) (at-comma .before .before .before .before .before .before .before .args .map .now) (at-comma .before .before .before .before .loop .at) (at-comma .comma-at .result) (c .run-end .result) (omega arith) (comma at-comma) (white c)
+    let turn = at-comma .before .before .before .before in
+    let a = turn .before .before .before .args in
+    lead-within (a .text .now) (a .map .now) (turn .loop .at) (at-comma .comma-at .result) (c .run-end .result) (omega arith) (comma at-comma) (white c)
 
 loop-holds : tie.Need-loop-holds Inv-loop μ-loop
 loop-holds c = (omega arith, refl)
@@ -103,8 +105,9 @@ returns : tie.Need-returns Inv-loop μ-loop
 returns c =
     let at-run = c .before .before .before in
     let at-comma = at-run .before .before in
-    let l = at-comma .before .before .before .before .loop in
-    let a = at-comma .before .before .before .before .before .before .before .args in
+    let turn = at-comma .before .before .before .before in
+    let l = turn .loop in
+    let a = turn .before .before .before .args in
     item-found (a .text .now) (a .map .now) (l .at) (at-comma .comma-at .result) (at-run .run-end .result) (omega arith) (comma at-comma) (white at-run) (c .run-start .result) (start-whole isW _ _ (c .run-start .ensures .0) .0) (a .from) (l .inv .1) (l .inv .0) (c .before .before .if1 .taken)
 
 add-at : tie.Need-add-at Inv-loop μ-loop
@@ -116,8 +119,9 @@ loop-less c = omega (arith, within (c .before .before .before))
 loop-again : tie.Need-loop-again Inv-loop μ-loop
 loop-again c =
     let at-comma = c .before .before .before in
-    let l = at-comma .before .before .before .before .loop in
-    let a = at-comma .before .before .before .before .before .before .before .args in
+    let turn = at-comma .before .before .before .before in
+    let l = turn .loop in
+    let a = turn .before .before .before .args in
     (omega arith, l .inv .1 ∙ item-skip (a .text .now) (a .map .now) (l .at) (at-comma .comma-at .result) (c .before .run-end .result) (omega arith) (comma at-comma) (white (c .before)) (omega (arith, c .if1 .left)))
 
 returns-2 : tie.Need-returns-2 Inv-loop μ-loop
