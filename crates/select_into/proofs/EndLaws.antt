@@ -1,8 +1,8 @@
--- The end of two lists one after the other, by a test; the parts of a list are trimmed. Assumes nothing.
-use mathlib.Core.Path.{_≡_, refl, sym, ap, _∙_}
-use mathlib.Core.Bool.{Bool, false, not, _&&_, and-false}
-use mathlib.Core.List.{List, [], _∷_, _++_, map}
-use Prim.Native.Nat.{ℕ, _≤_, _<_}
+-- An end that is dropped twice, and that the parts of a list are trimmed. Assumes nothing.
+use mathlib.Core.Path.{_≡_, refl}
+use mathlib.Core.Bool.{Bool, false, not, _&&_}
+use mathlib.Core.List.{List, [], _∷_, map}
+use Prim.Native.Nat.{_≤_, _<_}
 use native.Mathlib.Omega.{arith}
 use lib.ListN.{length}
 use Rattle.spec.proofs.Choice.{by}
@@ -13,25 +13,7 @@ use Rattle.spec.specs.Search.{pieces}
 use Rattle.spec.specs.Parts.{trim, trimEnd}
 use Rattle.spec.specs.SelectInto.{listed, commaHere}
 
-some-behind : {A : Type 0} (a b : List A) → 0 < length b → isEmpty (a ++ b) ≡ false
-unfolding isEmpty
-some-behind [] [] h = absurd (omega arith)
-some-behind [] (y ∷ b) h = refl
-some-behind (x ∷ a) b h = refl
-
 module _ {A : Type 0} (f : A → Bool) where
-  -- all of the second list goes, and the end of the first
-  pub drop-end-gone : (a b : List A) → dropEnd f b ≡ [] → dropEnd f (a ++ b) ≡ dropEnd f a
-  unfolding dropEnd
-  drop-end-gone [] b e = e
-  drop-end-gone (x ∷ a) b e = rw (drop-end-gone a b e) refl
-
-  -- some of the second list stays, and all of the first
-  pub drop-end-kept : (a b : List A) → 0 < length (dropEnd f b) → dropEnd f (a ++ b) ≡ a ++ dropEnd f b
-  unfolding dropEnd
-  drop-end-kept [] b h = refl
-  drop-end-kept (x ∷ a) b h = rw (drop-end-kept a b h, some-behind a (dropEnd f b) h, and-false (f x)) refl
-
   -- once is enough
   pub drop-end-twice : (t : List A) → dropEnd f (dropEnd f t) ≡ dropEnd f t
   unfolding dropEnd

@@ -19,7 +19,8 @@ use Rattle.quotes.specs.Limits.{limitNext, limitFrom}
 use Rattle.set_lines.specs.Lines.{spaced, queryText, limitText, lineText, limited, breakText, sharedLine, linesText}
 use Rattle.select_into.specs.Pairs.{sharedBy, lastLine}
 use Rattle.quotes.proofs.LimitLaws.{limit-marks, limit-append}
-use Rattle.select_into.proofs.EndLaws.{drop-end-gone, drop-end-kept, Trimmed}
+use Rattle.spec.proofs.EndLaws.{drop-end-gone, drop-end-kept}
+use Rattle.select_into.proofs.EndLaws.{Trimmed}
 
 -- ---- the subquery
 

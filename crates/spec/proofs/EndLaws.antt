@@ -22,20 +22,34 @@ module _ {A : Type 0} (f : A → Bool) where
   unfolding dropEnd
   drop-end-some x t e = simp e
 
+  -- two lists one after the other: all of the second goes, and the end of the first; or some of the second stays, and all of
+  -- the first
+  pub drop-end-gone : (a b : List A) → dropEnd f b ≡ [] → dropEnd f (a ++ b) ≡ dropEnd f a
+  unfolding dropEnd
+  drop-end-gone [] b e = e
+  drop-end-gone (x ∷ a) b e = rw (drop-end-gone a b e) refl
+
+  some-behind : (a b : List A) → 0 < length b → isEmpty (a ++ b) ≡ false
+  unfolding isEmpty
+  some-behind [] [] h = absurd (omega arith)
+  some-behind [] (y ∷ b) h = refl
+  some-behind (x ∷ a) b h = refl
+
+  pub drop-end-kept : (a b : List A) → 0 < length (dropEnd f b) → dropEnd f (a ++ b) ≡ a ++ dropEnd f b
+  unfolding dropEnd
+  drop-end-kept [] b h = refl
+  drop-end-kept (x ∷ a) b h = rw (drop-end-kept a b h, some-behind a (dropEnd f b) h, and-false (f x)) refl
+
+  -- by its last element
   last-passes : (x : A) (l : List A) → f x ≡ true → dropEnd f (l ++ (x ∷ [])) ≡ dropEnd f l
   unfolding dropEnd isEmpty
-  last-passes x [] e = simp e
-  last-passes x (y ∷ l) e = rw (last-passes x l e) refl
-
-  not-empty : (x : A) (l : List A) → isEmpty (l ++ (x ∷ [])) ≡ false
-  unfolding isEmpty
-  not-empty x [] = refl
-  not-empty x (y ∷ l) = refl
+  last-passes x l e = drop-end-gone l (x ∷ []) (simp e)
 
   last-fails : (x : A) (l : List A) → f x ≡ false → dropEnd f (l ++ (x ∷ [])) ≡ l ++ (x ∷ [])
-  unfolding dropEnd
-  last-fails x [] e = simp e
-  last-fails x (y ∷ l) e = rw (last-fails x l e, not-empty x l, and-false (f y)) refl
+  unfolding dropEnd isEmpty
+  last-fails x l e =
+      let one : dropEnd f (x ∷ []) ≡ x ∷ [] = simp e in
+      drop-end-kept l (x ∷ []) (rw one (omega arith)) ∙ ap (λ (u : List A). l ++ u) one
 
   back-split : (l : List A) → dropEnd f (reverse l) ++ reverse (takeWhile f l) ≡ reverse l
   unfolding dropEnd takeWhile
@@ -70,7 +84,7 @@ module _ {A : Type 0} (f : A → Bool) where
   unfolding dropEnd
   drop-end-zero xs n e = rw e refl
 
-  -- by its last element
+  -- a front by its last element
   module _ (xs : List A) (n : ℕ) (d : A) (p : 0 < n) (h : n ≤ length xs) where
     front-last : take n xs ≡ take (n - 1) xs ++ (getD xs (n - 1) d ∷ [])
     front-last =

@@ -8,11 +8,12 @@ use Prim.Native.Nat.{ℕ, zero, suc, _+_, _-_, _≤_, _<_, zero-le, suc-le-suc}
 use native.Mathlib.Nat.{le-of-suc-le-suc}
 use native.Mathlib.Omega.{arith}
 use borrow.Author.Tests.{eqb-true, eqb-false, eq-eqb, ne-eqb, ltb-true, ltb-false, lt-ltb, le-ltb, not-true, not-false}
-use lib.Dec.{eqb, ltb, eqb·suc-zero}
+use lib.Dec.{eqb, ltb}
 use lib.ListN.{length, take, drop, getD, length-drop, length-map}
 use lib.Seq.{getD-drop, drop-drop}
 use Rattle.spec.proofs.ByteSets.{sign-not-word, word-not-n}
 use Rattle.spec.proofs.Choice.{by, cond-case, and-left, and-right, and-both, or-cases}
+use Rattle.spec.proofs.ListLaws.{empty-length}
 use Rattle.spec.proofs.MapLaws.{map-length, marked-length, text-length}
 use Rattle.spec.proofs.WalkLaws.{climb, any-default, map-take, mark-skipped, mark-word, marked-at, live-inside, word-at, needle-at, byte-at, byte-before, bytes-drop, prefix-by-len, starts-case, passesAt, while-take, while-drop, while-length, while-passes, while-fails, while-passes-at, while-fails-at, while-exactly, while-exactly-at, while-hit, cutsFrom, cutsAt, starts-cuts, cuts-end, cuts-hit, cuts-miss}
 use Rattle.spec.proofs.FirstLaws.{apart, LeastOf, NoneOf, Says, found-least, least-found, found-none, none-found, sought-least, least-sought, sought-none, none-sought}
@@ -300,11 +301,6 @@ pub record IsNextWord (xs : List ℕ) (i j n : ℕ) : Type 0 where
   pub fits : j + n ≤ length xs
   pub words : (k : ℕ) → j ≤ k → k < j + n → IsWordByteAt xs k
   pub ends : IsWordByteAt xs (j + n) → ⊥
-
-empty-length : {A : Type 0} (l : List A) → isEmpty l ≡ eqb (length l) 0
-unfolding isEmpty
-empty-length [] = refl
-empty-length (x ∷ l) = sym (eqb·suc-zero (length l))
 
 module _ (xs : List ℕ) (i : ℕ) where
   -- the offset behind what is skipped
