@@ -15,7 +15,6 @@ use Rattle.spec.specs.Parts.{part}
 use Rattle.spec.specs.Declarations.{declareSection, recordsOf}
 use Rattle.spec.specs.declared.Found.{Found}
 use Rattle.spec.specs.declared.Found.the-variants.{At, Nothing}
-use Rattle.declared_parts.specs.Parts.{between}
 use Rattle.declared_parts.proofs.BetweenLaws.{between-none}
 use Rattle.declarations.specs.Records.{recordsOfSection, recordsIn, declareEnd, sectionOf, SectionIn}
 
@@ -35,7 +34,7 @@ declare-end t (At d) e = omega (arith, first-within (keywordHere (ascii "DECLARE
 declare-end t Nothing e = zero-le
 
 -- the part that is cut out
-cut : (t : List Marked) (f g : Found) → between (sectionOf f g .from) (sectionOf f g .to) t ≡ declareSection f g t
+cut : (t : List Marked) (f g : Found) → part (sectionOf f g .from) (sectionOf f g .to) t ≡ declareSection f g t
 unfolding declareSection
 cut t (At d) (At b) =
     by (leb (d + 7) b)

@@ -11,7 +11,7 @@ use Rattle.spec.specs.Bytes.{ascii}
 use Rattle.spec.specs.Map.{Marked}
 use Rattle.spec.specs.Search.{first, keywordHere, byteHere, pieces}
 use Rattle.spec.specs.Declarations.{Declared, requotedDefault, declareAll, declareSection, textOr, packedRecord, packed, headNext, nextOf, defaultNumbers, numbersOf}
-use Rattle.declared_parts.specs.Parts.{between}
+use Rattle.spec.specs.Parts.{part}
 use Rattle.declared_records.specs.Held.{recordIn, recordsFrom}
 use Rattle.spec.specs.declared.Found.{Found}
 use Rattle.spec.specs.declared.Found.the-variants.{At, Nothing}
@@ -43,7 +43,7 @@ pub record SectionIn (t : List Marked) (s : Section) : Type 0 where
   pub ordered : s .from ≤ s .to
   pub within : s .to ≤ length t
   pub found :
-      between (s .from) (s .to) t
+      part (s .from) (s .to) t
       ≡ declareSection (first (keywordHere (ascii "DECLARE")) 0 t) (first (keywordHere (ascii "BEGIN")) 0 t) t
 
 -- the answer

@@ -17,22 +17,22 @@ use Rattle.spec.specs.Bytes.{ascii, isW}
 use Rattle.spec.specs.Lists.{isEmpty, takeWhile, dropWhile, dropEnd}
 use Rattle.spec.specs.Map.{Marked, bytes, marked, ofByte}
 use Rattle.spec.specs.Search.{first, keywordHere}
-use Rattle.spec.specs.Parts.{trim, trimEnd}
+use Rattle.spec.specs.Parts.{trim, trimEnd, part}
 use Rattle.spec.specs.Declarations.{requotedDefault, words, declaredOf, partAt, declaration}
 use Rattle.spec.specs.declared.Found.{Found}
 use Rattle.spec.specs.declared.Found.the-variants.{At, Nothing}
-use Rattle.declared_parts.specs.Parts.{between, walrusHere, cutOf, cutIn, defaultBy, declaredBy, partNumbers, readOf}
+use Rattle.declared_parts.specs.Parts.{walrusHere, cutOf, cutIn, defaultBy, declaredBy, partNumbers, readOf}
 use Rattle.declared_parts.specs.declared.Cut.{Cut}
-use Rattle.declared_parts.specs.declared.Part.{Part}
+use Rattle.declared_parts.specs.declared.DeclarationPlaces.{DeclarationPlaces}
 use Rattle.declared_parts.proofs.BetweenLaws.{frontEnd, endLen, between-length, drop-between, take-between, behind-front, ahead-of-end}
 use Rattle.declared_parts.proofs.WordsLaws.{space, notW, inWord, declared-words}
 
 -- ---- a marked text and its bytes
 
-pub marked-between : (xs ms : List ℕ) (a b : ℕ) → marked (between a b xs) (between a b ms) ≡ between a b (marked xs ms)
+pub marked-between : (xs ms : List ℕ) (a b : ℕ) → marked (part a b xs) (part a b ms) ≡ part a b (marked xs ms)
 marked-between xs ms a b = marked-part a (b - a) xs ms
 
-pub bytes-between : (xs ms : List ℕ) (a b : ℕ) → bytes (between a b (marked xs ms)) ≡ between a b xs
+pub bytes-between : (xs ms : List ℕ) (a b : ℕ) → bytes (part a b (marked xs ms)) ≡ part a b xs
 bytes-between xs ms a b = bytes-part a (b - a) xs ms
 
 module _ (xs ms : List ℕ) (a b : ℕ) where
@@ -40,34 +40,34 @@ module _ (xs ms : List ℕ) (a b : ℕ) where
   t = marked xs ms
 
   front-same : (f : ℕ → Bool) → frontEnd (ofByte f) t a b ≡ frontEnd f xs a b
-  front-same f = ap (λ n. a + n) (while-length-bytes f (between a b t) ∙ ap (λ l. length (takeWhile f l)) (bytes-between xs ms a b))
+  front-same f = ap (λ n. a + n) (while-length-bytes f (part a b t) ∙ ap (λ l. length (takeWhile f l)) (bytes-between xs ms a b))
 
   end-same : (f : ℕ → Bool) → endLen (ofByte f) t a b ≡ endLen f xs a b
-  end-same f = end-length-bytes f (between a b t) ∙ ap (λ l. length (dropEnd f l)) (bytes-between xs ms a b)
+  end-same f = end-length-bytes f (part a b t) ∙ ap (λ l. length (dropEnd f l)) (bytes-between xs ms a b)
 
   -- behind the front, ahead of the end, trimmed
-  skipped : (f : ℕ → Bool) → dropWhile (ofByte f) (between a b t) ≡ between (frontEnd f xs a b) b t
-  skipped f = behind-front (ofByte f) t a b ∙ ap (λ n. between n b t) (front-same f)
+  skipped : (f : ℕ → Bool) → dropWhile (ofByte f) (part a b t) ≡ part (frontEnd f xs a b) b t
+  skipped f = behind-front (ofByte f) t a b ∙ ap (λ n. part n b t) (front-same f)
 
-  ended : (f : ℕ → Bool) → a + endLen f xs a b ≤ b → dropEnd (ofByte f) (between a b t) ≡ between a (a + endLen f xs a b) t
+  ended : (f : ℕ → Bool) → a + endLen f xs a b ≤ b → dropEnd (ofByte f) (part a b t) ≡ part a (a + endLen f xs a b) t
   ended f h =
       let k = end-same f in
-      ahead-of-end (ofByte f) t a b (omega arith) ∙ ap (λ n. between a (a + n) t) k
+      ahead-of-end (ofByte f) t a b (omega arith) ∙ ap (λ n. part a (a + n) t) k
 
   -- the front itself
-  front-text : (f : ℕ → Bool) (e : ℕ) → e ≡ frontEnd f xs a b → e ≤ b → bytes (takeWhile (ofByte f) (between a b t)) ≡ take (e - a) (drop a xs)
+  front-text : (f : ℕ → Bool) (e : ℕ) → e ≡ frontEnd f xs a b → e ≤ b → bytes (takeWhile (ofByte f) (part a b t)) ≡ take (e - a) (drop a xs)
   front-text f e p h =
-      let n = length (takeWhile (ofByte f) (between a b t)) in
+      let n = length (takeWhile (ofByte f) (part a b t)) in
       let s : a + n ≡ e = front-same f ∙ sym p in
-      ap bytes (while-take (ofByte f) (between a b t) ∙ (take-between t a b n (omega arith) ∙ ap (λ k. between a k t) s))
+      ap bytes (while-take (ofByte f) (part a b t) ∙ (take-between t a b n (omega arith) ∙ ap (λ k. part a k t) s))
       ∙ bytes-between xs ms a e
 
 trimmed : (xs ms : List ℕ) (a b s e : ℕ) → s ≡ frontEnd isW xs a b → e ≡ s + endLen isW xs s b → e ≤ b
-    → trim (between a b (marked xs ms)) ≡ between s e (marked xs ms)
+    → trim (part a b (marked xs ms)) ≡ part s e (marked xs ms)
 unfolding trim trimEnd
 trimmed xs ms a b s e p q h =
-    ap (dropEnd space) (skipped xs ms a b isW ∙ ap (λ n. between n b (marked xs ms)) (sym p))
-    ∙ (ended xs ms s b isW (omega arith) ∙ ap (λ n. between s n (marked xs ms)) (sym q))
+    ap (dropEnd space) (skipped xs ms a b isW ∙ ap (λ n. part n b (marked xs ms)) (sym p))
+    ∙ (ended xs ms s b isW (omega arith) ∙ ap (λ n. part s n (marked xs ms)) (sym q))
 
 -- ---- one part
 
@@ -88,7 +88,7 @@ unfolding declaration cutIn
 cut-declaration part t c e k = rw (e, k) (cut-part (first walrusHere 0 t) (first (keywordHere (ascii "DEFAULT")) 0 t) t)
 
 -- the places that are read, each by the one before
-pub record Places (xs : List ℕ) (from to start end : ℕ) (c : Cut) (p : Part) : Type 0 where
+pub record Places (xs : List ℕ) (from to start end : ℕ) (c : Cut) (p : DeclarationPlaces) : Type 0 where
   pub starts : start ≡ frontEnd isW xs from to
   pub ends : end ≡ start + endLen isW xs start to
   pub inside : end ≤ to
@@ -104,33 +104,33 @@ pub record Places (xs : List ℕ) (from to start end : ℕ) (c : Cut) (p : Part)
   pub valueInside : p .value + p .«value_len» ≤ end
 
 -- what a part declares
-pub part-read : (xs ms : List ℕ) (from to start end : ℕ) (c : Cut) (p : Part) → Places xs from to start end c p
-    → c ≡ cutIn (marked (between start end xs) (between start end ms))
-    → declaration (between from to (marked xs ms)) ≡ readOf xs p
+pub part-read : (xs ms : List ℕ) (from to start end : ℕ) (c : Cut) (p : DeclarationPlaces) → Places xs from to start end c p
+    → c ≡ cutIn (marked (part start end xs) (part start end ms))
+    → declaration (part from to (marked xs ms)) ≡ readOf xs p
 unfolding readOf declaredBy defaultBy partNumbers
 part-read xs ms from to start end c p l k =
     let m = marked xs ms in
-    let t = between start end m in
+    let t = part start end m in
     let head = start + c .head in
     let nameEnd = p .name + p .«name_len» in
     let i₁ : head - p .kind ≡ p .«kind_len» = omega (arith, l .kindEnd) in
     let i₂ : nameEnd - p .name ≡ p .«name_len» = omega arith in
     let i₃ : p .value + p .«value_len» - p .value ≡ p .«value_len» = omega arith in
-    let h : take (c .head) t ≡ between start head m = take-between m start end (c .head) (l .ordered) in
-    let v : between (p .name) head m ≡ dropWhile space (between start head m) = rw (l .name) (sym (skipped xs ms start head isW)) in
-    let r : between nameEnd head m ≡ dropWhile inWord (between (p .name) head m) = rw (l .nameEnd) (sym (skipped xs ms (p .name) head notW)) in
-    let d : between (p .kind) head m ≡ dropWhile space (between nameEnd head m) = rw (l .kind) (sym (skipped xs ms nameEnd head isW)) in
-    let e : isEmpty (between (p .kind) head m) ≡ eqb (p .«kind_len») 0 =
-    empty-length (between (p .kind) head m) ∙ ap (λ n. eqb n 0) (between-length m (p .kind) head (omega (arith, l .kindEnd)) (omega (arith, l .within, l .inside, l .ordered, marked-length xs ms)) ∙ i₁) in
-    let n : bytes (takeWhile inWord (between (p .name) head m)) ≡ take (p .«name_len») (drop (p .name) xs) =
+    let h : take (c .head) t ≡ part start head m = take-between m start end (c .head) (l .ordered) in
+    let v : part (p .name) head m ≡ dropWhile space (part start head m) = rw (l .name) (sym (skipped xs ms start head isW)) in
+    let r : part nameEnd head m ≡ dropWhile inWord (part (p .name) head m) = rw (l .nameEnd) (sym (skipped xs ms (p .name) head notW)) in
+    let d : part (p .kind) head m ≡ dropWhile space (part nameEnd head m) = rw (l .kind) (sym (skipped xs ms nameEnd head isW)) in
+    let e : isEmpty (part (p .kind) head m) ≡ eqb (p .«kind_len») 0 =
+    empty-length (part (p .kind) head m) ∙ ap (λ n. eqb n 0) (between-length m (p .kind) head (omega (arith, l .kindEnd)) (omega (arith, l .within, l .inside, l .ordered, marked-length xs ms)) ∙ i₁) in
+    let n : bytes (takeWhile inWord (part (p .name) head m)) ≡ take (p .«name_len») (drop (p .name) xs) =
     front-text xs ms (p .name) head notW nameEnd (l .nameEnd) (omega (arith, l .kindEnd, l .kind)) ∙ ap (λ i. take i (drop (p .name) xs)) i₂ in
-    let y : bytes (between (p .kind) head m) ≡ take (p .«kind_len») (drop (p .kind) xs) =
+    let y : bytes (part (p .kind) head m) ≡ take (p .«kind_len») (drop (p .kind) xs) =
     bytes-between xs ms (p .kind) head ∙ ap (λ i. take i (drop (p .kind) xs)) i₁ in
     let z : bytes (trim (drop (c .rest) t)) ≡ take (p .«value_len») (drop (p .value) xs) =
     ap (λ u. bytes (trim u)) (drop-between m start end (c .rest))
     ∙ (ap bytes (trimmed xs ms (start + c .rest) end (p .value) (p .value + p .«value_len») (l .value) (l .valueEnd) (l .valueInside))
     ∙ (bytes-between xs ms (p .value) (p .value + p .«value_len») ∙ ap (λ i. take i (drop (p .value) xs)) i₃)) in
-    cut-declaration (between from to m) t c (trimmed xs ms from to start end (l .starts) (l .ends) (l .inside)) (k ∙ ap cutIn (marked-between xs ms start end))
+    cut-declaration (part from to m) t c (trimmed xs ms from to start end (l .starts) (l .ends) (l .inside)) (k ∙ ap cutIn (marked-between xs ms start end))
     ∙ (ap (λ u. declaredOf (words u) (valueOf (c .present) (bytes (trim (drop (c .rest) t))))) h
-    ∙ (declared-words (valueOf (c .present) (bytes (trim (drop (c .rest) t)))) (between start head m) (between (p .name) head m) (between nameEnd head m) (between (p .kind) head m) v r d
+    ∙ (declared-words (valueOf (c .present) (bytes (trim (drop (c .rest) t)))) (part start head m) (part (p .name) head m) (part nameEnd head m) (part (p .kind) head m) v r d
     ∙ rw (e, n, y, z, sym (l .present)) refl))

@@ -6,6 +6,7 @@ use mathlib.Core.List.{List, [], _∷_}
 use mathlib.Core.Option.{Option, none, some}
 use lib.Dec.{eqb, leb}
 use lib.ListN.{length, getD, take, drop}
+use Rattle.spec.specs.Parts.{part}
 use Rattle.spec.specs.Bytes.{ascii, isW, isPrefix, isSame}
 use Rattle.spec.specs.Map.{Marked, marked}
 use Rattle.spec.specs.Search.{Test, first, keywordHere, starts}
@@ -13,11 +14,7 @@ use Rattle.spec.specs.Declarations.{Declared, requotedDefault}
 use Rattle.spec.specs.declared.Found.{Found}
 use Rattle.spec.specs.declared.Found.the-variants.{At, Nothing}
 use Rattle.declared_parts.specs.declared.Cut.{Cut}
-use Rattle.declared_parts.specs.declared.Part.{Part}
-
--- what stands from a up to b
-abbrev pub between {ℓ} : {A : Type ℓ} → ℕ → ℕ → List A → List A
-between a b xs = take (b - a) (drop a xs)
+use Rattle.declared_parts.specs.declared.DeclarationPlaces.{DeclarationPlaces}
 
 -- `:=` stands here, live or not
 abbrev pub walrusHere : Test
@@ -60,16 +57,16 @@ declaredBy xs ns =
       default = defaultBy xs ns;
     }
 
-unfoldable pub partNumbers : Part → List ℕ
+unfoldable pub partNumbers : DeclarationPlaces → List ℕ
 partNumbers p =
     0 ∷ p .name ∷ p .«name_len» ∷ p .kind ∷ p .«kind_len» ∷ p .present ∷ p .value ∷ p .«value_len» ∷ []
 
 -- what a part declares; without a type it declares nothing
-unfoldable pub readOf : List ℕ → Part → Option Declared
+unfoldable pub readOf : List ℕ → DeclarationPlaces → Option Declared
 readOf xs p = cond (eqb (p .«kind_len») 0) none (some (declaredBy xs (partNumbers p)))
 
 -- all its numbers are at most n
-pub record Within (n : ℕ) (p : Part) : Type 0 where
+pub record Within (n : ℕ) (p : DeclarationPlaces) : Type 0 where
   pub name : p .name ≤ n
   pub nameLen : p .«name_len» ≤ n
   pub kind : p .kind ≤ n

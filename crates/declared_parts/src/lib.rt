@@ -19,7 +19,8 @@ ghost use Rattle.spec.specs.Lists.{takeWhile, dropEnd};
 ghost use Rattle.spec.specs.Map.{marked};
 ghost use Rattle.spec.specs.Declarations.{delimiterOf, requotedDefault, declaration};
 ghost use Rattle.runs.specs.Sets.{inSet};
-ghost use Rattle.declared_parts.specs.Parts.{between, WalrusAt, spaced, cutOf, cutIn, readOf, Within, isWhole};
+ghost use Rattle.spec.specs.Parts.{part};
+ghost use Rattle.declared_parts.specs.Parts.{WalrusAt, spaced, cutOf, cutIn, readOf, Within, isWhole};
 
 // Where a part ends ahead of its default, where the default begins, and 1 if there is one, else 0.
 pub struct Cut {
@@ -29,7 +30,7 @@ pub struct Cut {
 }
 
 // Places in a text: the name, the type's words, and the default if `present` is 1. A part that has no type declares nothing.
-pub struct Part {
+pub struct DeclarationPlaces {
     pub name: usize,
     pub name_len: usize,
     pub kind: usize,
@@ -43,7 +44,7 @@ pub struct Part {
 fn run_end_between(text: &[u8], set: Set, from: usize, to: usize) -> usize
     requires { ⌜ from ≤ to ⌝ }
     requires { ⌜ to ≤ length (now text) ⌝ }
-    ensures { λ r. ⌜ r ≡ from + length (takeWhile (inSet set) (between from to (now (text .entry)))) ⌝ }
+    ensures { λ r. ⌜ r ≡ from + length (takeWhile (inSet set) (part from to (now (text .entry)))) ⌝ }
     ensures { λ r. ⌜ (from ≤ r) × (r ≤ to) ⌝ }
 {
     from + run_end(&text[from..to], set, 0)
@@ -53,7 +54,7 @@ fn run_end_between(text: &[u8], set: Set, from: usize, to: usize) -> usize
 fn trim_end(text: &[u8], from: usize, to: usize) -> usize
     requires { ⌜ from ≤ to ⌝ }
     requires { ⌜ to ≤ length (now text) ⌝ }
-    ensures { λ r. ⌜ r ≡ from + length (dropEnd isW (between from to (now (text .entry)))) ⌝ }
+    ensures { λ r. ⌜ r ≡ from + length (dropEnd isW (part from to (now (text .entry)))) ⌝ }
     ensures { λ r. ⌜ (from ≤ r) × (r ≤ to) ⌝ }
 {
     let part = &text[from..to];
@@ -112,11 +113,11 @@ fn find_default(text: &[u8], map: &[u8]) -> Cut
 }
 
 // The part of a text between the two places.
-pub fn read_part(text: &[u8], map: &[u8], from: usize, to: usize) -> Part
+pub fn read_part(text: &[u8], map: &[u8], from: usize, to: usize) -> DeclarationPlaces
     requires { ⌜ from ≤ to ⌝ }
     requires { ⌜ to ≤ length (now text) ⌝ }
     requires { ⌜ length (now text) ≤ length (now map) ⌝ }
-    ensures { λ r. ⌜ declaration (between from to (marked (now (text .entry)) (now (map .entry)))) ≡ readOf (now (text .entry)) r ⌝ }
+    ensures { λ r. ⌜ declaration (part from to (marked (now (text .entry)) (now (map .entry)))) ≡ readOf (now (text .entry)) r ⌝ }
     ensures { λ r. ⌜ Within (length (now (text .entry))) r ⌝ }
 {
     let start = run_end_between(text, Set::W, from, to);
@@ -128,7 +129,7 @@ pub fn read_part(text: &[u8], map: &[u8], from: usize, to: usize) -> Part
     let kind = run_end_between(text, Set::W, name_end, head);
     let value = run_end_between(text, Set::W, start + cut.rest, end);
     let value_end = trim_end(text, value, end);
-    Part {
+    DeclarationPlaces {
         name: name,
         name_len: name_end - name,
         kind: kind,

@@ -19,8 +19,9 @@ use Rattle.spec.specs.Map.{Marked, marked}
 use Rattle.spec.specs.Search.{first, byteHere, pieces}
 use Rattle.spec.specs.Declarations.{Declared, declaration, declare, declareMaybe, declareAll}
 use Rattle.spec.specs.declared.Found.the-variants.{At, Nothing}
-use Rattle.declared_parts.specs.Parts.{between, declaredBy, partNumbers, readOf, Within}
-use Rattle.declared_parts.specs.declared.Part.{Part}
+use Rattle.spec.specs.Parts.{part}
+use Rattle.declared_parts.specs.Parts.{declaredBy, partNumbers, readOf, Within}
+use Rattle.declared_parts.specs.declared.DeclarationPlaces.{DeclarationPlaces}
 use Rattle.declared_records.specs.Held.{recordIn, recordsFrom, placeOf, Added, Gathered}
 use Rattle.declared_records.proofs.HeldLaws.{sets-drop, record-other, record-put, from-length, from-replaced, from-added}
 
@@ -73,7 +74,7 @@ module _ (n xs rs : List ℕ) (k count : ℕ) where
 
 -- ---- one part
 
-pub within-more : (n m : ℕ) (p : Part) → n ≤ m → Within n p → Within m p
+pub within-more : (n m : ℕ) (p : DeclarationPlaces) → n ≤ m → Within n p → Within m p
 within-more n m p h w =
     record {
       name = omega (arith, w .name);
@@ -85,7 +86,7 @@ within-more n m p h w =
       valueLen = omega (arith, w .valueLen);
     }
 
-module _ (xs rs : List ℕ) (count : ℕ) (p : Part) where
+module _ (xs rs : List ℕ) (count : ℕ) (p : DeclarationPlaces) where
   abbrev held : List Declared
   held = recordsFrom xs rs 1 count
 
@@ -193,15 +194,15 @@ module _ (xs ms : List ℕ) (at : ℕ) (rs : List ℕ) (count : ℕ) where
   abbrev pub madeFrom : List Declared
   madeFrom = declareAll (piecesAt (byteHere 59) t at) (recordsFrom xs rs 1 count)
 
-  module _ (p : Part) where
-    last-part : first (byteHere 59) at t ≡ Nothing → declaration (between at (length xs) t) ≡ readOf xs p → madeFrom ≡ declareMaybe (readOf xs p) (recordsFrom xs rs 1 count)
+  module _ (p : DeclarationPlaces) where
+    last-part : first (byteHere 59) at t ≡ Nothing → declaration (part at (length xs) t) ≡ readOf xs p → madeFrom ≡ declareMaybe (readOf xs p) (recordsFrom xs rs 1 count)
     unfolding declareAll
     last-part e d =
-        let w : between at (length xs) t ≡ drop at t = rw (← marked-length xs ms) (rest-of t at) in
+        let w : part at (length xs) t ≡ drop at t = rw (← marked-length xs ms) (rest-of t at) in
         let f : declaration (drop at t) ≡ readOf xs p = rw w at d in
         rw (pieces-last (byteHere 59) t at e, f) refl
 
-    next-part : (j : ℕ) → first (byteHere 59) at t ≡ At j → declaration (between at j t) ≡ readOf xs p
+    next-part : (j : ℕ) → first (byteHere 59) at t ≡ At j → declaration (part at j t) ≡ readOf xs p
         → madeFrom ≡ declareAll (piecesAt (byteHere 59) t (j + 1)) (declareMaybe (readOf xs p) (recordsFrom xs rs 1 count))
     unfolding declareAll
     next-part j e d =
@@ -210,12 +211,12 @@ module _ (xs ms : List ℕ) (at : ℕ) (rs : List ℕ) (count : ℕ) where
 
     module _ (rs′ : List ℕ) (r : ℕ) (add : Added xs rs count p rs′ r) (whole : declareAll (pieces (byteHere 59) t) [] ≡ madeFrom) where
       -- the last part
-      pub gathered-last : first (byteHere 59) at t ≡ Nothing → declaration (between at (length xs) t) ≡ readOf xs p → Gathered xs t rs′ r
+      pub gathered-last : first (byteHere 59) at t ≡ Nothing → declaration (part at (length xs) t) ≡ readOf xs p → Gathered xs t rs′ r
       gathered-last e d =
           let f = whole ∙ last-part e d in
           record { records = λ h. add .records h ∙ sym f; over = λ h. omega (arith, ap length f, add .number) }
 
-      module _ (j : ℕ) (e : first (byteHere 59) at t ≡ At j) (d : declaration (between at j t) ≡ readOf xs p) where
+      module _ (j : ℕ) (e : first (byteHere 59) at t ≡ At j) (d : declaration (part at j t) ≡ readOf xs p) where
         -- too many
         pub gathered-over : 512 < r → Gathered xs t rs′ r
         gathered-over h =

@@ -10,7 +10,7 @@ use Rattle.spec.proofs.Choice.{by}
 use lib.ListN.{length, getD, take, drop, set}
 use lib.Seq.{sets, sets-eq, getD-set-other, getD-drop, length-take-le, drop-at, drop-set-lt}
 use Rattle.declared_parts.specs.Parts.{defaultBy, declaredBy, partNumbers}
-use Rattle.declared_parts.specs.declared.Part.{Part}
+use Rattle.declared_parts.specs.declared.DeclarationPlaces.{DeclarationPlaces}
 use Rattle.spec.specs.Declarations.{Declared}
 use Rattle.declared_records.specs.Held.{recordIn, recordsFrom}
 
@@ -69,7 +69,7 @@ record-other xs rs vs k j l n =
         (λ e. let h : k ≤ j = ltb-false j k e in let m : k < j = omega (arith, n) in sets-behind vs rs (8 * k) (8 * j + i) (omega arith))
 
 -- the numbers of a part as record k declare what the part declares
-pub record-put : (xs rs : List ℕ) (k : ℕ) (p : Part) → 8 * k + 8 ≤ length rs → recordIn xs (sets rs (8 * k) (partNumbers p)) k ≡ declaredBy xs (partNumbers p)
+pub record-put : (xs rs : List ℕ) (k : ℕ) (p : DeclarationPlaces) → 8 * k + 8 ≤ length rs → recordIn xs (sets rs (8 * k) (partNumbers p)) k ≡ declaredBy xs (partNumbers p)
 unfolding partNumbers declaredBy defaultBy
 record-put xs rs k p h = rw (sets-there (partNumbers p) rs (8 * k) h) refl
 

@@ -10,7 +10,7 @@ use Rattle.spec.specs.Map.{Marked}
 use Rattle.spec.specs.Search.{byteHere, pieces}
 use Rattle.spec.specs.Declarations.{Declared, declareMaybe, declareAll}
 use Rattle.declared_parts.specs.Parts.{declaredBy, readOf}
-use Rattle.declared_parts.specs.declared.Part.{Part}
+use Rattle.declared_parts.specs.declared.DeclarationPlaces.{DeclarationPlaces}
 
 -- record k, and n records from record k on
 abbrev pub recordIn : List ℕ → List ℕ → ℕ → Declared
@@ -28,7 +28,7 @@ placeOf n (d ∷ ds) =
     cond (isSame n (d .name)) 0 more
 
 -- r records are what a part makes of `count`; over 512 nothing is known of them
-pub record Added (xs rs : List ℕ) (count : ℕ) (p : Part) (rs′ : List ℕ) (r : ℕ) : Type 0 where
+pub record Added (xs rs : List ℕ) (count : ℕ) (p : DeclarationPlaces) (rs′ : List ℕ) (r : ℕ) : Type 0 where
   pub number : r ≡ length (declareMaybe (readOf xs p) (recordsFrom xs rs 1 count))
   pub records : r ≤ 512 → recordsFrom xs rs′ 1 r ≡ declareMaybe (readOf xs p) (recordsFrom xs rs 1 count)
   pub behind : drop 4104 rs′ ≡ drop 4104 rs

@@ -1,5 +1,5 @@
 // The records of a section while they are read: each holds the places of its last declaration in the section's text.
-use declared_parts::Part;
+use declared_parts::DeclarationPlaces;
 use declared_parts::piece;
 use declared_parts::read_part;
 use declared_parts::same_bytes;
@@ -90,7 +90,7 @@ pub fn clear(records: &mut [u32], from: usize, to: usize)
 }
 
 // The places of a part as record k.
-fn put_part(records: &mut [u32], k: usize, p: Part)
+fn put_part(records: &mut [u32], k: usize, p: DeclarationPlaces)
     requires { ⌜ k ≤ 512 ⌝ }
     requires { ⌜ 4104 ≤ length (now records) ⌝ }
     requires { ⌜ Within 65536 p ⌝ }
@@ -130,7 +130,7 @@ fn find_name(text: &[u8], records: &[u32], count: usize, name: &[u8]) -> usize
 }
 
 // The records with what a part declares; 513 if there would be more than 512.
-fn add_part(text: &[u8], records: &mut [u32], count: usize, p: Part) -> usize
+fn add_part(text: &[u8], records: &mut [u32], count: usize, p: DeclarationPlaces) -> usize
     requires { ⌜ count ≤ 512 ⌝ }
     requires { ⌜ 4104 ≤ length (now records) ⌝ }
     requires { ⌜ Within 65536 p ⌝ }

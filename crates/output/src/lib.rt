@@ -7,6 +7,12 @@ ghost use lib.ListN.{length, set, replicate};
 ghost use lib.Seq.{sets};
 ghost use Rattle.spec.specs.Requote.{doubled, singleQuoted};
 
+// The bytes of each lent byte buffer that a call fills: the most that a pass's result may have.
+pub const BUFFER_SIZE: usize = 65536;
+
+// The length that stands for every longer one.
+pub const TOO_LONG: usize = BUFFER_SIZE + 1;
+
 // What a pass that may refuse answers.
 pub enum Pass {
     // The length of its result.

@@ -2,6 +2,7 @@
 use assignments::transform_assignments;
 use checks::refusal_numbers;
 use elsif::transform_elsif;
+use output::BUFFER_SIZE;
 use output::Pass;
 use output::fill;
 use output::put_all;
@@ -59,7 +60,7 @@ fn limit(p: Pass) -> Pass
     let Pass::Done(k) = p else {
         return p;
     };
-    if 65536 < k {
+    if BUFFER_SIZE < k {
         return Pass::Refused(Refusal::ResultTooLong);
     }
     p

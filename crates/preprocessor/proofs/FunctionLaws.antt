@@ -24,7 +24,7 @@ use Rattle.spec.specs.Declarations.{Declared, recordLimit, recordWidth, records
 use Rattle.spec.specs.Answers.{Result, resultOf, bodyResult, functionResult, withoutRecords, keptBehind, zeroedTo}
 use Rattle.spec.specs.declared.Rewritten.{Rewritten}
 use Rattle.spec.specs.declared.Rewritten.the-variants as rewritten
-use Rattle.declared_parts.specs.Parts.{between}
+use Rattle.spec.specs.Parts.{part}
 use Rattle.declared_parts.proofs.BetweenLaws.{between-length}
 use Rattle.declared_records.proofs.HeldLaws.{sets-drop}
 use Rattle.declarations.proofs.SectionLaws.{records-in, section-in}
@@ -104,9 +104,9 @@ packed-fits xs =
     let s = section-in t f g refl refl in
     let a = sectionOf f g .from in
     let b = sectionOf f g .to in
-    let e : length (packed (recordsOfSection (between a b t))) ≡ length (packed (recordsOf xs)) =
+    let e : length (packed (recordsOfSection (part a b t))) ≡ length (packed (recordsOf xs)) =
     ap (λ (ds : List Declared). length (packed ds)) (ap recordsOfSection (s .found) ∙ records-in xs) in
-    omega (arith, packed-small (between a b t), between-length t a b (s .ordered) (s .within), text-length xs, s .within, e)
+    omega (arith, packed-small (part a b t), between-length t a b (s .ordered) (s .within), text-length xs, s .within, e)
 
 -- `work` held the text's map when the declarations were read
 module _ (xs work work′ : List ℕ) (m : work′ ≡ keptBehind (mapOf xs) work) where

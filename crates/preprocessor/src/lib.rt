@@ -6,6 +6,7 @@ use declarations::parse_declarations;
 use declared_records::RECORD_NUMBERS;
 use declared_records::RECORD_WIDTH;
 use declared_records::clear;
+use output::BUFFER_SIZE;
 use output::fill;
 use passes::run_body;
 use scanner::map_text;
@@ -25,9 +26,6 @@ ghost use Rattle.preprocessor.specs.Records.{withRecords, ifAccepted};
 
 // The most bytes that a call's text may have.
 const TEXT_LIMIT: usize = 16384;
-
-// What is lent for the output, for each work buffer and for the declarations' text.
-const BUFFER_SIZE: usize = 65536;
 
 // Whether output and work buffers are long enough.
 fn are_lent(output: usize, work: usize, spare: usize) -> bool

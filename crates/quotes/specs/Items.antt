@@ -6,7 +6,7 @@ use lib.ListN.{length, take, drop}
 use Rattle.spec.specs.Map.{Marked}
 use Rattle.spec.specs.SelectInto.{listed}
 use Rattle.quotes.specs.declared.Item.{Item}
-use Rattle.quotes.specs.declared.Item.the-variants.{Part, Over}
+use Rattle.quotes.specs.declared.Item.the-variants.{Next, Over}
 
 -- the first of the listed parts of what stands from offset i on is the k bytes at offset a, and the others are those of what
 -- stands from offset n on
@@ -20,5 +20,5 @@ pub record Listed (t : List Marked) (i a k n : ℕ) : Type 0 where
 
 -- the first of those parts, or none
 abbrev pub FirstItem : List Marked → ℕ → Item → Type 0
-FirstItem t i (Part a k n) = Listed t i a k n
+FirstItem t i (Next a k n) = Listed t i a k n
 FirstItem t i Over = listed (drop i t) ≡ []

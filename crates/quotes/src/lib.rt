@@ -15,9 +15,9 @@ ghost use lib.Dec.{eqb};
 ghost use lib.ListN.{length, getD, take, drop};
 ghost use Rattle.spec.specs.Bytes.{isIdent, isQuote};
 ghost use Rattle.spec.specs.Lists.{isEmpty};
-ghost use Rattle.spec.specs.Map.{mark, marked, lives, frontByte};
+ghost use Rattle.spec.specs.Map.{mark, marked, frontByte};
 ghost use Rattle.spec.specs.Search.{first, wordHere};
-ghost use Rattle.spec.specs.SelectInto.{quoteAfter, depthAfter, depthOf, topWordHere, commaHere, placeOr, hasLimit};
+ghost use Rattle.spec.specs.SelectInto.{quoteAfter, depthAfter, depthOf, topWordHere, commaHere, placeOr};
 ghost use Rattle.spec.specs.Answers.{keptBehind};
 ghost use Rattle.spec.specs.declared.Found.the-variants.{Nothing};
 ghost use Rattle.quotes.specs.QuoteMap.{quoteFlag, quoteMap};
@@ -27,7 +27,7 @@ ghost use Rattle.quotes.specs.Limits.{limitNext, limitFrom};
 // The next part of a list.
 pub enum Item {
     // Where it starts, how long it is, and where the search for the one behind it starts.
-    Part(usize, usize, usize),
+    Next(usize, usize, usize),
     Over,
 }
 
@@ -211,7 +211,7 @@ pub fn next_item(text: &[u8], map: &[u8], from: usize) -> Item
         if start < end {
             let rest = &text[start..end];
             let k = run_start(rest, Set::W, rest.len());
-            return Item::Part(start, k, end + 1);
+            return Item::Next(start, k, end + 1);
         }
         at = end + 1;
     }
@@ -252,11 +252,4 @@ pub fn limit_after(k: usize, text: &[u8]) -> usize
         i += 1;
     }
     n
-}
-
-// Whether ` LIMIT ` stands somewhere, in any letter case.
-pub fn has_limit(text: &[u8]) -> bool
-    ensures { λ r. ⌜ r ≡ hasLimit (lives (now (text .entry))) ⌝ }
-{
-    limit_after(0, text) == 7
 }

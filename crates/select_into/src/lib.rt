@@ -1,5 +1,7 @@
 // Pass 4: a SELECT INTO becomes a SET line for each of its variables. The result may be far longer than the text, so the pass
 // stops once it is past 65536 bytes.
+use output::BUFFER_SIZE;
+use output::TOO_LONG;
 use output::put_all;
 use quotes::find_top_keyword;
 use quotes::limit_after;
@@ -27,7 +29,7 @@ fn put_text(out: &mut [u8], n: usize, src: &[u8]) -> usize
     ensures { λ r. ⌜ Puts (now (out .entry)) n (now (src .entry)) (now (out .exit)) r ⌝ }
 {
     let r = put_all(out, n, src);
-    if 65536 < r { 65537 } else { r }
+    if BUFFER_SIZE < r { TOO_LONG } else { r }
 }
 
 // How long the FROM part is that stands in front of the text.
@@ -202,8 +204,8 @@ pub fn transform_select_into(text: &[u8], map: &[u8], out: &mut [u8]) -> usize
     let mut n: usize = 0;
     let mut from: usize = 0;
     loop {
-        if 65536 < n {
-            return 65537;
+        if BUFFER_SIZE < n {
+            return TOO_LONG;
         }
         let found = find_byte_in(text, map, b';', from);
         let Found::At(at) = found else {

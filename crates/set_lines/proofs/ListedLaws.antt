@@ -14,12 +14,12 @@ use Rattle.spec.specs.Map.{Marked, byte, marked, bytes, ofByte}
 use Rattle.spec.specs.SelectInto.{listed, pairUp}
 use Rattle.quotes.specs.Items.{Listed, FirstItem}
 use Rattle.quotes.specs.declared.Item.{Item}
-use Rattle.quotes.specs.declared.Item.the-variants.{Part, Over}
+use Rattle.quotes.specs.declared.Item.the-variants.{Next, Over}
 
 -- ---- what `next_item` gave
 
 module _ (t : List Marked) (i : ℕ) (r : Item) (f : FirstItem t i r) where
-  pub item-part : (a k n : ℕ) → r ≡ Part a k n → Listed t i a k n
+  pub item-part : (a k n : ℕ) → r ≡ Next a k n → Listed t i a k n
   item-part a k n e = rw e at f
 
   pub item-over : r ≡ Over → listed (drop i t) ≡ []

@@ -1,5 +1,7 @@
 // The columns and the variables of a SELECT INTO: whether they pair up, and the SET lines of the pairs. There may be many long
 // lines, so the writer stops once it is past 65536 bytes.
+use output::BUFFER_SIZE;
+use output::TOO_LONG;
 use output::put;
 use output::put_all;
 use quotes::Item;
@@ -105,7 +107,7 @@ fn has_item(text: &[u8], map: &[u8], from: usize) -> bool
 {
     let item = next_item(text, map, from);
     match item {
-        Item::Part(_, _, _) => true,
+        Item::Next(_, _, _) => true,
         Item::Over => false,
     }
 }
@@ -119,7 +121,7 @@ fn list_len(text: &[u8], map: &[u8]) -> usize
     let mut from: usize = 0;
     loop {
         let item = next_item(text, map, from);
-        let Item::Part(_, _, next) = item else {
+        let Item::Next(_, _, next) = item else {
             return n;
         };
         n += 1;
@@ -135,7 +137,7 @@ fn has_w_inside(text: &[u8], map: &[u8]) -> bool
     let mut from: usize = 0;
     loop {
         let item = next_item(text, map, from);
-        let Item::Part(start, len, next) = item else {
+        let Item::Next(start, len, next) = item else {
             return false;
         };
         let end = start + len;
@@ -188,15 +190,15 @@ pub fn put_set_lines(
     let mut at: usize = 0;
     let mut to: usize = 0;
     loop {
-        if 65536 < o {
-            return 65537;
+        if BUFFER_SIZE < o {
+            return TOO_LONG;
         }
         let col = next_item(cols, colsmap, at);
-        let Item::Part(start, len, next) = col else {
+        let Item::Next(start, len, next) = col else {
             return o;
         };
         let var = next_item(vars, varsmap, to);
-        let Item::Part(first, count, then) = var else {
+        let Item::Next(first, count, then) = var else {
             return o;
         };
         let end = start + len;

@@ -6,7 +6,7 @@ use Prim.Native.Nat.{_-_, _≤_}
 use lib.ListN.{length}
 use Rattle.spec.specs.Map.{marked}
 use Rattle.spec.proofs.MapLaws.{marked-length}
-use Rattle.declared_parts.specs.Parts.{between}
+use Rattle.spec.specs.Parts.{part}
 use Rattle.declared_parts.proofs.BetweenLaws.{between-length}
 use Rattle.declared_parts.proofs.ReadLaws.{marked-between}
 use Rattle.declarations.specs.Records.{recordsOfSection, recordsIn}
@@ -19,7 +19,7 @@ inside : (c : tie.After-find-section) → c .find-section .result .to ≤ length
 inside c = omega (arith, c .find-section .ensures .within, marked-length (c .before .before .before .before .before .args .text .now) (c .before .before .before .before .before .args .map .now))
 
 -- its records are those of the text
-same : (c : tie.After-find-section) → recordsOfSection (marked (between (c .find-section .result .from) (c .find-section .result .to) (c .before .before .before .before .before .args .text .now)) (between (c .find-section .result .from) (c .find-section .result .to) (c .before .before .before .before .before .args .map .now))) ≡ recordsIn (marked (c .before .before .before .before .before .args .text .now) (c .before .before .before .before .before .args .map .now))
+same : (c : tie.After-find-section) → recordsOfSection (marked (part (c .find-section .result .from) (c .find-section .result .to) (c .before .before .before .before .before .args .text .now)) (part (c .find-section .result .from) (c .find-section .result .to) (c .before .before .before .before .before .args .map .now))) ≡ recordsIn (marked (c .before .before .before .before .before .args .text .now) (c .before .before .before .before .before .args .map .now))
 unfolding recordsIn
 same c = ap recordsOfSection (marked-between (c .before .before .before .before .before .args .text .now) (c .before .before .before .before .before .args .map .now) (c .find-section .result .from) (c .find-section .result .to)) ∙ ap recordsOfSection (c .find-section .ensures .found)
 
@@ -51,8 +51,8 @@ parse-section-requires c κs =
     let a = at-start .args in
     let s = at-find-section .find-section .result in
     let i = inside at-find-section in
-    let l : length (between (s .from) (s .to) (a .text .now)) ≡ s .to - s .from = between-length (a .text .now) (s .from) (s .to) (at-find-section .find-section .ensures .ordered) i in
-    let m : length (between (s .from) (s .to) (a .map .now)) ≡ s .to - s .from = between-length (a .map .now) (s .from) (s .to) (at-find-section .find-section .ensures .ordered) (omega (arith, i)) in
+    let l : length (part (s .from) (s .to) (a .text .now)) ≡ s .to - s .from = between-length (a .text .now) (s .from) (s .to) (at-find-section .find-section .ensures .ordered) i in
+    let m : length (part (s .from) (s .to) (a .map .now)) ≡ s .to - s .from = between-length (a .map .now) (s .from) (s .to) (at-find-section .find-section .ensures .ordered) (omega (arith, i)) in
     (omega (arith, l, i), (omega (arith, l, m), (omega arith, omega arith)))
 
 same-length : tie.Need-same-length

@@ -5,7 +5,7 @@ use native.Mathlib.Omega.{arith}
 use mathlib.Core.Path.{_≡_, refl, _∙_}
 use Prim.Native.Nat.{_≤_, _-_, _+_}
 use lib.ListN.{length}
-use Rattle.declared_parts.specs.Parts.{between}
+use Rattle.spec.specs.Parts.{part}
 use Rattle.declared_parts.proofs.BetweenLaws.{between-length}
 use Rattle.declared_parts.proofs.ReadLaws.{part-read}
 use borrow.Author.Needs.{needs}
@@ -20,7 +20,7 @@ inside c =
     let xs = starts .before .before .before .args .text .now in
     let s = starts .run-end-between .result in
     let e = ends .trim-end .result in
-    let h : c .find-default .result .rest ≤ length (between s e xs) = c .find-default .ensures .1 .1 in
+    let h : c .find-default .result .rest ≤ length (part s e xs) = c .find-default .ensures .1 .1 in
     omega (arith, h, between-length xs s e (ends .trim-end .ensures .1 .0) (omega arith))
 
 run-end-between-requires : tie.Need-run-end-between-requires

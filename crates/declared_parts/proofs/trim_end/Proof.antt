@@ -3,7 +3,7 @@
 use native.Mathlib.Omega.{arith}
 use Rattle.spec.specs.Bytes.{isW}
 use Rattle.runs.proofs.RunLaws.{start-whole}
-use Rattle.declared_parts.specs.Parts.{between}
+use Rattle.spec.specs.Parts.{part}
 use Rattle.declared_parts.proofs.BetweenLaws.{between-length}
 use borrow.Author.Needs.{needs}
 use Rattle.declared_parts.proofs.trim_end.Statement.{statement}
@@ -28,7 +28,7 @@ returns : tie.Need-returns
 returns c =
     let a = c .before .before .before .args in
     let n = between-length (a .text .now) (a .from) (a .to) (omega arith) (omega arith) in
-    (omega (arith, start-whole isW (between (a .from) (a .to) (a .text .now)) _ (c .run-start .ensures .0) .0), (omega arith, omega arith))
+    (omega (arith, start-whole isW (part (a .from) (a .to) (a .text .now)) _ (c .run-start .ensures .0) .0), (omega arith, omega arith))
 
 pub trim-end-spec : {M : Type 1} → statement M
 trim-end-spec =
