@@ -9,14 +9,14 @@ use native.Mathlib.Omega.{arith}
 use lib.ListN.{length, take, drop, set, length-append, length-drop, length-reverse, take-append-drop}
 use lib.Seq.{sets, sets-eq, take-at}
 use Rattle.spec.proofs.Apart.{apart}
-use Rattle.spec.proofs.BytesLaws.{bytes-take, bytes-drop, bytes-append}
+use Rattle.spec.proofs.BytesLaws.{bytes-take, bytes-drop}
 use Rattle.spec.proofs.RefusalBounds.{bytes-length}
 use Rattle.spec.specs.Bytes.{ascii, isIdent, isW}
 use Rattle.spec.specs.Lists.{isEmpty, takeWhile, dropWhile}
 use Rattle.spec.specs.Map.{Marked, marked, live, bytes, lives, ofByte}
-use Rattle.spec.specs.Search.{first, byteHere, pieces}
+use Rattle.spec.specs.Search.{first, firstFrom, byteHere, pieces}
 use Rattle.spec.specs.Outcome.{qualifiedTarget, Outcome, accepted, refused, _⊕_}
-use Rattle.spec.specs.Assignments.{Target, assignHere, rightSide, startsName, assignmentAt, assignment, statementTarget, checkedStatement, statement, joinStatements, assignments}
+use Rattle.spec.specs.Assignments.{orElse, assignTarget, equalsTarget, markedTarget, Target, assignHere, rightSide, startsName, assignmentAt, assignment, statementTarget, checkedStatement, statement, joinStatements, assignments}
 use Rattle.spec.specs.declared.Found.{Found}
 use Rattle.spec.specs.declared.Found.the-variants.{At, Nothing}
 use Rattle.spec.proofs.Choice.{cond-case}
@@ -78,6 +78,16 @@ unfolding assignments pieces
 turn-start t out = turn-none out 0 (assignments t)
 
 -- ---- one statement
+
+-- an empty one comes through
+pub nothing-stated : statement [] ≡ accepted []
+unfolding statement checkedStatement statementTarget orElse assignTarget equalsTarget markedTarget assignment assignmentAt first firstFrom isEmpty takeWhile dropWhile
+nothing-stated = refl
+
+pub empty-marked : (xs ms : List ℕ) → length xs ≡ 0 → marked xs ms ≡ []
+unfolding marked
+empty-marked [] ms h = refl
+empty-marked (x ∷ xs) ms h = absurd (omega arith)
 
 module _ (xs ms : List ℕ) where
   pub told-qualified : (a k b m : ℕ) → Tells (marked xs ms) (statementTarget (marked xs ms)) (target.At a k b m)

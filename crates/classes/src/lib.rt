@@ -1,6 +1,6 @@
 // Bytes: document 01's byte sets, letter case, and bytes of a text.
 ghost use mathlib.Core.Path.{_≡_};
-ghost use lib.ListN.{length, getD};
+ghost use lib.ListN.{getD};
 ghost use Rattle.spec.specs.Bytes.{within, isIdent, isWord, isW, isN, upper, isPair, isPrefix};
 
 // Whether lo <= b <= hi.

@@ -20,7 +20,7 @@ use Rattle.spec.proofs.Choice.{by, and-left, and-right}
 use Rattle.spec.proofs.MapLaws.{mark-byte, marked-length, marked-bytes}
 use Rattle.spec.proofs.RunPlaces.{endFrom, ahead-at}
 use Rattle.spec.proofs.SpanLaws.{lexemes-step}
-use Rattle.spec.proofs.SearchLaws.{prefix-at}
+use Rattle.spec.proofs.MatchLaws.{prefix-at}
 use Rattle.spec.proofs.WalkLaws.{mark-live-byte, marked-at, marked-step, marked-drop, front-live, front-byte, starts-case-at}
 use Rattle.spans.proofs.StepLaws.{by-front, Stepped}
 

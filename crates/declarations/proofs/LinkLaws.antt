@@ -12,7 +12,7 @@ use Rattle.spec.specs.Declarations.{Declared}
 use Rattle.declared_records.specs.Held.{recordIn}
 use Rattle.declared_records.proofs.HeldLaws.{record-same}
 use Rattle.declarations.specs.Chain.{nameIn, Different, Chained, LastAhead, Inserted}
-use Rattle.declarations.specs.Records.{Linked}
+use Rattle.declarations.specs.SectionRecords.{Linked}
 use Rattle.declarations.proofs.InsertLaws.{insert-one}
 use Rattle.declarations.proofs.NextLaws.{next-is}
 

@@ -18,7 +18,7 @@ use Rattle.spec.specs.Search.{byteHere, pieces}
 use Rattle.spec.specs.Declarations.{Declared, Place, firstInOrder, headNext, nextOf}
 use Rattle.declared_records.specs.Held.{recordsFrom, Gathered}
 use Rattle.declarations.specs.Chain.{nameIn, Different, comesBehind, NextIs}
-use Rattle.declarations.specs.Records.{nextNumber}
+use Rattle.declarations.specs.SectionRecords.{nextNumber}
 use Rattle.declared_records.proofs.HeldLaws.{from-length}
 use Rattle.declarations.proofs.InsertLaws.{behind-head, behind-other}
 

@@ -18,7 +18,7 @@ use Rattle.spec.specs.Search.{byteHere, pieces}
 use Rattle.spec.specs.Declarations.{Declared, recordWidth, declaration, declare, declareMaybe, declareAll, packedRecord, packed, headNext, nextOf, recordAt, recordsAt, numbersOf}
 use Rattle.declared_parts.proofs.SizeLaws.{packed-part}
 use Rattle.declared_records.specs.Held.{recordIn, recordsFrom, Gathered}
-use Rattle.declarations.specs.Records.{recordsOfSection, nextNumber, Linked, otherNumbers, finalNumbers, Holds, parsedOf}
+use Rattle.declarations.specs.SectionRecords.{recordsOfSection, nextNumber, Linked, otherNumbers, finalNumbers, Holds, parsedOf}
 use Rattle.declarations.specs.declared.Parsed.the-variants.{Count, TooManyNames}
 use Rattle.output.proofs.StoreLaws.{front-stored}
 use Rattle.declared_records.proofs.HeldLaws.{sets-behind, sets-drop, record-other, from-same, from-length}

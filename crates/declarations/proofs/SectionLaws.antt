@@ -1,5 +1,5 @@
 -- The section between DECLARE and BEGIN, and the body. Assumes nothing.
-use mathlib.Core.Path.{_≡_, refl, sym, ap, _∙_}
+use mathlib.Core.Path.{_≡_, refl, sym, _∙_}
 use mathlib.Core.List.{List, []}
 use Prim.Native.Nat.{ℕ, _+_, _-_, _≤_, _<_, zero-le}
 use native.Mathlib.Omega.{arith}
@@ -16,7 +16,7 @@ use Rattle.spec.specs.Declarations.{declareSection, recordsOf}
 use Rattle.spec.specs.declared.Found.{Found}
 use Rattle.spec.specs.declared.Found.the-variants.{At, Nothing}
 use Rattle.declared_parts.proofs.BetweenLaws.{between-none}
-use Rattle.declarations.specs.Records.{recordsOfSection, recordsIn, declareEnd, sectionOf, SectionIn}
+use Rattle.declarations.specs.SectionRecords.{recordsOfSection, recordsIn, declareEnd, sectionOf, SectionIn}
 
 -- the records of a text by its own map
 pub records-in : (xs : List ℕ) → recordsIn (markedText xs) ≡ recordsOf xs

@@ -1,6 +1,6 @@
 pub mod BetweenLaws
-pub mod NameLaws
-pub mod CutLaws
+pub mod DeclaredNameLaws
+pub mod DefaultCutLaws
 pub mod WholeLaws
 pub mod SpacedLaws
 pub mod WordsLaws

@@ -21,7 +21,7 @@ use Rattle.spec.specs.Parts.{trim, trimEnd, part}
 use Rattle.spec.specs.Declarations.{requotedDefault, words, declaredOf, partAt, declaration}
 use Rattle.spec.specs.declared.Found.{Found}
 use Rattle.spec.specs.declared.Found.the-variants.{At, Nothing}
-use Rattle.declared_parts.specs.Parts.{walrusHere, cutOf, cutIn, defaultBy, declaredBy, partNumbers, readOf}
+use Rattle.declared_parts.specs.DeclaredParts.{walrusHere, cutOf, cutIn, defaultBy, declaredBy, partNumbers, readOf}
 use Rattle.declared_parts.specs.declared.Cut.{Cut}
 use Rattle.declared_parts.specs.declared.DeclarationPlaces.{DeclarationPlaces}
 use Rattle.declared_parts.proofs.BetweenLaws.{frontEnd, endLen, between-length, drop-between, take-between, behind-front, ahead-of-end}

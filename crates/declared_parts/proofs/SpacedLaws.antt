@@ -8,7 +8,7 @@ use lib.ListN.{length, getD, drop, drop-of-length-le}
 use Rattle.spec.proofs.AheadLaws.{drop-one}
 use Rattle.spec.proofs.Choice.{by}
 use Rattle.spec.specs.Bytes.{isW}
-use Rattle.declared_parts.specs.Parts.{spaced}
+use Rattle.declared_parts.specs.DeclaredParts.{spaced}
 
 module _ (xs : List ℕ) (j : ℕ) where
   pub spaced-over : (g : Bool) → length xs ≤ j → spaced g (drop j xs) ≡ []

@@ -14,7 +14,7 @@ use Rattle.spec.specs.Bytes.{isIdent, isPrefix, isSame}
 use Rattle.spec.specs.Lists.{takeWhile}
 use Rattle.spec.specs.Requote.{singleQuoted}
 use Rattle.spec.specs.Declarations.{delimiterOf, requotedBy, requotedDefault}
-use Rattle.declared_parts.specs.Parts.{isWhole}
+use Rattle.declared_parts.specs.DeclaredParts.{isWhole}
 
 pub delimiter-length : (xs : List ℕ) → length (delimiterOf xs) ≡ length (takeWhile isIdent (drop 1 xs)) + 2
 unfolding delimiterOf

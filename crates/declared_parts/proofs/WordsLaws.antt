@@ -11,7 +11,7 @@ use Rattle.spec.specs.Lists.{isEmpty, takeWhile, dropWhile, keep}
 use Rattle.spec.specs.Map.{Marked, byte, bytes, frontByte, ofByte}
 use Rattle.spec.specs.Search.{Test, ontoFirst, piecesFrom, pieces}
 use Rattle.spec.specs.Declarations.{Declared, words, joinWords, declaredOf}
-use Rattle.declared_parts.specs.Parts.{spaced}
+use Rattle.declared_parts.specs.DeclaredParts.{spaced}
 
 -- the tests on marked bytes
 abbrev pub space : Marked → Bool

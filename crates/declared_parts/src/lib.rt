@@ -20,7 +20,7 @@ ghost use Rattle.spec.specs.Map.{marked};
 ghost use Rattle.spec.specs.Declarations.{delimiterOf, requotedDefault, declaration};
 ghost use Rattle.runs.specs.Sets.{inSet};
 ghost use Rattle.spec.specs.Parts.{part};
-ghost use Rattle.declared_parts.specs.Parts.{WalrusAt, spaced, cutOf, cutIn, readOf, Within, isWhole};
+ghost use Rattle.declared_parts.specs.DeclaredParts.{WalrusAt, spaced, cutOf, cutIn, readOf, Within, isWhole};
 
 // Where a part ends ahead of its default, where the default begins, and 1 if there is one, else 0.
 pub struct Cut {

@@ -20,7 +20,7 @@ use Rattle.spec.specs.Search.{first, byteHere, pieces}
 use Rattle.spec.specs.Declarations.{Declared, declaration, declare, declareMaybe, declareAll}
 use Rattle.spec.specs.declared.Found.the-variants.{At, Nothing}
 use Rattle.spec.specs.Parts.{part}
-use Rattle.declared_parts.specs.Parts.{declaredBy, partNumbers, readOf, Within}
+use Rattle.declared_parts.specs.DeclaredParts.{declaredBy, partNumbers, readOf, Within}
 use Rattle.declared_parts.specs.declared.DeclarationPlaces.{DeclarationPlaces}
 use Rattle.declared_records.specs.Held.{recordIn, recordsFrom, placeOf, Added, Gathered}
 use Rattle.declared_records.proofs.HeldLaws.{sets-drop, record-other, record-put, from-length, from-replaced, from-added}

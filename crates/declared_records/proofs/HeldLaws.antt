@@ -9,7 +9,7 @@ use lib.Dec.{ltb}
 use Rattle.spec.proofs.Choice.{by}
 use lib.ListN.{length, getD, take, drop, set}
 use lib.Seq.{sets, sets-eq, getD-set-other, getD-drop, length-take-le, drop-at, drop-set-lt}
-use Rattle.declared_parts.specs.Parts.{defaultBy, declaredBy, partNumbers}
+use Rattle.declared_parts.specs.DeclaredParts.{defaultBy, declaredBy, partNumbers}
 use Rattle.declared_parts.specs.declared.DeclarationPlaces.{DeclarationPlaces}
 use Rattle.spec.specs.Declarations.{Declared}
 use Rattle.declared_records.specs.Held.{recordIn, recordsFrom}

@@ -9,7 +9,7 @@ use Rattle.spec.specs.Bytes.{isSame}
 use Rattle.spec.specs.Map.{Marked}
 use Rattle.spec.specs.Search.{byteHere, pieces}
 use Rattle.spec.specs.Declarations.{Declared, declareMaybe, declareAll}
-use Rattle.declared_parts.specs.Parts.{declaredBy, readOf}
+use Rattle.declared_parts.specs.DeclaredParts.{declaredBy, readOf}
 use Rattle.declared_parts.specs.declared.DeclarationPlaces.{DeclarationPlaces}
 
 -- record k, and n records from record k on

@@ -11,7 +11,7 @@ ghost use Prim.Native.Nat.{_-_, _*_, _^_, _≤_, _<_};
 ghost use lib.ListN.{length, getD, drop, replicate};
 ghost use lib.Seq.{sets};
 ghost use Rattle.spec.specs.Map.{marked};
-ghost use Rattle.declared_parts.specs.Parts.{Within, partNumbers};
+ghost use Rattle.declared_parts.specs.DeclaredParts.{Within, partNumbers};
 ghost use Rattle.declared_records.specs.Held.{recordIn, recordsFrom, placeOf, Added, Gathered};
 
 // How many numbers a record has, how many records there may be, and how many numbers they and the head take.

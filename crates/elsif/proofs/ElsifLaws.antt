@@ -8,7 +8,7 @@ use native.Mathlib.Nat.{add-zero}
 use native.Mathlib.Omega.{arith}
 use borrow.Author.Tests.{ltb-true, ltb-false}
 use lib.Dec.{ltb}
-use lib.ListN.{length, take, drop, getD, length-append, length-drop, length-map, drop-of-length-le}
+use lib.ListN.{length, take, drop, getD, length-append, length-drop, drop-of-length-le}
 use lib.Seq.{sets}
 use Rattle.spec.proofs.Choice.{by}
 use Rattle.spec.proofs.CopyLaws.{copied, copied-all}
@@ -17,10 +17,10 @@ use Rattle.spec.proofs.LengthLaws.{word-in}
 use Rattle.spec.proofs.MapLaws.{map-append, marked-length}
 use Rattle.spec.proofs.PartLaws.{bytes-part}
 use Rattle.spec.proofs.WalkLaws.{starts-length, drop-step, back-step, bytes-drop, passesAt}
-use Rattle.spec.specs.Bytes.{ascii, upper, isWord}
+use Rattle.spec.specs.Bytes.{ascii, isWord}
 use Rattle.spec.specs.Elsif.{elsifFrom, elsif}
 use Rattle.spec.specs.Map.{Marked, live, byte, marked, bytes, lives, frontByte}
-use Rattle.spec.specs.Search.{Test, first, startsIgnoringCase, wordHere, keywordHere}
+use Rattle.spec.specs.Search.{Test, first, wordHere, keywordHere}
 use Rattle.spec.specs.declared.Found.the-variants.{At, Nothing}
 use Rattle.output.proofs.StoreLaws.{sets-more}
 

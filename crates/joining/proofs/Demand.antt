@@ -1,19 +1,19 @@
 -- Demand 3 about the whole call: first for a body whose texts between the passes are continuable, then for a closed one.
 -- Assumes nothing.
 use mathlib.Core.Path.{_≡_, refl, sym, ap, _∙_}
-use mathlib.Core.Bool.{Bool, true, false, _&&_}
+use mathlib.Core.Bool.{true}
 use mathlib.Core.List.{List, [], _∷_, _++_}
 use mathlib.Core.Logic.{_↔_}
-use Prim.Native.Nat.{ℕ, zero, suc, _+_, _-_, _≤_, _<_, zero-le, suc-le-suc}
+use Prim.Native.Nat.{ℕ, zero, suc, _+_, _-_, _≤_, zero-le, suc-le-suc}
 use native.Mathlib.Omega.{arith}
 use borrow.Author.Tests.{le-leb, ltb-true, ltb-false}
 use native.Mathlib.Nat.{le-of-suc-le-suc}
 use lib.Dec.{ltb}
 use Rattle.spec.proofs.Choice.{by}
-use lib.ListN.{length, getD, take, drop, replicate, length-append, List·getD-append}
+use lib.ListN.{length, length-append, List·getD-append}
 use lib.Seq.{take-append-seam, getD-append-add}
 use Rattle.spec.specs.Bytes.{isHigh}
-use Rattle.spec.specs.Outcome.{PassRefusal, qualifiedTarget, usingClause, resultTooLong, handedBack, accepted, refused, Rewriting}
+use Rattle.spec.specs.Outcome.{resultTooLong, handedBack, accepted, refused, Rewriting}
 use Rattle.spec.specs.Raise.{Level, Action}
 use Rattle.spec.specs.Body.{bufferSize, rewriting}
 use Rattle.spec.specs.Answers.{textLimit, refusalNumbers, callNumbers, resultOf, areLent, bodyCheck, zeroedTo, callAnswer}
@@ -21,13 +21,13 @@ use Rattle.spec.specs.declared.Check.{Check}
 use Rattle.spec.specs.declared.Check.the-variants.{Passed, Refused}
 use Rattle.spec.specs.declared.Refusal.{Refusal}
 use Rattle.spec.specs.declared.Refusal.the-variants.{TextTooLong}
-use Rattle.spec.proofs.SearchLaws.{NoHigh, too-long, check-only, check-always}
+use Rattle.spec.proofs.CheckLaws.{NoHigh, too-long, check-only, check-always}
 use Rattle.spec.proofs.RefusalCalls.{pass-number, check-number}
 use Rattle.joining.specs.Continuable.{Continuable}
 use Rattle.joining.specs.Call.{Lent, checkBy, answerBy, outputBy, numberOf, rewritten}
 use Rattle.spec.specs.Closed.{isClosed}
 use Rattle.joining.proofs.Kept.{continuable}
-use Rattle.joining.proofs.Chain.{Both, rewriting-split, rewriting-both}
+use Rattle.joining.proofs.Chain.{rewriting-split, rewriting-both}
 
 -- a body is accepted: within the limit, no byte over 127, and the passes accept it
 pub record Taken (act : Level → Action) (xs zs : List ℕ) : Type 0 where

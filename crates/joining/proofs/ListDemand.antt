@@ -10,7 +10,7 @@ use lib.ListN.{length, length-append}
 use Rattle.spec.proofs.Apart.{apart}
 use Rattle.spec.proofs.Choice.{and-left, and-right}
 use Rattle.spec.proofs.RefusalLaws.{after2, after3, after4, after5, targetIn, clauseIn, Through2, Through4, Exceeds, in1, in2, in3, in4, in5, assign-done, assign-refused, raise-done, raise-refused, qualified-exactly, using-exactly, too-long-exactly}
-use Rattle.spec.proofs.SearchLaws.{NoHigh, CheckRefuses, too-long, too-short, not-ascii, check-only, check-always}
+use Rattle.spec.proofs.CheckLaws.{NoHigh, CheckRefuses, too-long, too-short, not-ascii, check-only, check-always}
 use Rattle.spec.specs.Lists.{all, concat}
 use Rattle.spec.specs.Map.{markedText}
 use Rattle.spec.specs.Requote.{requoted}

@@ -3,17 +3,16 @@ use mathlib.Core.Path.{_≡_, refl, sym, ap, _∙_}
 use mathlib.Core.List.{List, [], _++_}
 use Prim.Native.Nat.{ℕ, _+_}
 use native.Mathlib.Omega.{arith}
-use lib.ListN.{length, take, length-append}
+use lib.ListN.{length, length-append}
 use lib.Seq.{sets}
 use Rattle.spec.proofs.BytesLaws.{bytes-append}
 use Rattle.spec.proofs.RefusalBounds.{bytes-length}
 use Rattle.spec.specs.Map.{Marked, bytes}
-use Rattle.spec.specs.Outcome.{PassRefusal, handedBack, Outcome, accepted, refused, _⊕_, forget}
+use Rattle.spec.specs.Outcome.{PassRefusal, Outcome, accepted, refused, _⊕_, forget}
 use Rattle.spec.specs.declared.Refusal.{Refusal}
 use Rattle.spec.proofs.Apart.{apart}
 use Rattle.output.proofs.StoreLaws.{sets-more}
 use Rattle.output.specs.Passes.{passAnswer, Leaves, answerFrom, LeavesFrom}
-use Rattle.output.specs.declared.Pass.{Pass}
 use Rattle.output.specs.declared.Pass.the-variants.{Done, Refused}
 
 -- with o left and n bytes written into d, it comes to the same as with o′ left and n′ bytes written into d′

@@ -1,2 +1,2 @@
 pub mod StageLaws
-pub mod EndLaws
+pub mod BufferEndLaws

@@ -14,9 +14,8 @@ use Rattle.spec.proofs.LengthLaws.{requoted-length, two-length, one-fits, two-f
 use Rattle.spec.proofs.MapLaws.{map-length, marked-length}
 use Rattle.spec.proofs.PartLaws.{marked-take}
 use Rattle.spec.proofs.RefusalBounds.{bytes-length}
-use Rattle.spec.proofs.RefusalLaws.{keeps-refused}
 use Rattle.spec.specs.Map.{Marked, mapOf, marked, markedText, bytes}
-use Rattle.spec.specs.Outcome.{PassRefusal, Outcome, accepted, refused, Rewriting, forget}
+use Rattle.spec.specs.Outcome.{Outcome, accepted, refused, Rewriting, forget}
 use Rattle.spec.specs.Requote.{requoted}
 use Rattle.spec.specs.Elsif.{elsif}
 use Rattle.spec.specs.SelectInto.{quoteWalk, selectInto}
@@ -31,10 +30,10 @@ use Rattle.output.specs.declared.Pass.{Pass}
 use Rattle.output.specs.declared.Pass.the-variants.{Done, Refused}
 use Rattle.output.proofs.StoreLaws.{front-stored}
 use Rattle.quotes.specs.QuoteMap.{quoteMap}
-use Rattle.quotes.proofs.QuoteLaws.{quote-marks}
+use Rattle.quotes.proofs.QuoteMapLaws.{quote-marks}
 use Rattle.set_lines.specs.Writes.{counted}
 use Rattle.passes.specs.Gives.{Gives, finished, limitedAnswer}
-use Rattle.passes.proofs.EndLaws.{answer-length}
+use Rattle.passes.proofs.BufferEndLaws.{answer-length}
 
 -- ---- the map that a pass reads
 

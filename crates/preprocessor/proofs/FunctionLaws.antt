@@ -1,17 +1,16 @@
 -- What the function call answers and leaves, from its declarations and its passes. Assumes nothing.
 use mathlib.Core.Path.{_≡_, refl, sym, ap, subst, _∙_}
-use mathlib.Core.Bool.{true, false, cond}
 use mathlib.Core.List.{List, [], _++_}
 use Prim.Native.Nat.{ℕ, _+_, _-_, _*_, _≤_, _<_}
 use native.Mathlib.Omega.{arith}
-use borrow.Author.Tests.{ltb-true, ltb-false, lt-ltb, le-ltb}
+use borrow.Author.Tests.{ltb-true, ltb-false, lt-ltb}
 use lib.Dec.{ltb}
 use lib.ListN.{length, take, drop}
 use lib.Seq.{drop-append-add, drop-drop}
 use Rattle.spec.proofs.Apart.{apart}
 use Rattle.spec.proofs.Choice.{by}
 use Rattle.spec.proofs.RefusalCalls.{function-passes}
-use Rattle.spec.proofs.MapLaws.{map-length, text-length}
+use Rattle.spec.proofs.MapLaws.{text-length}
 use Rattle.spec.proofs.RecordLaws.{numbers-length}
 use Rattle.spec.proofs.WalkLaws.{marked-kept}
 use Rattle.spec.specs.Bytes.{ascii}
@@ -29,10 +28,10 @@ use Rattle.declared_parts.proofs.BetweenLaws.{between-length}
 use Rattle.declared_records.proofs.HeldLaws.{sets-drop}
 use Rattle.declarations.proofs.SectionLaws.{records-in, section-in}
 use Rattle.declarations.proofs.PackedLaws.{packed-small}
-use Rattle.declarations.specs.Records.{recordsOfSection, recordsIn, sectionOf, parsedOf, Packed, Holds}
+use Rattle.declarations.specs.SectionRecords.{recordsOfSection, recordsIn, sectionOf, parsedOf, Packed, Holds}
 use Rattle.declarations.specs.declared.Parsed.the-variants.{Count, TooManyNames}
 use Rattle.spec.specs.declared.Refusal.the-variants as refusal
-use Rattle.preprocessor.specs.Records.{withRecords, ifAccepted}
+use Rattle.preprocessor.specs.AnswerRecords.{withRecords, ifAccepted}
 
 -- what the declarations' answer tells
 pub parsed-count : (ds : List Declared) (c n : ℕ) → parsedOf ds ≡ Count c n → (length ds ≤ 512) × (length ds ≡ c) × (length (packed ds) ≡ n)

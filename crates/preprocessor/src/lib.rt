@@ -22,7 +22,7 @@ ghost use lib.ListN.{length};
 ghost use Rattle.spec.specs.Answers.{zeroedTo, functionResult, bodyCheck, bodyAnswer, bodyOutput, workExit, functionCheck, functionAnswer, functionOutput, functionText, functionRecords};
 ghost use Rattle.spec.specs.declared.Refusal.the-variants.{TooManyNames};
 ghost use Rattle.spec.specs.declared.Rewritten.the-variants.{Refused};
-ghost use Rattle.preprocessor.specs.Records.{withRecords, ifAccepted};
+ghost use Rattle.preprocessor.specs.AnswerRecords.{withRecords, ifAccepted};
 
 // The most bytes that a call's text may have.
 const TEXT_LIMIT: usize = 16384;

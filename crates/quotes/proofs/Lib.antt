@@ -1,5 +1,4 @@
-pub mod QuoteLaws
+pub mod QuoteMapLaws
 pub mod DepthLaws
 pub mod ItemLaws
 pub mod LimitLaws
-pub mod TopLaws

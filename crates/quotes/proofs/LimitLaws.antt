@@ -130,9 +130,6 @@ unfolding bytes lives
 lives-bytes [] = refl
 lives-bytes (c ∷ cs) = ap (λ (l : List ℕ). c ∷ l) (lives-bytes cs)
 
-pub limit-text : (xs : List ℕ) → hasLimit (lives xs) ≡ eqb (limitFrom 0 xs) 7
-limit-text xs = limit-marks (lives xs) ∙ ap (λ (l : List ℕ). eqb (limitFrom 0 l) 7) (lives-bytes xs)
-
 -- one byte more from i on, and none left
 module _ (xs : List ℕ) (i k : ℕ) where
   pub limit-step : i < length xs → limitFrom k (drop i xs) ≡ limitFrom (limitNext k (getD xs i 0)) (drop (i + 1) xs)

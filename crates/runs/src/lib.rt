@@ -39,7 +39,7 @@ fn is_in(set: Set, b: u8) -> bool
 }
 
 // Where the bytes of the set from `from` on end.
-fn run_end_loop(text: &[u8], set: Set, from: usize) -> usize
+pub fn run_end(text: &[u8], set: Set, from: usize) -> usize
     ensures { λ r. ⌜ r ≡ from + length (takeWhile (inSet set) (drop from (now (text .entry)))) ⌝ }
     ensures { λ r. ⌜ (from ≤ length (now (text .entry)) → r ≤ length (now (text .entry))) ⌝ }
 {
@@ -54,21 +54,8 @@ fn run_end_loop(text: &[u8], set: Set, from: usize) -> usize
     i
 }
 
-// The same. Most runs are empty: the first byte is tested here, so that a caller's own copy of this test decides.
-pub fn run_end(text: &[u8], set: Set, from: usize) -> usize
-    ensures { λ r. ⌜ r ≡ from + length (takeWhile (inSet set) (drop from (now (text .entry)))) ⌝ }
-    ensures { λ r. ⌜ (from ≤ length (now (text .entry)) → r ≤ length (now (text .entry))) ⌝ }
-{
-    if from < text.len() {
-        if is_in(set, text[from]) {
-            return run_end_loop(text, set, from + 1);
-        }
-    }
-    from
-}
-
 // Where the bytes of the set that end at `end` start.
-fn run_start_loop(text: &[u8], set: Set, end: usize) -> usize
+pub fn run_start(text: &[u8], set: Set, end: usize) -> usize
     requires { ⌜ end ≤ length (now text) ⌝ }
     ensures { λ r. ⌜ r ≡ length (dropEnd (inSet set) (take end (now (text .entry)))) ⌝ }
     ensures { λ r. ⌜ r ≤ end ⌝ }
@@ -82,20 +69,6 @@ fn run_start_loop(text: &[u8], set: Set, end: usize) -> usize
         }
     }
     i
-}
-
-// The same, the last byte tested first.
-pub fn run_start(text: &[u8], set: Set, end: usize) -> usize
-    requires { ⌜ end ≤ length (now text) ⌝ }
-    ensures { λ r. ⌜ r ≡ length (dropEnd (inSet set) (take end (now (text .entry)))) ⌝ }
-    ensures { λ r. ⌜ r ≤ end ⌝ }
-{
-    if 0 < end {
-        if is_in(set, text[end - 1]) {
-            return run_start_loop(text, set, end - 1);
-        }
-    }
-    end
 }
 
 // Whether a byte of the set stands in the text.

@@ -1,19 +1,18 @@
 -- The checks of a search and what the lent map holds behind them. Assumes nothing.
-use mathlib.Core.Path.{_≡_, refl, sym, ap, _∙_}
-use mathlib.Core.Bool.{Bool, true, false, cond}
-use mathlib.Core.List.{List, [], _∷_, _++_}
+use mathlib.Core.Path.{_≡_, refl, ap, _∙_}
+use mathlib.Core.Bool.{Bool, true, false}
+use mathlib.Core.List.{List, []}
 use Prim.Native.Nat.{ℕ, _+_, _*_, _≤_, _<_}
 use native.Mathlib.Omega.{arith}
 use native.Mathlib.Nat.{not-suc-le-zero}
 use mathlib.Core.Logic.{⊎-elim}
 use borrow.Author.Tests.{le-leb, lt-leb, lt-ltb, le-ltb}
 use lib.Dec.{leb, ltb}
-use lib.ListN.{length, drop}
+use lib.ListN.{length}
 use lib.Seq.{sets, sets-eq}
 use Rattle.spec.proofs.Choice.{by}
-use Rattle.spec.proofs.MapLaws.{map-length}
 use Rattle.spec.proofs.WalkLaws.{marked-kept}
-use Rattle.spec.proofs.SearchLaws.{CheckRefuses, too-long, too-short, not-ascii, check-only}
+use Rattle.spec.proofs.CheckLaws.{CheckRefuses, too-long, too-short, not-ascii, check-only}
 use Rattle.spec.specs.Map.{mapOf, marked, markedText}
 use Rattle.spec.specs.Answers.{searchLimit, checkOf, exitOf, keptBehind, filledAnswer, mapCheck, mapExit, splitCheck, requoteCheck, refusalNumbers}
 use Rattle.spec.specs.declared.Check.{Check}

@@ -1,5 +1,5 @@
 -- The next word by its two ends, as the search reads them. Assumes nothing.
-use mathlib.Core.Path.{_≡_, refl, sym, ap, _∙_}
+use mathlib.Core.Path.{_≡_, sym, ap, _∙_}
 use mathlib.Core.List.{List, []}
 use Prim.Native.Nat.{ℕ, _+_, _-_, _≤_, _<_}
 use native.Mathlib.Omega.{arith}
@@ -7,7 +7,7 @@ use lib.ListN.{length, take, drop}
 use Rattle.spec.specs.Lists.{takeWhile}
 use Rattle.spec.specs.Map.{Marked, marked, markedText}
 use Rattle.spec.specs.Search.{isSkipped, isWordMark, wordPlace, wordText}
-use Rattle.spec.proofs.SearchLaws.{wordStart, word-length, word-place, word-nowhere, word-part, word-empty}
+use Rattle.spec.proofs.NextWord.{word-nowhere, wordStart, word-length, word-place, word-part, word-empty}
 use Rattle.spec.specs.declared.Found.the-variants.{At, Nothing}
 
 module _ (xs ms : List ℕ) (from s e : ℕ) (hm : marked xs ms ≡ markedText xs)

@@ -20,7 +20,6 @@ use spec::Search;
 ghost use mathlib.Core.Path.{_≡_};
 ghost use mathlib.Core.List.{[], _∷_};
 ghost use Prim.Native.Nat.{_≤_};
-ghost use lib.ListN.{length};
 ghost use Rattle.spec.specs.Answers.{mapCheck, mapExit, searchAnswer, filledAnswer, yesNo, regionsAnswer, keywordAnswer, byteAnswer, needleAnswer, wordAnswer, wordPart, searchNumbers, searchList, refusalNumbers, handlerAnswer, unterminatedAnswer, splitAnswer, splitMapExit, splitExit, requoteAnswer, requoteExit};
 ghost use Rattle.spec.specs.declared.Check.the-variants.{Passed};
 

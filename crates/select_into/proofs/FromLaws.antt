@@ -17,7 +17,7 @@ use Rattle.set_lines.specs.Lines.{shared}
 use Rattle.spec.proofs.RunPlaces.{startFrom}
 use Rattle.runs.proofs.RunLaws.{start-whole}
 use Rattle.select_into.specs.Pairs.{lastLine, fromText, sharedOf}
-use Rattle.set_lines.proofs.LineLaws.{part-to}
+use Rattle.set_lines.proofs.SetLineLaws.{part-to}
 
 -- the FROM part by its length
 pub from-take : (xs : List ℕ) (k : ℕ) → k ≡ startFrom isW xs (length xs) → dropEnd (λ c. eqb c 59) (take k xs) ≡ fromText xs

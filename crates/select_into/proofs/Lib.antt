@@ -1,5 +1,5 @@
-pub mod CutLaws
-pub mod EndLaws
+pub mod StatementCutLaws
+pub mod FromEndLaws
 pub mod FromLaws
-pub mod SetLaws
+pub mod SetTextLaws
 pub mod StatementLaws

@@ -1,10 +1,9 @@
 -- The statements of a text one after the other. Assumes nothing.
 use mathlib.Core.Path.{_≡_, refl, sym, ap, _∙_}
-use mathlib.Core.Bool.{true, false≢true}
+use mathlib.Core.Bool.{true}
 use mathlib.Core.List.{List, [], _∷_, _++_, reverse}
 use Prim.Native.Nat.{ℕ, suc, _+_, _-_, _≤_, _<_}
 use native.Mathlib.Omega.{arith}
-use borrow.Author.Tests.{eqb-true}
 use lib.ListN.{length, take, drop, getD, length-drop}
 use lib.Seq.{take-suc, getD-drop}
 use Rattle.spec.proofs.BytesLaws.{bytes-append}
@@ -13,7 +12,7 @@ use Rattle.spec.proofs.JoinedPieces.{live-byte, pieces-cons}
 use Rattle.spec.proofs.MapLaws.{marked-length}
 use Rattle.spec.proofs.WalkLaws.{drop-step, bytes-drop, piecesAt, pieces-cut, pieces-last}
 use Rattle.spec.proofs.PartLaws.{marked-part}
-use Rattle.spec.specs.Map.{Marked, live, quoted, marked, bytes, isLiveByte}
+use Rattle.spec.specs.Map.{Marked, live, marked, bytes}
 use Rattle.spec.specs.Search.{first, byteHere, pieces}
 use Rattle.spec.specs.SelectInto.{selectStatement, joinSelects, selectInto}
 use Rattle.spec.specs.declared.Found.the-variants.{At, Nothing}

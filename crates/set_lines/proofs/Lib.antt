@@ -1,3 +1,3 @@
-pub mod LineLaws
+pub mod SetLineLaws
 pub mod ListedLaws
 pub mod PutLaws

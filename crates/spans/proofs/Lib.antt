@@ -1,4 +1,4 @@
-pub mod QuoteLaws
+pub mod QuotedSpanLaws
 pub mod CommentLaws
-pub mod RunLaws
+pub mod TagLaws
 pub mod StepLaws

@@ -17,7 +17,7 @@ use Rattle.spec.proofs.ListLaws.{empty-length}
 use Rattle.spec.proofs.RefusalBounds.{bytes-length}
 use Rattle.spec.proofs.RunPlaces.{flags-length, marked-flags, byte-inside, byte-behind, back-rest, Behind, behind, start-same}
 use Rattle.spec.proofs.ByteSets.{sign-not-ident, ident-not-w, w-not-ident}
-use Rattle.spec.proofs.SearchLaws.{prefix-at, at-prefix}
+use Rattle.spec.proofs.MatchLaws.{prefix-at, at-prefix}
 use Rattle.spec.proofs.TargetPlaces.{flags, byteAt, IsRun, IsAssignAt, IsNameBefore, IsAssignTarget, FirstFrom, NoPlace}
 use Rattle.spec.specs.Parts.{part}
 use Rattle.spec.proofs.WalkLaws.{drop-step, back-step, live-inside, needle-at}

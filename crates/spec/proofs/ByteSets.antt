@@ -100,11 +100,6 @@ pub not-n : (c : ℕ) → isW c ≡ false → isN c ≡ false
 unfolding isN
 not-n c h = rw h refl
 
--- identifier bytes and `$` are the word bytes
-pub ident-word : (c : ℕ) → isIdent c ≡ true → isWord c ≡ true
-unfolding isWord
-ident-word c h = rw h refl
-
 pub not-word : (c : ℕ) → isWord c ≡ false → isIdent c ≡ false
 unfolding isWord
 not-word c h = or-left (isIdent c) (eqb c 36) h

@@ -302,10 +302,6 @@ module _ (ds : List Declared) (u : distinct ds ≡ true) where
   pub chain-length : length (chain ds) ≡ length ds
   chain-length = walk-length ds _ _ (chain ds) chain-walk ∙ (count-all (names ds) ∙ length-names ds)
 
-  -- numbers of records only
-  pub chain-within : all (within 1 (length ds)) (chain ds) ≡ true
-  chain-within = walk-within ds _ _ (chain ds) chain-walk
-
   -- each record once
   pub chain-once : (k : ℕ) → 1 ≤ k → k ≤ length ds → length (keep (eqb k) (chain ds)) ≡ 1
   chain-once k a b = walk-once ds _ _ (chain ds) chain-walk k a b

@@ -26,10 +26,9 @@ use Rattle.spec.specs.Search.{Test, firstFrom, first, startsIgnoringCase
 use Rattle.spec.specs.Requote.{doubled, singleQuoted, requoteSpan, requoteLexeme, requoted}
 use Rattle.spec.specs.Elsif.{elsifFrom, elsif}
 use Rattle.spec.specs.Outcome.{resultTooLong, Outcome, accepted, refused, _⊕_, Rewriting, forget}
-use Rattle.spec.specs.Raise.{Level, Action}
 use Rattle.spec.specs.Assignments.{Target, assignHere, rightSide, startsName, assignmentAt, assignment, checkedStatement, statement, statementTarget, joinStatements, assignments}
 use Rattle.spec.specs.Parts.{trimEnd, trim}
-use Rattle.spec.specs.Body.{bufferSize, requotePass, elsifPass, assignPass, selectPass, raisePass, limited, andThen, rewriting}
+use Rattle.spec.specs.Body.{bufferSize, requotePass, elsifPass, assignPass, limited, andThen}
 use Rattle.spec.specs.Answers.{textLimit}
 use Rattle.spec.specs.declared.Found.{Found}
 use Rattle.spec.specs.declared.Found.the-variants.{At, Nothing}
@@ -544,10 +543,3 @@ assign-not-long xs h = go (targetIn xs) refl
 pub three-not-long : (xs : List ℕ) → length xs ≤ textLimit
     → andThen (andThen (andThen (accepted xs) requotePass) elsifPass) assignPass ≡ refused resultTooLong → ⊥
 three-not-long xs h e = assign-not-long (bytes (elsif (markedText (requoted xs)))) (sym (three-passes xs h) ∙ e)
-
--- and the five passes are passes 4 and 5 over what pass 3 gives
-pub five-passes : (act : Level → Action) (xs : List ℕ) → length xs ≤ textLimit
-    → rewriting act xs
-    ≡ andThen (andThen (assignPass (bytes (elsif (markedText (requoted xs))))) selectPass) (raisePass act)
-unfolding rewriting
-five-passes act xs h = ap (λ r. andThen (andThen r selectPass) (raisePass act)) (three-passes xs h)

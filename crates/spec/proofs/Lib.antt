@@ -22,7 +22,12 @@ pub mod RefusalOutcomes
 pub mod RefusalLaws
 pub mod RefusalCalls
 pub mod RefusalBounds
+pub mod MatchLaws
 pub mod SearchLaws
+pub mod NextWord
+pub mod SplitStarts
+pub mod HandlerPlaces
+pub mod CheckLaws
 pub mod CopyLaws
 pub mod BytesLaws
 pub mod PartLaws

@@ -1,19 +1,15 @@
 -- The map: it has the text's length, holds 0 and 1 only, and agrees with the spans; a text beside its map. Assumes nothing.
 use mathlib.Core.Path.{_≡_, refl, sym, ap, _∙_}
-use mathlib.Core.Bool.{Bool, true, false, cond}
+use mathlib.Core.Bool.{true}
 use mathlib.Core.List.{List, [], _∷_, _++_, map}
-use Prim.Native.Nat.{ℕ, zero, suc, _+_, _-_, _≤_, _<_, zero-le, suc-le-suc}
-use native.Mathlib.Nat.{not-suc-le-zero, le-of-suc-le-suc}
-use native.Mathlib.Omega.{arith}
-use lib.ListN.{length, take, drop, getD, replicate, length-append, length-replicate, length-map}
+use Prim.Native.Nat.{ℕ, zero, suc, _+_, _-_, zero-le, suc-le-suc}
+use lib.ListN.{length, take, drop, replicate, length-append, length-replicate, length-map}
 use lib.Seq.{length-take-le}
 use Rattle.spec.proofs.SpanLaws.{span-le, lexemes-step, tiles}
 use Rattle.spec.specs.Lists.{all, concat}
 use Rattle.spec.specs.Bytes.{within}
 use Rattle.spec.specs.Spans.{Kind, line, block, single, double, dollar, code, kindAt, spanOf, spanAt, spanLen, Lexeme, lexemeAt, lexemes}
-use Rattle.spec.specs.Map.{Region, inCode, inLiteral, inComment, regionOf, regionsOf, flag, mapOf, Marked, live, quoted, byte, isLive, mark, marked, markedText, bytes, spanFlag}
-use Rattle.spec.specs.declared.Span.{Span}
-use Rattle.spec.specs.declared.Span.the-variants.{Verbatim, Dollar, Code}
+use Rattle.spec.specs.Map.{Region, inCode, inLiteral, inComment, regionOf, regionsOf, flag, mapOf, byte, mark, marked, markedText, bytes, spanFlag}
 
 regions-length : (ls : List Lexeme) → length (regionsOf ls) ≡ length (concat (map (λ (l : Lexeme). l .text) ls))
 unfolding regionsOf concat

@@ -13,7 +13,7 @@ use Rattle.spec.proofs.ByteSets.{sign-not-word}
 use Rattle.spec.proofs.Apart.{apart}
 use Rattle.spec.proofs.Choice.{cond-case}
 use Rattle.spec.proofs.RunPlaces.{flags-length, marked-flags}
-use Rattle.spec.proofs.SearchLaws.{word-sound, word-complete}
+use Rattle.spec.proofs.MatchLaws.{word-complete, word-sound}
 use Rattle.spec.proofs.TargetPlaces.{flags, byteAt, StandsAt, OpensStatement, begin, then, else, loop}
 use Rattle.spec.proofs.TargetPlaces.{OpenCases, starts, opens, closes, not-below, stays}
 use Rattle.spec.specs.Bytes.{ascii, upper, within, isLower, isWord}

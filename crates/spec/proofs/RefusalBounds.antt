@@ -1,7 +1,7 @@
 -- What a call leaves in its output is never longer than the buffer size: not the text, not `q.n` of refusal 4 and not the
 -- clause of refusal 5. Assumes nothing.
 use mathlib.Core.Path.{_≡_, refl, ap, subst}
-use mathlib.Core.Bool.{Bool, not, _&&_}
+use mathlib.Core.Bool.{not, _&&_}
 use mathlib.Core.List.{List, [], _∷_, _++_}
 use mathlib.Core.Option.{Option, none, some}
 use Prim.Native.Nat.{ℕ, zero, suc, _+_, _-_, _≤_, zero-le, suc-le-suc}
@@ -11,19 +11,19 @@ use lib.Dec.{eqb, ltb}
 use lib.ListN.{length, drop, length-append, length-drop, length-map, length-reverse}
 use Rattle.spec.proofs.WalkLaws.{while-length}
 use Rattle.spec.proofs.LengthLaws.{trim-le}
-use Rattle.spec.proofs.ListLaws.{while-sum, drop-while-le, drop-end-le}
-use Rattle.spec.proofs.Choice.{by, cond-case, and-left, and-right}
+use Rattle.spec.proofs.ListLaws.{while-sum, drop-while-le}
+use Rattle.spec.proofs.Choice.{cond-case, and-left, and-right}
 use Rattle.spec.proofs.MapLaws.{text-length}
 use Rattle.spec.proofs.JoinedPieces.{joined, pieces-joined}
 use Rattle.spec.proofs.FirstFound.{eitherOf, firstSome}
 use Rattle.spec.proofs.RefusalOutcomes.{firstTarget, fateClause, firstClause}
 use Rattle.spec.proofs.RefusalLaws.{after2, after4, targetIn, clauseIn, accepted-fits, qualified-exactly, using-exactly}
 use Rattle.spec.specs.Bytes.{ascii, isW, isN, isIdent, isWord}
-use Rattle.spec.specs.Lists.{isEmpty, takeWhile, dropWhile, dropEnd}
+use Rattle.spec.specs.Lists.{isEmpty, takeWhile, dropWhile}
 use Rattle.spec.specs.Map.{Marked, live, byte, bytes, markedText, frontByte, ofByte, isLiveByte}
 use Rattle.spec.specs.Search.{byteHere, piecesFrom, pieces, startsIgnoringCase, wordHere}
 use Rattle.spec.specs.Assignments.{Target, orElse, assignHere, targetBefore, assignTarget, loneEquals, equalsTarget, Mark, opensCase, closesCase, opensStatement, Marking, markings, markingHere, casesBehind, targetPast, targetBehind, markedTarget, statementTarget}
-use Rattle.spec.specs.Parts.{trimEnd, trim}
+use Rattle.spec.specs.Parts.{trim}
 use Rattle.spec.specs.Raise.{Fate, rewritten, refusedClause, message, usingFate, abortFate, Level, levelIn, levelWords, levelLen, actionOf, Action, abort, drops, contentOf, actionFate, raisedAt, Token, raisesFrom}
 use Rattle.spec.specs.Outcome.{qualifiedTarget, usingClause, resultTooLong, accepted, refused, Rewriting}
 use Rattle.spec.specs.Body.{bufferSize, rewriting}

@@ -12,7 +12,7 @@ use lib.ListN.{length}
 use Rattle.spec.proofs.Apart.{apart}
 use Rattle.spec.proofs.Choice.{by}
 use Rattle.spec.proofs.QualifiedExactly.{HasQualifiedTarget, qualified-in-words}
-use Rattle.spec.proofs.SearchLaws.{CheckRefuses, too-long, too-short, not-ascii, check-only}
+use Rattle.spec.proofs.CheckLaws.{CheckRefuses, too-long, too-short, not-ascii, check-only}
 use Rattle.spec.proofs.RefusalLaws.{Accepts, Exceeds, accepted-exactly, too-long-exactly}
 use Rattle.spec.proofs.UsingExactly.{HasUsingClause, using-in-words}
 use Rattle.spec.specs.Outcome.{PassRefusal, qualifiedTarget, usingClause, resultTooLong, handedBack, accepted, refused, Rewriting}
@@ -28,18 +28,6 @@ use Rattle.spec.specs.declared.Rewritten.{Rewritten}
 use Rattle.spec.specs.declared.Rewritten.the-variants as rewritten
 
 -- ---- what is answered for what the passes give
-
--- accepted, with the length of the text and the count of the records
-pub result-accepted : (ds : List Declared) (r : Rewriting) (n c : ℕ)
-    → (resultOf ds r .answer ≡ rewritten.Accepted n c)
-    ↔ ((zs : List ℕ) × (r ≡ accepted zs) × (length zs ≡ n) × (length ds ≡ c))
-unfolding resultOf
-result-accepted ds r n c = (to r, (λ w. rw (w .1, w .2, w .3)))
-  where
-    to : (r : Rewriting) → resultOf ds r .answer ≡ rewritten.Accepted n c
-        → (zs : List ℕ) × (r ≡ accepted zs) × (length zs ≡ n) × (length ds ≡ c)
-    to (accepted zs) h = (zs, refl, (cc), (cc))
-    to (refused f) h = absurd (apart (cc))
 
 -- the number of a pass's refusal
 abbrev pub passNumber : PassRefusal → ℕ
@@ -165,11 +153,6 @@ module _ (k : Check) (a : Rewritten)
           e ∙ ap check.Refused i
 
 -- ---- the body call
-
--- its count is 0
-pub body-count : (xs : List ℕ) (n c : ℕ) → bodyResult xs .answer ≡ rewritten.Accepted n c → c ≡ 0
-unfolding bodyResult
-body-count xs n c h = sym (result-accepted [] (rewriting actionOf xs) n c .0 h .3)
 
 pub body-number : (xs out a b : List ℕ) (n : ℕ) → (n ≡ 1 → ⊥) → (n ≡ 2 → ⊥) → (n ≡ 3 → ⊥)
     → (callNumbers (bodyAnswer xs out a b) .number ≡ n)

@@ -8,7 +8,6 @@ use Prim.Native.Nat.{ℕ, _≤_, _<_}
 use borrow.Author.Tests.{ltb-true, ltb-false, lt-ltb, le-ltb}
 use lib.Dec.{ltb}
 use lib.ListN.{length}
-use Rattle.spec.proofs.Apart.{apart}
 use Rattle.spec.proofs.Choice.{by}
 use Rattle.spec.proofs.RefusalOutcomes.{firstTarget, assignedText, join-statements, firstClause, tokensText, join-tokens}
 use Rattle.spec.specs.Map.{bytes, markedText}
@@ -31,28 +30,6 @@ pub then-accepted : (r : Rewriting) (pass : List ℕ → Rewriting) (ys zs : Lis
     → andThen r pass ≡ accepted zs
 unfolding andThen limited
 then-accepted r pass ys zs e f h = rw (e, f, le-ltb bufferSize (length zs) h)
-
--- and only so is a text accepted
-pub then-accepted-only : (r : Rewriting) (pass : List ℕ → Rewriting) (zs : List ℕ)
-    → andThen r pass ≡ accepted zs
-    → (ys : List ℕ) × (r ≡ accepted ys) × (pass ys ≡ accepted zs) × (length zs ≤ bufferSize)
-unfolding andThen limited
-then-accepted-only (accepted ys) pass zs h =
-    let w = within (pass ys) h in
-    (ys, refl, w .0, w .1)
-  where
-    within : (s : Rewriting) → limited s ≡ accepted zs → (s ≡ accepted zs) × (length zs ≤ bufferSize)
-    within (accepted ws) h =
-        by (ltb bufferSize (length ws))
-        (λ e.
-        let f : refused resultTooLong ≡ accepted zs = rw e at h in
-        absurd (apart (cc)))
-        (λ e.
-        let f : accepted ws ≡ accepted zs = rw e at h in
-        let g : ws ≡ zs = cc in
-        (f, rw g at (ltb-false bufferSize (length ws) e)))
-    within (refused r) h = absurd (apart (cc))
-then-accepted-only (refused r) pass zs h = absurd (apart (cc))
 
 -- a longer text is refusal 6
 pub then-long : (r : Rewriting) (pass : List ℕ → Rewriting) (ys zs : List ℕ)

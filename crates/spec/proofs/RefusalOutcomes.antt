@@ -1,15 +1,13 @@
 -- What passes 3 and 5 give: the refusal of the first qualified target or USING clause, and text exactly if there is none.
 -- Assumes nothing.
-use mathlib.Core.Path.{_≡_, refl, sym, ap, _∙_}
-use mathlib.Core.Logic.{_↔_}
+use mathlib.Core.Path.{_≡_, refl, _∙_}
 use mathlib.Core.List.{List, [], _∷_, _++_}
 use mathlib.Core.Option.{Option, none, some}
 use Prim.Native.Nat.{ℕ}
-use Rattle.spec.proofs.Apart.{apart}
 use Rattle.spec.proofs.FirstFound.{eitherOf, firstSome}
 use Rattle.spec.specs.Bytes.{ascii}
 use Rattle.spec.specs.Map.{Marked, live, bytes, lives}
-use Rattle.spec.specs.Outcome.{PassRefusal, qualifiedTarget, usingClause, Outcome, accepted, refused, _⊕_}
+use Rattle.spec.specs.Outcome.{qualifiedTarget, usingClause, Outcome, accepted, refused, _⊕_}
 use Rattle.spec.specs.Assignments.{Target, statementTarget, assignment, checkedStatement, statement, joinStatements}
 use Rattle.spec.specs.Raise.{Fate, rewritten, dropped, passed, refusedClause, Token, kept, raised, fateText, tokenText, joinTokens}
 

@@ -1,8 +1,7 @@
 -- The starred rows of document 01, each by computation. A row that names no call is about a definition. Assumes nothing.
 use mathlib.Core.Path.{_≡_, refl}
-use mathlib.Core.Bool.{true, false}
-use mathlib.Core.List.{List, [], _∷_}
-use Prim.Native.Nat.{ℕ}
+use mathlib.Core.Bool.{false}
+use mathlib.Core.List.{[], _∷_}
 use Rattle.spec.specs.Bytes.{ascii}
 use Rattle.spec.specs.Map.{mapOf}
 use Rattle.spec.specs.Requote.{requoted}

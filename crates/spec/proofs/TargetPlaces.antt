@@ -4,8 +4,9 @@ use mathlib.Core.Path.{_≡_}
 use mathlib.Core.Bool.{Bool, true, false}
 use mathlib.Core.List.{List, map}
 use Prim.Native.Nat.{ℕ, suc, _+_, _-_, _≤_, _<_}
-use lib.ListN.{length, take, drop, getD}
-use Rattle.spec.proofs.SearchLaws.{IsWordAt, IsByteAt}
+use lib.ListN.{length, getD}
+use Rattle.spec.proofs.SearchLaws.{IsByteAt}
+use Rattle.spec.proofs.MatchLaws.{IsWordAt}
 use Rattle.spec.specs.Bytes.{ascii, isIdent, isWord, isW, isN}
 use Rattle.spec.specs.Parts.{part}
 use Rattle.spec.specs.Map.{Marked, live, quoted, bytes, markedText}

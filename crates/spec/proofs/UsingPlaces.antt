@@ -18,7 +18,7 @@ use Rattle.spec.proofs.ListLaws.{empty-length, while-sum}
 use Rattle.spec.proofs.MessagePlaces.{IsMessage, message-some, message-part, message-within, message-quote}
 use Rattle.spec.proofs.RefusalBounds.{bytes-length}
 use Rattle.spec.proofs.RunPlaces.{byte-ahead, Ahead, endFrom, ahead-at}
-use Rattle.spec.proofs.SearchLaws.{Same, prefix-at, at-prefix}
+use Rattle.spec.proofs.MatchLaws.{Same, prefix-at, at-prefix}
 use Rattle.spec.proofs.SpanLaws.{seen}
 use Rattle.spec.proofs.TrimLaws.{AllW}
 use Rattle.spec.proofs.WalkLaws.{prefix-by-len, starts-case, while-passes-at, while-exactly, while-exactly-at}

@@ -168,11 +168,6 @@ byte-before xs ms i p h =
     let e : i ≡ i - 1 + 1 = omega arith in
     ap (λ (k : ℕ). frontByte (reverse (take k (marked xs ms)))) e ∙ back-byte xs ms (i - 1) (omega arith)
 
--- at the front it is 0
-pub byte-before-front : (xs ms : List ℕ) → frontByte (reverse (take 0 (marked xs ms))) ≡ 0
-unfolding frontByte
-byte-before-front xs ms = refl
-
 -- ---- texts that start with a word, compared by any function of their bytes
 
 -- a text in front of which a word stands is at least as long
@@ -234,10 +229,6 @@ starts-case-at w xs ms i = starts-case w (drop i (marked xs ms)) ∙ ap (λ (l :
 pub starts-exact-at : (w xs ms : List ℕ) (i : ℕ) → starts w (drop i (marked xs ms)) ≡ prefixBy (λ (b : ℕ). b) w (drop i xs)
 starts-exact-at w xs ms i =
     starts-exact w (drop i (marked xs ms)) ∙ ap (λ (l : List ℕ). prefixBy (λ (b : ℕ). b) w l) (bytes-drop xs ms i)
-
--- and another map gives the same
-pub starts-any-map : (w xs ms ns : List ℕ) → startsIgnoringCase w (marked xs ms) ≡ startsIgnoringCase w (marked xs ns)
-starts-any-map w xs ms ns = starts-case-at w xs ms 0 ∙ sym (starts-case-at w xs ns 0)
 
 -- ---- the tests at an index, on the bytes and the map, for every set of word bytes
 
@@ -328,10 +319,6 @@ module _ {A : Type 0} (f : A → Bool) where
   unfolding dropWhile
   drop-front x t e = simp e
 
-  drop-stop : (x : A) (t : List A) → f x ≡ false → dropWhile f (x ∷ t) ≡ x ∷ t
-  unfolding dropWhile
-  drop-stop x t e = simp e
-
   -- the front that passes and what stands behind it are parts of the list
   pub while-take : (t : List A) → takeWhile f t ≡ take (length (takeWhile f t)) t
   unfolding takeWhile
@@ -387,10 +374,6 @@ module _ {A : Type 0} (f : A → Bool) where
     pub while-length-end : length t ≤ i → length (takeWhile f (drop i t)) ≡ 0
     while-length-end h = ap length (while-end h)
 
-    pub skip-end : length t ≤ i → dropWhile f (drop i t) ≡ []
-    unfolding dropWhile
-    skip-end h = rw (drop-of-length-le t h) refl
-
     module _ (d : A) (h : i < length t) where
       pub while-hit : f (getD t i d) ≡ true → takeWhile f (drop i t) ≡ getD t i d ∷ takeWhile f (drop (i + 1) t)
       while-hit e = ap (λ (l : List A). takeWhile f l) (drop-step t i d h) ∙ take-front (getD t i d) (drop (i + 1) t) e
@@ -403,14 +386,6 @@ module _ {A : Type 0} (f : A → Bool) where
 
       pub while-length-miss : f (getD t i d) ≡ false → length (takeWhile f (drop i t)) ≡ 0
       while-length-miss e = ap length (while-miss e)
-
-      pub skip-hit : f (getD t i d) ≡ true → dropWhile f (drop i t) ≡ dropWhile f (drop (i + 1) t)
-      skip-hit e = ap (λ (l : List A). dropWhile f l) (drop-step t i d h) ∙ drop-front (getD t i d) (drop (i + 1) t) e
-
-      pub skip-miss : f (getD t i d) ≡ false → dropWhile f (drop i t) ≡ drop i t
-      skip-miss e =
-          ap (λ (l : List A). dropWhile f l) (drop-step t i d h)
-          ∙ (drop-stop (getD t i d) (drop (i + 1) t) e ∙ sym (drop-step t i d h))
 
   -- from i on: the offsets that pass, and the one that does not
   pub while-passes-at : (t : List A) (d : A) (i k : ℕ) → i ≤ k → k < i + length (takeWhile f (drop i t)) → f (getD t k d) ≡ true

@@ -1,12 +1,12 @@
 -- Document 01, "Numbers handed back, and the limits": what each call answers, and what each lent buffer holds at exit,
 -- for every text and every length of the lent buffers. Assumes nothing.
 use Prim.Native.Nat.{ℕ, _+_, _-_, _*_}
-use mathlib.Core.Bool.{Bool, true, false, cond, not, _&&_, _||_}
+use mathlib.Core.Bool.{Bool, true, false, cond, not, _&&_}
 use mathlib.Core.List.{List, [], _∷_, _++_}
 use lib.Dec.{ltb, leb}
 use lib.ListN.{length, drop, replicate}
 use Rattle.spec.specs.Bytes.{isHigh}
-use Rattle.spec.specs.Lists.{any, takeWhile}
+use Rattle.spec.specs.Lists.{takeWhile}
 use Rattle.spec.specs.Map.{mapOf}
 use Rattle.spec.specs.Search.{findKeyword, findInCode, findStrInCode, wordPlace, wordText, splitInCode, hasUnterminatedDollarQuote, hasExceptionHandler}
 use Rattle.spec.specs.Requote.{requoted}

@@ -1,13 +1,13 @@
 -- Document 01, "The rewritten body", pass 3: assignments, and refusal 4. Assumes nothing.
-use Prim.Native.Nat.{ℕ, zero, suc, _+_, _-_}
-use mathlib.Core.Bool.{Bool, true, false, cond, not, _&&_, _||_}
+use Prim.Native.Nat.{ℕ, suc, _+_, _-_}
+use mathlib.Core.Bool.{Bool, cond, not, _&&_, _||_}
 use mathlib.Core.List.{List, [], _∷_, _++_, reverse}
 use mathlib.Core.Option.{Option, none, some}
 use lib.Dec.{eqb}
 use lib.ListN.{length, take, drop}
 use Rattle.spec.specs.Bytes.{ascii, isIdent, isDigit, isWord, isW, isN}
 use Rattle.spec.specs.Lists.{isEmpty, takeWhile, dropWhile, dropEnd}
-use Rattle.spec.specs.Map.{Marked, live, quoted, byte, bytes, lives, frontByte, ofByte}
+use Rattle.spec.specs.Map.{Marked, live, byte, bytes, lives, frontByte, ofByte}
 use Rattle.spec.specs.Outcome.{qualifiedTarget, Outcome, accepted, refused, _⊕_}
 use Rattle.spec.specs.Parts.{trim}
 use Rattle.spec.specs.Search.{Test, first, wordHere, needleHere, byteHere, pieces}

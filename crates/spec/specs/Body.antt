@@ -1,7 +1,7 @@
 -- Document 01, "The rewritten body": five passes, each over the whole result of the one before. Assumes nothing.
 use Prim.Native.Nat.{ℕ}
 use mathlib.Core.Bool.{cond}
-use mathlib.Core.List.{List, [], _∷_}
+use mathlib.Core.List.{List}
 use lib.Dec.{ltb}
 use lib.ListN.{length}
 use Rattle.spec.specs.Map.{markedText, bytes}

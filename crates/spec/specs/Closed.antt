@@ -3,11 +3,11 @@ use Prim.Native.Nat.{ℕ}
 use mathlib.Core.Bool.{Bool, true, false, cond, not, _&&_, _||_}
 use mathlib.Core.List.{List, [], _∷_}
 use lib.Dec.{eqb}
-use lib.ListN.{length, drop}
+use lib.ListN.{drop}
 use Rattle.spec.specs.Bytes.{ascii, isIdent}
-use Rattle.spec.specs.Lists.{isEmpty, takeWhile, dropWhile, any, all}
-use Rattle.spec.specs.Spans.{Kind, line, block, single, double, dollar, code, Lexeme, lexemes}
-use Rattle.spec.specs.Map.{Marked, live, quoted, byte, markedText, frontByte, ofByte, isLiveByte, Region, inCode, inLiteral, inComment, regionOf}
+use Rattle.spec.specs.Lists.{dropWhile, any, all}
+use Rattle.spec.specs.Spans.{Lexeme, lexemes}
+use Rattle.spec.specs.Map.{Marked, byte, markedText, frontByte, ofByte, isLiveByte, Region, inCode, inLiteral, inComment, regionOf}
 use Rattle.spec.specs.Search.{wordHere}
 
 -- the last byte is a live `;`, so the empty body isn't closed

@@ -1,14 +1,14 @@
 -- Document 01, "The declaration records". Assumes nothing.
 use Prim.Native.Nat.{ℕ, zero, suc, _+_, _-_, _*_}
-use mathlib.Core.Bool.{Bool, true, false, cond, not, _&&_, _||_}
-use mathlib.Core.List.{List, [], _∷_, _++_, map}
+use mathlib.Core.Bool.{Bool, true, cond, not, _&&_, _||_}
+use mathlib.Core.List.{List, [], _∷_, _++_}
 use mathlib.Core.Option.{Option, none, some}
 use lib.Dec.{eqb, ltb, leb}
 use lib.ListN.{length, getD, take, drop, replicate}
 use Rattle.spec.specs.Bytes.{ascii, isIdent, isW, isPrefix, isSame, isBefore}
 use Rattle.spec.specs.Lists.{isEmpty, takeWhile, keep}
-use Rattle.spec.specs.Map.{Marked, byte, bytes, markedText, ofByte, frontByte}
-use Rattle.spec.specs.Search.{Test, first, keywordHere, byteHere, starts, pieces}
+use Rattle.spec.specs.Map.{Marked, bytes, markedText, frontByte}
+use Rattle.spec.specs.Search.{first, keywordHere, byteHere, starts, pieces}
 use Rattle.spec.specs.Requote.{singleQuoted}
 use Rattle.spec.specs.Parts.{trim, part}
 use Rattle.spec.specs.declared.Found.{Found}

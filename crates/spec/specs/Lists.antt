@@ -1,5 +1,4 @@
 -- Lists by a test on their elements. Assumes nothing.
-use Prim.Native.Nat.{ℕ, suc}
 use mathlib.Core.Bool.{Bool, true, false, cond, _&&_, _||_}
 use mathlib.Core.List.{List, [], _∷_, _++_}
 

@@ -1,10 +1,9 @@
 -- Document 01, "The region map and searches": the map, and a text with its map. Assumes nothing.
 use Prim.Native.Nat.{ℕ, zero, suc}
-use mathlib.Core.Bool.{Bool, true, false, cond}
+use mathlib.Core.Bool.{Bool, true, false}
 use mathlib.Core.List.{List, [], _∷_, _++_, map}
 use lib.Dec.{eqb}
 use lib.ListN.{length, replicate}
-use Rattle.spec.specs.Lists.{any}
 use Rattle.spec.specs.Spans.{Kind, line, block, single, double, dollar, code, Lexeme, lexemes}
 use Rattle.spec.specs.declared.Span.{Span}
 use Rattle.spec.specs.declared.Span.the-variants.{Verbatim, Dollar, Code}

@@ -8,7 +8,7 @@ use lib.Dec.{eqb}
 use lib.ListN.{length, take, drop}
 use Rattle.spec.specs.Bytes.{ascii, isWord, isW}
 use Rattle.spec.specs.Lists.{isEmpty, takeWhile, dropWhile}
-use Rattle.spec.specs.Map.{Marked, live, quoted, byte, bytes, lives, markedText, frontByte, ofByte, isLiveByte}
+use Rattle.spec.specs.Map.{Marked, byte, bytes, lives, markedText, frontByte, ofByte, isLiveByte}
 use Rattle.spec.specs.Search.{wordHere, startsIgnoringCase}
 use Rattle.spec.specs.Outcome.{usingClause, Outcome, accepted, refused, _⊕_}
 use Rattle.spec.specs.Parts.{trim}

@@ -1,14 +1,14 @@
 -- Document 01, "The region map and searches": the searches of live text. A place in a text is what stands before it, read
 -- backwards, and what stands from it on; a search gives the first place that passes a test. Assumes nothing.
-use Prim.Native.Nat.{ℕ, zero, suc, _+_, _-_}
-use mathlib.Core.Bool.{Bool, true, false, cond, not, _&&_, _||_}
-use mathlib.Core.List.{List, [], _∷_, _++_, reverse}
+use Prim.Native.Nat.{ℕ, suc, _+_, _-_}
+use mathlib.Core.Bool.{Bool, true, false, cond, not, _&&_}
+use mathlib.Core.List.{List, [], _∷_, reverse}
 use lib.Dec.{eqb}
 use lib.ListN.{length, take, drop}
 use Rattle.spec.specs.Bytes.{ascii, upper, isWord, isN}
 use Rattle.spec.specs.Lists.{isEmpty, takeWhile, dropWhile, any}
 use Rattle.spec.specs.Spans.{Lexeme, lexemes}
-use Rattle.spec.specs.Map.{Marked, live, quoted, byte, isLive, markedText, bytes, frontByte, frontLive, isLiveByte}
+use Rattle.spec.specs.Map.{Marked, live, quoted, byte, markedText, bytes, frontByte, frontLive, isLiveByte}
 use Rattle.spec.specs.declared.Found.{Found}
 use Rattle.spec.specs.declared.Found.the-variants.{At, Nothing}
 use Rattle.spec.specs.declared.Span.{Span}

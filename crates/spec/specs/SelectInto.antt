@@ -1,12 +1,12 @@
 -- Document 01, "The rewritten body", pass 4: SELECT INTO, with a quote walk of its own. Assumes nothing.
-use Prim.Native.Nat.{ℕ, zero, suc, _+_, _-_}
-use mathlib.Core.Bool.{Bool, true, false, cond, not, _&&_, _||_}
+use Prim.Native.Nat.{ℕ, suc, _+_, _-_}
+use mathlib.Core.Bool.{Bool, cond, not, _&&_}
 use mathlib.Core.List.{List, [], _∷_, _++_, map, reverse}
 use lib.Dec.{eqb, ltb}
 use lib.ListN.{length, take, drop}
 use Rattle.spec.specs.Bytes.{ascii, isIdent, isQuote, isW}
 use Rattle.spec.specs.Lists.{isEmpty, takeWhile, dropEnd, any, keep}
-use Rattle.spec.specs.Map.{Marked, live, quoted, byte, isLive, lives, frontByte, ofByte, isLiveByte}
+use Rattle.spec.specs.Map.{Marked, live, quoted, lives, frontByte, ofByte}
 use Rattle.spec.specs.Search.{Test, first, isFound, wordHere, startsIgnoringCase, byteHere, pieces}
 use Rattle.spec.specs.Parts.{trim, trimEnd, part}
 use Rattle.spec.specs.declared.Found.{Found}

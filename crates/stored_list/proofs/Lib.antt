@@ -2,9 +2,9 @@ pub mod CountLaws
 pub mod StoringLaws
 pub mod FieldLaws
 pub mod NumberLaws
-pub mod MarkLaws
-pub mod LineLaws
-pub mod RunLaws
+pub mod FilledLaws
+pub mod ListLineLaws
+pub mod RepeatLaws
 pub mod FaultLaws
 pub mod TallyLaws
-pub mod Rows
+pub mod ListRows

@@ -1,6 +1,6 @@
 pub mod Fields
 pub mod Numbers
-pub mod Lines
+pub mod ListLines
 pub mod Runs
 pub mod Marks
 pub mod Fault

@@ -6,7 +6,7 @@ ghost use mathlib.Core.Bool.{false};
 ghost use Prim.Native.Nat.{_≤_};
 ghost use lib.ListN.{length, take, drop};
 ghost use lib.Seq.{sets};
-ghost use Rattle.stored_list.specs.Lines.{lineAt, noLine, startAfter, FirstRead, NextLine, LineIn};
+ghost use Rattle.stored_list.specs.ListLines.{lineAt, noLine, startAfter, FirstRead, NextLine, LineIn};
 
 pub struct Line {
     // The line's bytes are those from start up to end.

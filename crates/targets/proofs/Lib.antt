@@ -1,3 +1,3 @@
-pub mod NameLaws
+pub mod TargetNameLaws
 pub mod WalrusLaws
-pub mod MarkLaws
+pub mod MarkingLaws

@@ -14,7 +14,7 @@ use Rattle.spec.specs.Assignments.{rightSide, startsName}
 use Rattle.spec.proofs.AheadLaws.{rest-of}
 use Rattle.spec.proofs.LengthLaws.{right-le}
 use Rattle.spec.proofs.MapLaws.{marked-bytes, marked-length}
-use Rattle.assignments.proofs.SetLaws.{name-bytes, no-name, no-right, set-bytes}
+use Rattle.assignments.proofs.AssignmentTextLaws.{name-bytes, no-name, no-right, set-bytes}
 use borrow.Author.Needs.{needs}
 use Rattle.assignments.proofs.put_assignment.Statement.{statement}
 use Rattle.assignments.proofs.put_assignment.Tie as tie

@@ -1,6 +1,6 @@
 -- `assignments::put_set` meets its contract. `set-written` joins the stores of the five calls to that of the whole
 -- text. Assumes nothing.
-use Rattle.assignments.proofs.SetLaws.{set-written}
+use Rattle.assignments.proofs.AssignmentTextLaws.{set-written}
 use borrow.Author.Needs.{needs}
 use Rattle.assignments.proofs.put_set.Statement.{statement}
 use Rattle.assignments.proofs.put_set.Tie as tie

@@ -9,7 +9,7 @@ use Rattle.spec.specs.Search.{first}
 use Rattle.spec.specs.Assignments.{assignHere, assignmentAt, assignment}
 use Rattle.spec.proofs.FirstLaws.{nonempty-word}
 use Rattle.spec.proofs.MapLaws.{marked-bytes, marked-length}
-use Rattle.assignments.proofs.SetLaws.{assign-inside}
+use Rattle.assignments.proofs.AssignmentTextLaws.{assign-inside}
 use borrow.Author.Needs.{needs}
 use Rattle.assignments.proofs.rewrite_assignment.Statement.{statement}
 use Rattle.assignments.proofs.rewrite_assignment.Tie as tie

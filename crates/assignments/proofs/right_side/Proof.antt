@@ -3,7 +3,7 @@
 use native.Mathlib.Omega.{arith}
 use mathlib.Core.Path.{sym, _∙_}
 use lib.Seq.{length-take-le}
-use Rattle.assignments.proofs.SetLaws.{right-at}
+use Rattle.assignments.proofs.AssignmentTextLaws.{right-at}
 use borrow.Author.Needs.{needs}
 use Rattle.assignments.proofs.right_side.Statement.{statement}
 use Rattle.assignments.proofs.right_side.Tie as tie

@@ -2,7 +2,7 @@
 -- tests on the first byte; each return rewrites it with the tests made. Assumes nothing.
 use mathlib.Core.Path.{sym, ap, _∙_}
 use Rattle.spec.specs.Bytes.{isIdent, isDigit}
-use Rattle.assignments.proofs.SetLaws.{name-at}
+use Rattle.assignments.proofs.AssignmentTextLaws.{name-at}
 use borrow.Author.Needs.{needs}
 use Rattle.assignments.proofs.starts_name.Statement.{statement}
 use Rattle.assignments.proofs.starts_name.Tie as tie

@@ -1,6 +1,6 @@
 -- `checks::check_needle` meets its contract. The definition is rewritten with what `first_high` found: one answer for
 -- each case of the match. Assumes nothing.
-use mathlib.Core.Path.{_≡_, refl, sym, _∙_}
+use mathlib.Core.Path.{refl, sym, _∙_}
 use borrow.Author.Needs.{needs}
 use Rattle.checks.proofs.check_needle.Statement.{statement}
 use Rattle.checks.proofs.check_needle.Tie as tie

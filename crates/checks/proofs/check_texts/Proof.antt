@@ -1,6 +1,6 @@
 -- `checks::check_texts` meets its contract. `checkOf` makes the same tests in the same order; at each return it is
 -- rewritten with the tests that led there, and the last one is left to `check_needle`. Assumes nothing.
-use mathlib.Core.Path.{_≡_, refl, sym, _∙_}
+use mathlib.Core.Path.{refl, sym, _∙_}
 use borrow.Author.Tests.{lt-ltb, le-ltb}
 use Rattle.spec.specs.Answers.{checkOf}
 use borrow.Author.Needs.{needs}

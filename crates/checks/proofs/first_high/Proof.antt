@@ -2,7 +2,7 @@
 -- is i and the count from i on, so that no byte before i is over 127. Assumes nothing.
 use native.Mathlib.Omega.{arith}
 use borrow.Author.Needs.{needs}
-use mathlib.Core.Path.{_≡_, sym, _∙_}
+use mathlib.Core.Path.{_≡_, _∙_}
 use Prim.Native.Nat.{_+_, _-_, _≤_}
 use lib.ListN.{length}
 use Rattle.checks.proofs.HighLaws.{lowFrom, low-step, low-stop, low-end}

@@ -9,7 +9,7 @@ use Rattle.spec.proofs.MapLaws.{marked-length}
 use Rattle.spec.specs.Parts.{part}
 use Rattle.declared_parts.proofs.BetweenLaws.{between-length}
 use Rattle.declared_parts.proofs.ReadLaws.{marked-between}
-use Rattle.declarations.specs.Records.{recordsOfSection, recordsIn}
+use Rattle.declarations.specs.SectionRecords.{recordsOfSection, recordsIn}
 use borrow.Author.Needs.{needs}
 use Rattle.declarations.proofs.parse_declarations.Statement.{statement}
 use Rattle.declarations.proofs.parse_declarations.Tie as tie

@@ -4,7 +4,7 @@ use native.Mathlib.Omega.{arith}
 use mathlib.Core.Path.{refl}
 use Prim.Native.Nat.{_+_, _<_, _^_}
 use borrow.Author.Tests.{le-leb, lt-leb}
-use Rattle.declarations.specs.Records.{declareEnd}
+use Rattle.declarations.specs.SectionRecords.{declareEnd}
 use borrow.Author.Needs.{needs}
 use Rattle.declarations.proofs.section_at.Statement.{statement}
 use Rattle.declarations.proofs.section_at.Tie as tie

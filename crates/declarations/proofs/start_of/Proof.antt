@@ -4,7 +4,7 @@ use native.Mathlib.Omega.{arith}
 use mathlib.Core.Path.{_≡_, refl, sym, _∙_}
 use Prim.Native.Nat.{_+_}
 use Rattle.spec.specs.Bytes.{isBefore}
-use Rattle.declarations.specs.Chain.{nameIn, InChain}
+use Rattle.declarations.specs.Chain.{nameIn}
 use Rattle.declarations.proofs.InsertLaws.{behind-other}
 use borrow.Author.Needs.{needs}
 use Rattle.declarations.proofs.start_of.Statement.{statement}

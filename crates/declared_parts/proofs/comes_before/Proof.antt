@@ -6,7 +6,7 @@ use mathlib.Core.Path.{_≡_, refl, sym, _∙_}
 use Prim.Native.Nat.{_-_}
 use lib.ListN.{length, drop}
 use Rattle.spec.specs.Bytes.{isBefore}
-use Rattle.declared_parts.proofs.NameLaws.{before-short, before-step, before-other, before-over}
+use Rattle.declared_parts.proofs.DeclaredNameLaws.{before-short, before-step, before-other, before-over}
 use Rattle.declared_parts.proofs.comes_before.Statement.{statement}
 use Rattle.declared_parts.proofs.comes_before.Tie as tie
 

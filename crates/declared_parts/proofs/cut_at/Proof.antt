@@ -3,7 +3,7 @@
 use native.Mathlib.Omega.{arith}
 use mathlib.Core.Path.{refl}
 use Prim.Native.Nat.{_≤_}
-use Rattle.declared_parts.specs.Parts.{cutOf}
+use Rattle.declared_parts.specs.DeclaredParts.{cutOf}
 use borrow.Author.Needs.{needs}
 use Rattle.declared_parts.proofs.cut_at.Statement.{statement}
 use Rattle.declared_parts.proofs.cut_at.Tie as tie

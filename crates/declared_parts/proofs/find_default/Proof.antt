@@ -6,7 +6,7 @@ use Rattle.spec.specs.Map.{marked}
 use Rattle.spec.specs.Search.{first, keywordHere}
 use Rattle.spec.specs.Lists.{isEmpty}
 use Rattle.spec.proofs.MapLaws.{marked-length}
-use Rattle.declared_parts.proofs.CutLaws.{Fits, cut-same, fits-same}
+use Rattle.declared_parts.proofs.DefaultCutLaws.{Fits, cut-same, fits-same}
 use lib.ListN.{length}
 use borrow.Author.Needs.{needs}
 use Rattle.declared_parts.proofs.find_default.Statement.{statement}

@@ -10,8 +10,8 @@ use Rattle.spec.specs.Bytes.{ascii, isPrefix}
 use Rattle.spec.specs.Map.{marked}
 use Rattle.spec.specs.Search.{first}
 use Rattle.spec.proofs.AheadLaws.{rest-of}
-use Rattle.declared_parts.specs.Parts.{walrusHere}
-use Rattle.declared_parts.proofs.CutLaws.{walrus-end, walrus-hit, walrus-miss}
+use Rattle.declared_parts.specs.DeclaredParts.{walrusHere}
+use Rattle.declared_parts.proofs.DefaultCutLaws.{walrus-end, walrus-hit, walrus-miss}
 use Rattle.declared_parts.proofs.find_walrus.Statement.{statement}
 use Rattle.declared_parts.proofs.find_walrus.Tie as tie
 

@@ -10,7 +10,7 @@ use Prim.Native.Nat.{ℕ, _≤_, _-_, _+_, _*_}
 use lib.ListN.{length, drop}
 use lib.Seq.{sets}
 use native.Mathlib.Numerals.{add-one}
-use Rattle.declared_parts.specs.Parts.{spaced}
+use Rattle.declared_parts.specs.DeclaredParts.{spaced}
 use Rattle.declared_parts.proofs.SpacedLaws.{spaced-over, spaced-w, spaced-gap, spaced-next}
 use Rattle.declared_parts.proofs.put_spaced.Statement.{statement}
 use Rattle.declared_parts.proofs.put_spaced.Tie as tie

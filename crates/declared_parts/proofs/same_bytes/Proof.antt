@@ -5,7 +5,7 @@ use borrow.Author.Needs.{needs}
 use mathlib.Core.Path.{_≡_, ap}
 use Prim.Native.Nat.{_-_, _≤_}
 use lib.ListN.{length, getD, drop}
-use Rattle.declared_parts.proofs.NameLaws.{same-end, same-step, same-all, not-same}
+use Rattle.declared_parts.proofs.DeclaredNameLaws.{same-end, same-step, same-all, not-same}
 use Rattle.declared_parts.proofs.same_bytes.Statement.{statement}
 use Rattle.declared_parts.proofs.same_bytes.Tie as tie
 

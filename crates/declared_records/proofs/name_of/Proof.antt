@@ -1,7 +1,7 @@
 -- `declared_records::name_of` meets its contract. `piece` is rewritten with the two numbers that `number` read. Assumes
 -- nothing.
 use mathlib.Core.Path.{refl, _∙_}
-use Rattle.declared_parts.specs.Parts.{declaredBy}
+use Rattle.declared_parts.specs.DeclaredParts.{declaredBy}
 use borrow.Author.Needs.{needs}
 use Rattle.declared_records.proofs.name_of.Statement.{statement}
 use Rattle.declared_records.proofs.name_of.Tie as tie

@@ -1,6 +1,6 @@
 -- `declared_records::put_part` meets its contract. What is asked of the part makes each number fit 32 bits; the stores
 -- are those of `put_numbers`. Assumes nothing.
-use Rattle.declared_parts.specs.Parts.{partNumbers}
+use Rattle.declared_parts.specs.DeclaredParts.{partNumbers}
 use borrow.Author.Needs.{needs}
 use Rattle.declared_records.proofs.put_part.Statement.{statement}
 use Rattle.declared_records.proofs.put_part.Tie as tie

@@ -4,12 +4,12 @@
 use borrow.Author.Needs.{needs}
 use mathlib.Core.Path.{_≡_, refl, sym, ap, _∙_}
 use mathlib.Core.List.{List}
-use Prim.Native.Nat.{ℕ, _+_, _-_, _*_, _≤_, _<_}
+use Prim.Native.Nat.{ℕ, _+_, _-_, _*_, _≤_}
 use native.Mathlib.Omega.{arith}
 use lib.ListN.{length, drop, getD}
 use lib.Seq.{sets}
 use Rattle.spec.specs.Requote.{doubled}
-use Rattle.output.proofs.StoreLaws.{at-quote, at-plain, at-last, Turn, turn-one, turn-two}
+use Rattle.output.proofs.StoreLaws.{at-quote, at-plain, at-last, turn-one, turn-two}
 use Rattle.output.proofs.put_doubled.Statement.{statement}
 use Rattle.output.proofs.put_doubled.Tie as tie
 

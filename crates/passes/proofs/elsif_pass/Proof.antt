@@ -3,7 +3,7 @@
 use native.Mathlib.Omega.{arith}
 use lib.ListN.{length}
 use lib.Seq.{length-take-le}
-use mathlib.Core.Path.{_≡_, refl, sym, ap, _∙_}
+use mathlib.Core.Path.{sym}
 use Rattle.passes.proofs.StageLaws.{front-map}
 use borrow.Author.Needs.{needs}
 use Rattle.passes.proofs.elsif_pass.Statement.{statement}

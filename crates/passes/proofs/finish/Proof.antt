@@ -1,6 +1,5 @@
 -- `passes::finish` meets its contract: as many bytes are copied as the answer says. Assumes nothing.
 use mathlib.Core.Path.{_≡_, ap, _∙_}
-use Prim.Native.Nat.{ℕ, _≤_}
 use lib.ListN.{take}
 use Rattle.spec.specs.Answers.{callNumbers}
 use Rattle.spec.specs.declared.Rewritten.{Rewritten}

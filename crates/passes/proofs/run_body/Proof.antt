@@ -1,14 +1,13 @@
 -- `passes::run_body` meets its contract. The answer is that of `run_passes`; `zeros-behind-part` says of each buffer
 -- that filling it leaves the result, or nothing, with zeros behind and the rest past `size` as it was. Assumes nothing.
-use Rattle.passes.proofs.EndLaws.{answer-length, zeros-behind-part}
+use Rattle.passes.proofs.BufferEndLaws.{answer-length, zeros-behind-part}
 use Rattle.spec.specs.Answers.{bodyResult, callNumbers}
 use Rattle.spec.specs.Raise.{actionOf}
 use Rattle.spec.specs.Body.{rewriting}
 use mathlib.Core.List.{[]}
-use native.Mathlib.Omega.{arith}
-use lib.ListN.{length, take}
+use lib.ListN.{length}
 use lib.Seq.{length-take-le}
-use mathlib.Core.Path.{_≡_, refl, sym, ap, _∙_}
+use mathlib.Core.Path.{refl, sym, ap, _∙_}
 use borrow.Author.Needs.{needs}
 use Rattle.passes.proofs.run_body.Statement.{statement}
 use Rattle.passes.proofs.run_body.Tie as tie

@@ -12,8 +12,7 @@ use Rattle.spec.specs.Requote.{requoted}
 use Rattle.spec.specs.Elsif.{elsif}
 use Rattle.spec.specs.Raise.{actionOf}
 use Rattle.spec.specs.Body.{limited, assignPass, selectPass, raisePass}
-use Rattle.spec.specs.Answers.{callNumbers, resultOf}
-use Rattle.output.specs.declared.Pass.{Pass}
+use Rattle.spec.specs.Answers.{resultOf}
 use Rattle.output.specs.declared.Pass.the-variants.{Done}
 use Rattle.passes.specs.Gives.{Gives, finished}
 use Rattle.passes.proofs.StageLaws.{requoted-front, spelled-front, given-fits, given-as, third-stops, fourth-stops, fifth-gives, gives-copied, too-long-gives}

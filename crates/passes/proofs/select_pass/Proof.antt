@@ -1,14 +1,12 @@
 -- `passes::select_pass` meets its contract: the pass reads the text with its map, and what it answers and leaves, within the buffer
 -- size, is what pass 4 gives. Assumes nothing.
-use mathlib.Core.Path.{_≡_, sym, ap, _∙_}
+use mathlib.Core.Path.{sym}
 use native.Mathlib.Omega.{arith}
-use lib.ListN.{length, take}
+use lib.ListN.{length}
 use lib.Seq.{length-take-le}
-use Rattle.spec.specs.Map.{Marked, marked, bytes}
+use Rattle.spec.specs.Map.{bytes}
 use Rattle.spec.specs.SelectInto.{quoteWalk, selectInto}
 use Rattle.spec.specs.Body.{selectPass}
-use Rattle.output.specs.declared.Pass.{Pass}
-use Rattle.passes.specs.Gives.{Gives, finished}
 use Rattle.passes.proofs.StageLaws.{front-quotes, counted-gives}
 use borrow.Author.Needs.{needs}
 use Rattle.passes.proofs.select_pass.Statement.{statement}

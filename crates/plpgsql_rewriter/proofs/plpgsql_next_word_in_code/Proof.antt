@@ -1,6 +1,6 @@
 -- `plpgsql_rewriter::plpgsql_next_word_in_code` meets its contract: the map as `next_word_in_code` leaves it, its three
 -- numbers, and the length of the part that it gives back as the fourth. Assumes nothing.
-use mathlib.Core.Path.{refl, ap, _∙_}
+use mathlib.Core.Path.{refl, _∙_}
 use borrow.Author.Needs.{needs}
 use Rattle.plpgsql_rewriter.proofs.plpgsql_next_word_in_code.Statement.{statement}
 use Rattle.plpgsql_rewriter.proofs.plpgsql_next_word_in_code.Tie as tie

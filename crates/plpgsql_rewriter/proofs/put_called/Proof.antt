@@ -1,7 +1,6 @@
 -- `plpgsql_rewriter::put_called` meets its contract, by the two answers. Assumes nothing.
 use mathlib.Core.Path.{refl, _∙_}
 use borrow.Author.Needs.{needs}
-use Rattle.plpgsql_rewriter.specs.Four.{narrow}
 use Rattle.plpgsql_rewriter.proofs.put_called.Statement.{statement}
 use Rattle.plpgsql_rewriter.proofs.put_called.Tie as tie
 

@@ -1,6 +1,6 @@
 -- `preprocessor::all_lent` meets its contract. Each return rewrites the conjunction with the answer of `are_lent` and
 -- the comparisons made so far. Assumes nothing.
-use mathlib.Core.Path.{_≡_, refl, sym, ap, _∙_}
+use mathlib.Core.Path.{refl, sym, _∙_}
 use borrow.Author.Tests.{lt-leb, le-leb}
 use borrow.Author.Needs.{needs}
 use Rattle.preprocessor.proofs.all_lent.Statement.{statement}

@@ -1,6 +1,6 @@
 -- `preprocessor::are_lent` meets its contract. Each return rewrites the conjunction with the comparisons made so far.
 -- Assumes nothing.
-use mathlib.Core.Path.{_≡_, refl, sym, ap, _∙_}
+use mathlib.Core.Path.{refl}
 use borrow.Author.Tests.{lt-leb, le-leb}
 use Rattle.preprocessor.proofs.are_lent.Statement.{statement}
 use Rattle.preprocessor.proofs.are_lent.Tie as tie

@@ -1,10 +1,10 @@
 -- `preprocessor::preprocess` meets its contract. The definitions are rewritten with the outcome of the checks: where
 -- they have passed, the lengths that `run_function` asks for follow, and its promises are those of the call; where they
 -- refuse, nothing is changed. Assumes nothing.
-use mathlib.Core.Path.{_≡_, refl, sym, ap, _∙_}
+use mathlib.Core.Path.{refl, sym, _∙_}
 use mathlib.Core.List.{[]}
 use Rattle.preprocessor.proofs.LentLaws.{three-lent, two-lent}
-use Rattle.spec.proofs.SearchLaws.{check-only}
+use Rattle.spec.proofs.CheckLaws.{check-only}
 use Rattle.spec.specs.declared.Check.the-variants.{Passed}
 use Rattle.spec.specs.Answers.{textLimit, areLent, functionCheck, functionAnswer, functionOutput, functionText, functionRecords, workExit}
 use Rattle.spec.specs.Body.{bufferSize}

@@ -1,9 +1,9 @@
 -- `preprocessor::refuse_names` meets its contract. Each of the five buffers is filled from 0 on, which `zeros-behind`
 -- turns into zeros behind an empty result. Assumes nothing.
-use mathlib.Core.Path.{_≡_, refl, sym, ap, _∙_}
+use mathlib.Core.Path.{refl, _∙_}
 use mathlib.Core.List.{[]}
 use native.Mathlib.Omega.{arith}
-use Rattle.passes.proofs.EndLaws.{zeros-behind}
+use Rattle.passes.proofs.BufferEndLaws.{zeros-behind}
 use borrow.Author.Needs.{needs}
 use Rattle.preprocessor.proofs.refuse_names.Statement.{statement}
 use Rattle.preprocessor.proofs.refuse_names.Tie as tie

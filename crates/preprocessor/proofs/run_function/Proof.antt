@@ -1,7 +1,7 @@
 -- `preprocessor::run_function` meets its contract, by the two answers of `parse_declarations`. Refused, all buffers are
 -- zeroed as they were lent, since the map and the records stand in front of where the zeros end. Else the body's result
 -- and the records packed are what `functionResult` says, with zeros behind. Assumes nothing.
-use mathlib.Core.Path.{_≡_, refl, sym, ap, subst, _∙_}
+use mathlib.Core.Path.{_≡_, sym, ap, subst, _∙_}
 use mathlib.Core.List.{List, []}
 use Prim.Native.Nat.{ℕ, _-_}
 use native.Mathlib.Omega.{arith}
@@ -9,8 +9,8 @@ use lib.ListN.{length, take, drop, length-drop}
 use lib.Seq.{take-all}
 use Rattle.spec.specs.Map.{mapOf}
 use Rattle.spec.proofs.MapLaws.{map-length}
-use Rattle.spec.specs.Answers.{bodyResult, functionResult, zeroedTo}
-use Rattle.passes.proofs.EndLaws.{zeros-behind}
+use Rattle.spec.specs.Answers.{bodyResult, zeroedTo}
+use Rattle.passes.proofs.BufferEndLaws.{zeros-behind}
 use Rattle.preprocessor.proofs.FunctionLaws.{kept-drop, zeroed-same, at-most, count-small, numbers-small, texts-small, output-is, answer-is, texts-are, numbers-are, texts-kept, refused-is, texts-same}
 use borrow.Author.Needs.{needs}
 use Rattle.preprocessor.proofs.run_function.Statement.{statement}

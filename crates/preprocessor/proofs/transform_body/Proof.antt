@@ -2,11 +2,11 @@
 -- where they have passed, the lengths that `run_body` asks for follow, and its promises are those of the call; where
 -- they refuse, nothing is changed. Assumes nothing.
 use Rattle.preprocessor.proofs.LentLaws.{three-lent}
-use Rattle.spec.proofs.SearchLaws.{check-only}
+use Rattle.spec.proofs.CheckLaws.{check-only}
 use Rattle.spec.specs.declared.Check.the-variants.{Passed}
 use Rattle.spec.specs.Answers.{textLimit, areLent, bodyCheck, bodyAnswer, bodyOutput, workExit}
 use Rattle.spec.specs.Body.{bufferSize}
-use mathlib.Core.Path.{_≡_, refl, sym, ap, _∙_}
+use mathlib.Core.Path.{refl, sym, _∙_}
 use mathlib.Core.List.{[]}
 use borrow.Author.Needs.{needs}
 use Rattle.preprocessor.proofs.transform_body.Statement.{statement}

@@ -7,7 +7,7 @@ use Prim.Native.Nat.{_-_, _≤_}
 use lib.ListN.{length, drop, length-set}
 use lib.Seq.{sets}
 use Rattle.quotes.specs.QuoteMap.{quoteMapFrom, quoteMap}
-use Rattle.quotes.proofs.QuoteLaws.{quotes-kept, quotes-start, quotes-step, quotes-end}
+use Rattle.quotes.proofs.QuoteMapLaws.{quotes-kept, quotes-start, quotes-step, quotes-end}
 use Rattle.quotes.proofs.map_quotes.Statement.{statement}
 use Rattle.quotes.proofs.map_quotes.Tie as tie
 

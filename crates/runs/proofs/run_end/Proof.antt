@@ -1,51 +1,66 @@
--- `runs::run_end` meets its contract: the run is empty, or goes on behind its first byte. Assumes nothing.
-use mathlib.Core.Path.{sym, _∙_}
 use native.Mathlib.Omega.{arith}
-use lib.ListN.{length}
-use Rattle.runs.specs.Sets.{inSet}
-use Rattle.runs.proofs.RunLaws.{end-past, end-step, end-here}
 use borrow.Author.Needs.{needs}
+use mathlib.Core.Path.{_≡_, sym, _∙_}
+use Prim.Native.Nat.{_-_}
+use lib.ListN.{length}
+use Rattle.spec.proofs.RunPlaces.{endFrom}
+use Rattle.runs.specs.Sets.{inSet}
+use Rattle.runs.proofs.RunLaws.{end-past, end-within, end-step, end-here}
 use Rattle.runs.proofs.run_end.Statement.{statement}
 use Rattle.runs.proofs.run_end.Tie as tie
 
-shared-slice-read-is-in : tie.Need-shared-slice-read-is-in
+abbrev Inv-loop : tie.InvT-loop
+Inv-loop text set from i₀ i = endFrom (inSet set) text from ≡ endFrom (inSet set) text i
+
+abbrev μ-loop : tie.MeasureT-loop
+μ-loop text set from i₀ i = length text - i
+
+loop-holds : tie.Need-loop-holds Inv-loop μ-loop
+loop-holds c = search needs
+
+shared-slice-read-is-in : tie.Need-shared-slice-read-is-in Inv-loop μ-loop
 shared-slice-read-is-in c = search needs
 
-is-in-requires : tie.Need-is-in-requires
+is-in-requires : tie.Need-is-in-requires Inv-loop μ-loop
 is-in-requires c κs = search needs
 
-add-run-end-loop : tie.Need-add-run-end-loop
-add-run-end-loop c = search needs
+add-i : tie.Need-add-i Inv-loop μ-loop
+add-i c = search needs
 
-run-end-loop-requires : tie.Need-run-end-loop-requires
-run-end-loop-requires c κs = search needs
+loop-less : tie.Need-loop-less Inv-loop μ-loop
+loop-less c = search needs
 
-returns : tie.Need-returns
+loop-again : tie.Need-loop-again Inv-loop μ-loop
+loop-again c =
+    let a = c .before .before .before .before .before .before .args in
+    let l = c .before .before .before .before .loop in
+    l .inv ∙ end-step (inSet (a .set)) (a .text .now) (l .i) 0 (omega arith) (sym (c .before .is-in .ensures) ∙ c .if1 .taken)
+
+returns : tie.Need-returns Inv-loop μ-loop
 returns c =
-    let at-is-in = c .before .before in
-    let a = at-is-in .before .before .before .before .args in
-    let e = end-step (inSet (a .set)) (a .text .now) (a .from) 0 (at-is-in .before .before .if1 .taken) (sym (at-is-in .is-in .ensures) ∙ c .before .if2 .taken) in
-    (c .run-end-loop .ensures .0 ∙ sym e, λ h. c .run-end-loop .ensures .1 (omega (arith, at-is-in .before .before .if1 .taken)))
+    let a = c .before .before .before .before .before .before .args in
+    let l = c .before .before .before .before .loop in
+    let e = l .inv ∙ end-here (inSet (a .set)) (a .text .now) (l .i) 0 (omega arith) (sym (c .before .is-in .ensures) ∙ c .if1 .left) in
+    (sym e, λ h. omega (arith, end-within (inSet (a .set)) (a .text .now) (a .from) h))
 
-returns-2 : tie.Need-returns-2
+returns-2 : tie.Need-returns-2 Inv-loop μ-loop
 returns-2 c =
-    let at-is-in = c .before in
-    let a = at-is-in .before .before .before .before .args in
-    (sym (end-here (inSet (a .set)) (a .text .now) (a .from) 0 (at-is-in .before .before .if1 .taken) (sym (at-is-in .is-in .ensures) ∙ c .if2 .left)), λ h. h)
-
-returns-3 : tie.Need-returns-3
-returns-3 c =
-    let a = c .before .before .args in
-    (sym (end-past (inSet (a .set)) (a .text .now) (a .from) (c .if1 .left)), λ h. h)
+    let a = c .before .before .before .args in
+    let l = c .before .loop in
+    let e = l .inv ∙ end-past (inSet (a .set)) (a .text .now) (l .i) (omega arith) in
+    (sym e, λ h. omega (arith, end-within (inSet (a .set)) (a .text .now) (a .from) h))
 
 pub run-end-spec : {M : Type 1} → statement M
 run-end-spec =
     tie.close
     (tie.spec
+    Inv-loop
+    μ-loop
+    loop-holds
     shared-slice-read-is-in
     is-in-requires
-    add-run-end-loop
-    run-end-loop-requires
+    add-i
+    loop-less
+    loop-again
     returns
-    returns-2
-    returns-3)
+    returns-2)

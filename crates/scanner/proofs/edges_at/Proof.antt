@@ -1,7 +1,7 @@
 -- `scanner::edges_at` meets its contract. `edges` makes the same three tests, on the map's byte and on the bytes before
 -- and behind; each return rewrites it with their answers. Assumes nothing.
-use mathlib.Core.Path.{sym, ap, _∙_}
-use borrow.Author.Tests.{eq-eqb, ne-eqb}
+use mathlib.Core.Path.{sym, _∙_}
+use borrow.Author.Tests.{ne-eqb}
 use Rattle.scanner.specs.Edges.{edges}
 use borrow.Author.Needs.{needs}
 use Rattle.scanner.proofs.edges_at.Statement.{statement}

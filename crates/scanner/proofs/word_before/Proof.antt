@@ -1,6 +1,6 @@
 -- `scanner::word_before` meets its contract. The test on i decides the definition; where i is not 0 the two calls give
 -- the class of the byte before. Assumes nothing.
-use mathlib.Core.Path.{sym, ap, _∙_}
+use mathlib.Core.Path.{ap, _∙_}
 use borrow.Author.Tests.{eq-eqb, ne-eqb}
 use Rattle.spec.specs.Bytes.{isWord}
 use borrow.Author.Needs.{needs}

@@ -1,6 +1,6 @@
 -- `searches::filled_answer` meets its contract. `filledAnswer` computes once the case of the check is known. Assumes
 -- nothing.
-use mathlib.Core.Path.{refl, sym}
+use mathlib.Core.Path.{refl}
 use borrow.Author.Needs.{needs}
 use Rattle.searches.proofs.filled_answer.Statement.{statement}
 use Rattle.searches.proofs.filled_answer.Tie as tie

@@ -3,7 +3,7 @@
 -- Assumes nothing.
 use mathlib.Core.Path.{_≡_, refl, sym, ap, _∙_}
 use mathlib.Core.List.{[]}
-use Rattle.spec.specs.Answers.{mapCheck, byteAnswer, searchAnswer, yesNo}
+use Rattle.spec.specs.Answers.{mapCheck, byteAnswer, searchAnswer}
 use Rattle.spec.specs.Search.{findInCode}
 use Rattle.spec.specs.declared.Check.the-variants.{Passed}
 use Rattle.searches.proofs.CheckedLaws.{passed-marks}

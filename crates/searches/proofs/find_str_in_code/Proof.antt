@@ -2,8 +2,7 @@
 -- as `markedText` does, so that `find_str_in` answers for the text itself; where they refuse, so does the definition.
 -- Assumes nothing.
 use mathlib.Core.Path.{_≡_, refl, sym, ap, _∙_}
-use mathlib.Core.List.{[]}
-use Rattle.spec.specs.Answers.{mapCheck, needleAnswer, searchAnswer, yesNo}
+use Rattle.spec.specs.Answers.{mapCheck, needleAnswer, searchAnswer}
 use Rattle.spec.specs.Search.{findStrInCode}
 use Rattle.spec.specs.declared.Check.the-variants.{Passed}
 use Rattle.searches.proofs.CheckedLaws.{passed-marks}

@@ -1,5 +1,5 @@
 -- `searches::found_answer` meets its contract. `searchAnswer` computes once the case is known. Assumes nothing.
-use mathlib.Core.Path.{refl, sym}
+use mathlib.Core.Path.{refl}
 use borrow.Author.Needs.{needs}
 use Rattle.searches.proofs.found_answer.Statement.{statement}
 use Rattle.searches.proofs.found_answer.Tie as tie

@@ -1,6 +1,6 @@
 -- `searches::has_unterminated_dollar_quote` meets its contract. The answer is rewritten with the outcome of
 -- `check_texts`: where it has passed `has_unterminated` decides. Assumes nothing.
-use mathlib.Core.Path.{_≡_, refl, sym, ap, _∙_}
+use mathlib.Core.Path.{refl, sym, ap, _∙_}
 use Rattle.spec.specs.Answers.{unterminatedAnswer, searchLimit, searchAnswer, yesNo}
 use Rattle.spec.specs.declared.Check.the-variants.{Passed}
 use borrow.Author.Needs.{needs}

@@ -1,8 +1,7 @@
 -- `searches::map_checked` meets its contract. `map-fits` and `map-short` say what `mapCheck` is by the lengths of text
 -- and map; the map is changed only where the check has passed. Assumes nothing.
-use mathlib.Core.Path.{_≡_, refl, sym, ap, _∙_}
+use mathlib.Core.Path.{sym, _∙_}
 use Rattle.spec.specs.Answers.{mapExit}
-use Rattle.spec.specs.declared.Check.the-variants.{Passed}
 use Rattle.searches.proofs.CheckedLaws.{map-fits, map-short, short-exit, refused-exit, passed-map}
 use borrow.Author.Needs.{needs}
 use Rattle.searches.proofs.map_checked.Statement.{statement}

@@ -2,13 +2,12 @@
 -- `markedText` does (`marks`), and the word lies between `word_start` and `word_end`: found where these differ, none
 -- where not. Else the numbers are the refusal's. Assumes nothing.
 use native.Mathlib.Omega.{arith}
-use mathlib.Core.Path.{_≡_, refl, sym, ap, _∙_}
-use mathlib.Core.Bool.{true, false}
-use mathlib.Core.List.{List, []}
-use Prim.Native.Nat.{ℕ, _≤_, _<_}
+use mathlib.Core.Path.{_≡_, refl, sym, _∙_}
+use mathlib.Core.List.{[]}
+use Prim.Native.Nat.{_≤_}
 use lib.ListN.{length}
 use Rattle.spec.specs.Map.{marked, markedText}
-use Rattle.spec.specs.Answers.{mapCheck, searchLimit, wordPart, wordAnswer, searchNumbers, searchList, searchAnswer, partOf, refusalNumbers}
+use Rattle.spec.specs.Answers.{mapCheck, wordPart, wordAnswer}
 use Rattle.spec.specs.declared.Check.the-variants.{Passed}
 use Rattle.scanner.proofs.WordLaws.{word-within}
 use Rattle.searches.proofs.CheckedLaws.{passed-marks, passed-length, refused-place}

@@ -1,5 +1,5 @@
 -- `searches::regions` meets its contract: what `map_checked` ensures, put into `filledAnswer`. Assumes nothing.
-use mathlib.Core.Path.{_≡_, refl, sym, ap, _∙_}
+use mathlib.Core.Path.{ap, _∙_}
 use Rattle.spec.specs.Answers.{regionsAnswer, filledAnswer}
 use borrow.Author.Needs.{needs}
 use Rattle.searches.proofs.regions.Statement.{statement}

@@ -2,14 +2,12 @@
 -- the check is by the two lengths; where it has passed, the output holds what `requote` stores, which fits by
 -- `requoted-length`. Assumes nothing.
 use native.Mathlib.Omega.{arith}
-use mathlib.Core.Path.{_≡_, refl, sym, ap, _∙_}
-use Prim.Native.Nat.{_*_, _≤_}
-use lib.ListN.{length}
-use Rattle.spec.specs.Answers.{requoteCheck, requoteAnswer, requoteExit, filledAnswer}
+use mathlib.Core.Path.{refl, sym, ap, _∙_}
+use Rattle.spec.specs.Answers.{requoteAnswer, requoteExit, filledAnswer}
 use Rattle.spec.specs.Requote.{requoted}
 use Rattle.spec.specs.declared.Check.the-variants.{Passed}
 use Rattle.spec.proofs.LengthLaws.{requoted-length}
-use Rattle.searches.proofs.CheckedLaws.{requote-long, requote-short, requote-fits, passed-fits, sets-front}
+use Rattle.searches.proofs.CheckedLaws.{requote-long, requote-short, requote-fits, sets-front}
 use borrow.Author.Needs.{needs}
 use Rattle.searches.proofs.requote_dollar_literals.Statement.{statement}
 use Rattle.searches.proofs.requote_dollar_literals.Tie as tie

@@ -4,10 +4,9 @@
 use Rattle.spec.proofs.WalkLaws.{marked-kept}
 use mathlib.Core.Path.{_≡_, refl, sym, ap, _∙_}
 use mathlib.Core.List.{[]}
-use lib.ListN.{length}
-use Rattle.spec.specs.Map.{mapOf, marked, markedText}
-use Rattle.spec.specs.Search.{splitInCode, startsFrom, pieces, byteHere}
-use Rattle.spec.specs.Answers.{checkOf, splitCheck, splitAnswer, splitMapExit, splitExit, keptBehind, filledAnswer}
+use Rattle.spec.specs.Map.{marked}
+use Rattle.spec.specs.Search.{splitInCode}
+use Rattle.spec.specs.Answers.{splitCheck, splitAnswer, splitMapExit, splitExit, filledAnswer}
 use Rattle.spec.specs.declared.Check.the-variants.{Passed}
 use Rattle.searches.proofs.CheckedLaws.{split-fits, split-short-map, split-short-starts, refused-count, short-exit, passed-fits}
 use borrow.Author.Needs.{needs}

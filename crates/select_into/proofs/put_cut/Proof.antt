@@ -8,9 +8,9 @@ use lib.ListN.{length, take, drop}
 use Rattle.spec.specs.Bytes.{ascii}
 use Rattle.spec.specs.SelectInto.{frontPlace}
 use Rattle.spec.proofs.FirstLaws.{nonempty-word}
-use Rattle.set_lines.proofs.LineLaws.{part-short}
+use Rattle.set_lines.proofs.SetLineLaws.{part-short}
 use Rattle.set_lines.proofs.PutLaws.{puts-same}
-use Rattle.select_into.proofs.CutLaws.{place-bound, part-mapped, cut-copied, cut-written}
+use Rattle.select_into.proofs.StatementCutLaws.{place-bound, part-mapped, cut-copied, cut-written}
 use borrow.Author.Needs.{needs}
 use Rattle.select_into.proofs.put_cut.Statement.{statement}
 use Rattle.select_into.proofs.put_cut.Tie as tie

@@ -7,7 +7,7 @@ use Rattle.spec.specs.Map.{marked, bytes}
 use Rattle.spec.specs.SelectInto.{topWordHere, selectCut, intoAt}
 use Rattle.spec.proofs.FirstLaws.{nonempty-word}
 use Rattle.set_lines.proofs.PutLaws.{puts-same}
-use Rattle.select_into.proofs.CutLaws.{found-bound}
+use Rattle.select_into.proofs.StatementCutLaws.{found-bound}
 use borrow.Author.Needs.{needs}
 use Rattle.select_into.proofs.put_into.Statement.{statement}
 use Rattle.select_into.proofs.put_into.Tie as tie

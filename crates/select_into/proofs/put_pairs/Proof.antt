@@ -10,7 +10,7 @@ use Rattle.spec.specs.Map.{marked}
 use Rattle.spec.specs.SelectInto.{listed}
 use Rattle.set_lines.specs.Lines.{Shared, linesText}
 use Rattle.select_into.specs.Pairs.{pairsText}
-use Rattle.set_lines.proofs.LineLaws.{part-short}
+use Rattle.set_lines.proofs.SetLineLaws.{part-short}
 use Rattle.select_into.proofs.FromLaws.{from-within, shared-same}
 use Rattle.set_lines.proofs.PutLaws.{all-stored, stored-puts, puts-same}
 use borrow.Author.Needs.{needs}

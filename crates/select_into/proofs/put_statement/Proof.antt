@@ -8,7 +8,7 @@ use Rattle.spec.specs.SelectInto.{selectAt, selectStatement}
 use Rattle.spec.proofs.FirstLaws.{nonempty-word}
 use Rattle.spec.proofs.MapLaws.{marked-bytes}
 use Rattle.set_lines.proofs.PutLaws.{puts-same}
-use Rattle.select_into.proofs.CutLaws.{word-within}
+use Rattle.select_into.proofs.StatementCutLaws.{word-within}
 use borrow.Author.Needs.{needs}
 use Rattle.select_into.proofs.put_statement.Statement.{statement}
 use Rattle.select_into.proofs.put_statement.Tie as tie

@@ -11,8 +11,8 @@ use Rattle.spec.specs.Search.{first, byteHere}
 use Rattle.spec.specs.SelectInto.{selectInto}
 use Rattle.spec.specs.declared.Found.the-variants.{At}
 use Rattle.spec.proofs.AheadLaws.{rest-of}
-use Rattle.set_lines.proofs.LineLaws.{part-short}
-use Rattle.select_into.proofs.CutLaws.{part-mapped}
+use Rattle.set_lines.proofs.SetLineLaws.{part-short}
+use Rattle.select_into.proofs.StatementCutLaws.{part-mapped}
 use Rattle.set_lines.proofs.PutLaws.{Going, going-more, left-puts, puts-over, puts-same, puts-bound, puts-front}
 use Rattle.select_into.proofs.StatementLaws.{selectsAt, selects-all, selects-last, selects-turn, statement-within}
 use lib.Seq.{sets}

@@ -12,7 +12,7 @@ use Rattle.spec.proofs.MapLaws.{marked-length}
 use Rattle.quotes.specs.Items.{Listed}
 use Rattle.set_lines.specs.Lines.{shared, breakText, linesText}
 use Rattle.set_lines.proofs.ListedLaws.{item-part, item-over}
-use Rattle.set_lines.proofs.LineLaws.{part-length, line-same, lines-turn, lines-over, lines-short}
+use Rattle.set_lines.proofs.SetLineLaws.{part-length, line-same, lines-turn, lines-over, lines-short}
 use Rattle.set_lines.proofs.PutLaws.{Left, left-more, left-done, left-over, stored-same, line-length, break-length}
 use Rattle.set_lines.proofs.put_set_lines.Statement.{statement}
 use Rattle.set_lines.proofs.put_set_lines.Tie as tie

@@ -2,7 +2,7 @@
 -- the rest, `depth` comments being open; a turn opens one, closes one, closes the last, or passes a byte. Assumes
 -- nothing.
 use mathlib.Core.Path.{_≡_, sym, _∙_}
-use Prim.Native.Nat.{_+_, _-_, _≤_, _<_}
+use Prim.Native.Nat.{_+_, _-_, _≤_}
 use native.Mathlib.Omega.{arith}
 use borrow.Author.Needs.{needs}
 use lib.ListN.{length, drop}

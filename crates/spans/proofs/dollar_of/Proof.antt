@@ -2,10 +2,10 @@
 -- with whether it stands there; `seek-rest` keeps the lengths within the text. Assumes nothing.
 use mathlib.Core.Path.{_≡_, sym, _∙_}
 use mathlib.Core.Bool.{true, false}
-use Prim.Native.Nat.{ℕ, _+_, _-_, _≤_}
+use Prim.Native.Nat.{_-_}
 use native.Mathlib.Nat.{add-zero}
 use native.Mathlib.Omega.{arith}
-use lib.ListN.{length, take, drop, length-take}
+use lib.ListN.{length, take, drop}
 use lib.Seq.{length-take-le}
 use Rattle.spec.specs.Bytes.{isPrefix}
 use Rattle.spec.specs.Spans.{seekLen, dollarOf}

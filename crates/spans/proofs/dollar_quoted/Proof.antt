@@ -1,10 +1,10 @@
 -- `spans::dollar_quoted` meets its contract. `tag` says that the tag's length is that behind the `$`; whether a literal
 -- opens decides, and `opens-in` says that its delimiter then fits. Assumes nothing.
 use native.Mathlib.Omega.{arith}
-use mathlib.Core.Path.{_≡_, refl, sym, ap, _∙_}
-use Prim.Native.Nat.{ℕ, _+_, _-_}
+use mathlib.Core.Path.{_≡_, sym, _∙_}
+use Prim.Native.Nat.{_-_}
 use lib.ListN.{length, take, drop, length-drop}
-use Rattle.spec.specs.Spans.{tagLen, opensDollar, dollarOf}
+use Rattle.spec.specs.Spans.{tagLen}
 use Rattle.spec.proofs.AheadLaws.{rest-of}
 use Rattle.spec.proofs.SpanLaws.{tag-le, opens-in, opens-nil}
 use borrow.Author.Needs.{needs}

@@ -6,7 +6,7 @@ use native.Mathlib.Omega.{arith}
 use borrow.Author.Needs.{needs}
 use lib.ListN.{length, drop}
 use Rattle.spec.specs.Spans.{lineLen}
-use Rattle.spans.proofs.RunLaws.{at-newline, at-other, line-over}
+use Rattle.spans.proofs.TagLaws.{at-newline, at-other, line-over}
 use Rattle.spans.proofs.line_len.Statement.{statement}
 use Rattle.spans.proofs.line_len.Tie as tie
 

@@ -1,8 +1,8 @@
 -- `spans::next_span` meets its contract, with a law for each return: a line comment, a block comment, the two quotes, a
 -- `$`, or live text. Each takes the tests that failed before it. Assumes nothing.
 use native.Mathlib.Omega.{arith}
-use mathlib.Core.Path.{_≡_, sym, ap, _∙_}
-use Prim.Native.Nat.{ℕ, _+_, _-_, _<_}
+use mathlib.Core.Path.{_≡_, sym, _∙_}
+use Prim.Native.Nat.{_-_, _<_}
 use lib.ListN.{length, take, drop, length-drop}
 use Rattle.spec.specs.Spans.{lineLen}
 use Rattle.spec.proofs.AheadLaws.{rest-of}

@@ -1,7 +1,7 @@
 -- `spans::opens_here` meets its contract. Each return rewrites `opensDollar` with the bytes read and the tests made.
 -- Assumes nothing.
-use mathlib.Core.Path.{_≡_, sym, _∙_, refl}
-use borrow.Author.Tests.{eq-eqb, ne-eqb}
+use mathlib.Core.Path.{sym, _∙_}
+use borrow.Author.Tests.{ne-eqb}
 use Rattle.spec.specs.Bytes.{isDigit}
 use Rattle.spec.specs.Spans.{opensDollar}
 use borrow.Author.Needs.{needs}

@@ -2,12 +2,12 @@
 -- rest; a turn is an escaped pair, a doubled quote, the closing quote, or another byte, with a law for each. Assumes
 -- nothing.
 use mathlib.Core.Path.{_≡_, sym, _∙_}
-use Prim.Native.Nat.{_+_, _-_, _≤_, _<_}
+use Prim.Native.Nat.{_+_, _-_, _≤_}
 use native.Mathlib.Omega.{arith}
 use borrow.Author.Needs.{needs}
 use lib.ListN.{length, drop}
 use Rattle.spec.specs.Spans.{quoteLen, quotedLen}
-use Rattle.spans.proofs.QuoteLaws.{at-esc, at-two, at-end, at-one, at-short, quoted-start, quoted-short}
+use Rattle.spans.proofs.QuotedSpanLaws.{at-esc, at-two, at-end, at-one, at-short, quoted-start, quoted-short}
 use Rattle.spans.proofs.quoted_len.Statement.{statement}
 use Rattle.spans.proofs.quoted_len.Tie as tie
 

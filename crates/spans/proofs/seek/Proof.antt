@@ -3,14 +3,14 @@
 use lib.ListN.{take}
 use Rattle.spec.proofs.AheadLaws.{rest-of}
 use mathlib.Core.Bool.{true, false}
-use mathlib.Core.Path.{_≡_, sym, _∙_, refl}
+use mathlib.Core.Path.{_≡_, sym, _∙_}
 use Prim.Native.Nat.{_+_, _-_, _≤_}
 use native.Mathlib.Omega.{arith}
 use borrow.Author.Needs.{needs}
 use lib.ListN.{length, drop}
 use Rattle.spec.specs.Bytes.{isPrefix}
 use Rattle.spec.specs.Spans.{seekLen}
-use Rattle.spans.proofs.RunLaws.{at-found, at-missed, seek-over}
+use Rattle.spans.proofs.TagLaws.{at-found, at-missed, seek-over}
 use Rattle.spans.proofs.seek.Statement.{statement}
 use Rattle.spans.proofs.seek.Tie as tie
 

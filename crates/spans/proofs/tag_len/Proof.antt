@@ -6,7 +6,7 @@ use native.Mathlib.Omega.{arith}
 use borrow.Author.Needs.{needs}
 use lib.ListN.{length, drop}
 use Rattle.spec.specs.Spans.{tagLen}
-use Rattle.spans.proofs.RunLaws.{at-ident, at-stop, tag-over}
+use Rattle.spans.proofs.TagLaws.{at-ident, at-stop, tag-over}
 use Rattle.spans.proofs.tag_len.Statement.{statement}
 use Rattle.spans.proofs.tag_len.Tie as tie
 

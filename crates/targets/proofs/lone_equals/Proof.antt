@@ -2,7 +2,7 @@
 -- the two bytes at i; each return rewrites it with the tests made. Assumes nothing.
 use mathlib.Core.Path.{sym, _∙_}
 use borrow.Author.Tests.{eq-eqb, ne-eqb}
-use Rattle.targets.proofs.NameLaws.{lone-bytes}
+use Rattle.targets.proofs.TargetNameLaws.{lone-bytes}
 use borrow.Author.Needs.{needs}
 use Rattle.targets.proofs.lone_equals.Statement.{statement}
 use Rattle.targets.proofs.lone_equals.Tie as tie

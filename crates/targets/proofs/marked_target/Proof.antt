@@ -11,8 +11,8 @@ use Rattle.spec.specs.Assignments.{markedTarget}
 use Rattle.spec.proofs.MapLaws.{marked-bytes}
 use Rattle.targets.specs.Tells.{Tells}
 use Rattle.targets.specs.Words.{targetMet}
-use Rattle.targets.proofs.NameLaws.{tells-first, tells-next}
-use Rattle.targets.proofs.MarkLaws.{cases-le, walk-end, walk-step}
+use Rattle.targets.proofs.TargetNameLaws.{tells-first, tells-next}
+use Rattle.targets.proofs.MarkingLaws.{cases-le, walk-end, walk-step}
 use Rattle.targets.proofs.marked_target.Statement.{statement}
 use Rattle.targets.proofs.marked_target.Tie as tie
 

@@ -12,7 +12,7 @@ use Rattle.spec.proofs.Choice.{and-left}
 use Rattle.spec.proofs.WalkLaws.{prefix-by-len}
 use Rattle.targets.specs.Words.{entries, blank}
 use Rattle.targets.specs.declared.Marking.{Marking}
-use Rattle.targets.proofs.MarkLaws.{entry-long, entry-size, metFrom, isEntryAt, met-dead, met-inside, met-none, met-hit, met-miss}
+use Rattle.targets.proofs.MarkingLaws.{entry-long, entry-size, metFrom, isEntryAt, met-dead, met-inside, met-none, met-hit, met-miss}
 use Rattle.targets.proofs.marking_at.Statement.{statement}
 use Rattle.targets.proofs.marking_at.Tie as tie
 

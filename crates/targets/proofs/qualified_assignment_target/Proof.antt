@@ -2,7 +2,7 @@
 -- one the definition is what `qualified_equals_target` tells (`tells-next`). Assumes nothing.
 use mathlib.Core.Path.{sym, _∙_}
 use Rattle.spec.specs.Assignments.{statementTarget}
-use Rattle.targets.proofs.NameLaws.{tells-first, tells-next}
+use Rattle.targets.proofs.TargetNameLaws.{tells-first, tells-next}
 use borrow.Author.Needs.{needs}
 use Rattle.targets.proofs.qualified_assignment_target.Statement.{statement}
 use Rattle.targets.proofs.qualified_assignment_target.Tie as tie

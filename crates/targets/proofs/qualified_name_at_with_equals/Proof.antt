@@ -2,7 +2,7 @@
 -- name, and with all three the lone `=` decides. `name-within` says that the name ends within the statement. Assumes
 -- nothing.
 use Prim.Native.Nat.{_≤_}
-use Rattle.targets.proofs.NameLaws.{same-length, equals-no-qualifier, equals-no-dot, equals-no-name, equals-found}
+use Rattle.targets.proofs.TargetNameLaws.{same-length, equals-no-qualifier, equals-no-dot, equals-no-name, equals-found}
 use native.Mathlib.Omega.{arith}
 use lib.ListN.{length}
 use mathlib.Core.Path.{sym, _∙_}

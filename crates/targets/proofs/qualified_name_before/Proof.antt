@@ -1,7 +1,7 @@
 -- `targets::qualified_name_before` meets its contract, with a law for each return: no name, a name at the front, no
 -- dot, no qualifier, or a target. All are over the reversed text before the operator. Assumes nothing.
 use native.Mathlib.Omega.{arith}
-use Rattle.targets.proofs.NameLaws.{parts-inside, same-length, before-no-name, before-front, before-no-dot, before-no-qualifier, before-found}
+use Rattle.targets.proofs.TargetNameLaws.{parts-inside, same-length, before-no-name, before-front, before-no-dot, before-no-qualifier, before-found}
 use borrow.Author.Needs.{needs}
 use Rattle.targets.proofs.qualified_name_before.Statement.{statement}
 use Rattle.targets.proofs.qualified_name_before.Tie as tie

@@ -16,7 +16,7 @@ use Rattle.spec.proofs.MapLaws.{marked-length, marked-bytes}
 use Rattle.spec.proofs.FirstLaws.{nonempty-word}
 use Rattle.spec.proofs.WalkLaws.{first-within}
 use Rattle.targets.specs.Tells.{Tells}
-use Rattle.targets.proofs.NameLaws.{tells-first, tells-next}
+use Rattle.targets.proofs.TargetNameLaws.{tells-first, tells-next}
 use Rattle.targets.proofs.WalrusLaws.{assignFrom, assign-none, assign-at}
 use Rattle.targets.proofs.qualified_walrus_target.Statement.{statement}
 use Rattle.targets.proofs.qualified_walrus_target.Tie as tie

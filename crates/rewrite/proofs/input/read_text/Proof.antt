@@ -1,9 +1,8 @@
 -- `rewrite::read_text` meets its contract. The loop's invariant says that the two buffers keep their lengths and that n
 -- is within the text; its measure is the count of turns left. Assumes nothing.
 use borrow.Author.Needs.{needs}
-use mathlib.Core.Path.{_≡_, refl, sym, ap, _∙_}
-use Prim.Native.Nat.{ℕ, _≤_}
-use native.Mathlib.Omega.{arith}
+use mathlib.Core.Path.{_≡_}
+use Prim.Native.Nat.{_≤_}
 use lib.ListN.{length}
 use Rattle.rewrite.proofs.input.read_text.Statement.{statement}
 use Rattle.rewrite.proofs.input.read_text.Tie as tie

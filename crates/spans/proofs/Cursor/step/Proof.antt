@@ -1,8 +1,8 @@
 -- `spans::Cursor::step` meets its contract. `found` and `long` say that the span found, and its length, are those of
 -- the text behind the cursor; `span-le` keeps the new place within the text. Assumes nothing.
 use native.Mathlib.Omega.{arith}
-use mathlib.Core.Path.{_≡_, sym, ap, _∙_}
-use Prim.Native.Nat.{ℕ, _+_, _-_, _≤_, _<_}
+use mathlib.Core.Path.{_≡_, ap, _∙_}
+use Prim.Native.Nat.{_-_}
 use borrow.Author.Tests.{lt-ltb, le-ltb}
 use lib.ListN.{length, take, drop, length-drop}
 use Rattle.spec.specs.Spans.{spanAt, spanLen}

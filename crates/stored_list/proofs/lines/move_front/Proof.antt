@@ -4,7 +4,7 @@ use Prim.Native.Nat.{_≤_, _-_}
 use lib.ListN.{take, length, length-take}
 use borrow.Author.Needs.{needs}
 use native.Mathlib.Omega.{arith}
-use Rattle.stored_list.proofs.LineLaws.{Moving, moving, moving-step, moved-count, moved-content}
+use Rattle.stored_list.proofs.ListLineLaws.{Moving, moving, moving-step, moved-count, moved-content}
 use Rattle.stored_list.proofs.lines.move_front.Statement.{statement}
 use Rattle.stored_list.proofs.lines.move_front.Tie as tie
 

@@ -2,7 +2,7 @@
 -- lies in the bytes read follows. Assumes nothing.
 use lib.ListN.{take, length-take, length-drop}
 use native.Mathlib.Omega.{arith}
-use Rattle.stored_list.proofs.LineLaws.{next-held, next-read, next-in}
+use Rattle.stored_list.proofs.ListLineLaws.{next-held, next-read, next-in}
 use borrow.Author.Needs.{needs}
 use Rattle.stored_list.proofs.lines.next_line.Statement.{statement}
 use Rattle.stored_list.proofs.lines.next_line.Tie as tie

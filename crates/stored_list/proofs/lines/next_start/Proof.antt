@@ -1,7 +1,7 @@
 -- `stored_list::next_start` meets its contract. A case for each test. Assumes nothing.
 use native.Mathlib.Omega.{arith}
 use borrow.Author.Tests.{lt-ltb, le-ltb}
-use Rattle.stored_list.specs.Lines.{startAfter}
+use Rattle.stored_list.specs.ListLines.{startAfter}
 use borrow.Author.Needs.{needs}
 use Rattle.stored_list.proofs.lines.next_start.Statement.{statement}
 use Rattle.stored_list.proofs.lines.next_start.Tie as tie

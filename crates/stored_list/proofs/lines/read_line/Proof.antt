@@ -1,7 +1,7 @@
 -- `stored_list::read_line` meets its contract. The first line of the bytes, or none, by where the newline stands. Assumes
 -- nothing.
 use native.Mathlib.Omega.{arith}
-use Rattle.stored_list.proofs.LineLaws.{first-found, first-none}
+use Rattle.stored_list.proofs.ListLineLaws.{first-found, first-none}
 use borrow.Author.Needs.{needs}
 use Rattle.stored_list.proofs.lines.read_line.Statement.{statement}
 use Rattle.stored_list.proofs.lines.read_line.Tie as tie

@@ -7,7 +7,7 @@ use lib.ListN.{length, take}
 use lib.Seq.{sets}
 use Rattle.stored_list.specs.Numbers.{hexBytes}
 use Rattle.stored_list.specs.Runs.{repeated, runLimit}
-use Rattle.stored_list.proofs.RunLaws.{run-text}
+use Rattle.stored_list.proofs.RepeatLaws.{run-text}
 use borrow.Author.Needs.{needs}
 use Rattle.stored_list.proofs.runs.append_hex.Statement.{statement}
 use Rattle.stored_list.proofs.runs.append_hex.Tie as tie

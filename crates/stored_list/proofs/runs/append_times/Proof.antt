@@ -5,7 +5,7 @@ use native.Mathlib.Omega.{arith}
 use Prim.Native.Nat.{_-_}
 use Rattle.stored_list.specs.Runs.{repeated}
 use Rattle.stored_list.proofs.StoringLaws.{Storing, storing, storing-list, stored-all}
-use Rattle.stored_list.proofs.RunLaws.{repeated-step, repeated-end}
+use Rattle.stored_list.proofs.RepeatLaws.{repeated-step, repeated-end}
 use Rattle.stored_list.proofs.runs.append_times.Statement.{statement}
 use Rattle.stored_list.proofs.runs.append_times.Tie as tie
 

@@ -9,7 +9,7 @@ use lib.ListN.{length}
 use Rattle.stored_list.specs.Fields.{fieldOf}
 use Rattle.stored_list.specs.Runs.{hexRun, runsFrom, runsOf}
 use Rattle.stored_list.proofs.StoringLaws.{Storing, storing, storing-list, stored-all}
-use Rattle.stored_list.proofs.RunLaws.{runs-none, runs-step, runs-end, run-fields}
+use Rattle.stored_list.proofs.RepeatLaws.{runs-none, runs-step, runs-end, run-fields}
 use Rattle.stored_list.proofs.runs.put_runs.Statement.{statement}
 use Rattle.stored_list.proofs.runs.put_runs.Tie as tie
 

@@ -6,7 +6,6 @@ use mathlib.Core.List.{List, [], _∷_}
 use mathlib.Core.Option.{Option, none, some}
 use lib.Dec.{eqb, leb}
 use lib.ListN.{length, getD, take, drop}
-use Rattle.spec.specs.Parts.{part}
 use Rattle.spec.specs.Bytes.{ascii, isW, isPrefix, isSame}
 use Rattle.spec.specs.Map.{Marked, marked}
 use Rattle.spec.specs.Search.{Test, first, keywordHere, starts}

@@ -14,7 +14,7 @@ use Rattle.spec.proofs.AheadLaws.{drop-one}
 use Rattle.stored_list.specs.Fields.{partOf, placeOf}
 use Rattle.stored_list.proofs.FieldLaws.{part-in, place-ge, place-at, place-before}
 use Rattle.spec.proofs.Choice.{by}
-use Rattle.stored_list.specs.Lines.{lineAt, noLine, startAfter, newlineAt, firstLine, FirstRead, leftAfter, isHeld, NextLine, LineIn}
+use Rattle.stored_list.specs.ListLines.{lineAt, noLine, startAfter, newlineAt, firstLine, FirstRead, leftAfter, isHeld, NextLine, LineIn}
 use Rattle.stored_list.specs.declared.lines.Line.{Line}
 
 -- ---- moving

@@ -1,31 +1,31 @@
 -- A statement that is cut by its keywords, as bytes. Assumes nothing.
 use mathlib.Core.Path.{_≡_, refl, sym, ap, _∙_}
-use mathlib.Core.Bool.{true, false, false≢true}
-use mathlib.Core.List.{List, [], _∷_, _++_, reverse}
-use Prim.Native.Nat.{ℕ, _+_, _-_, _≤_, zero-le, suc-le-suc}
+use mathlib.Core.Bool.{true, false}
+use mathlib.Core.List.{List, _++_, reverse}
+use Prim.Native.Nat.{ℕ, _+_, _-_, _≤_, zero-le}
 use native.Mathlib.Omega.{arith}
 use lib.Dec.{eqb}
 use lib.ListN.{length, take, drop, length-drop}
 use lib.Seq.{drop-length, length-take-le}
 use Rattle.spec.proofs.BytesLaws.{bytes-append, bytes-end}
-use Rattle.spec.proofs.Choice.{and-left, and-right}
+use Rattle.spec.proofs.Choice.{and-left}
 use Rattle.spec.proofs.FirstLaws.{first-least}
 use Rattle.spec.proofs.LengthLaws.{word-in}
 use Rattle.spec.proofs.MapLaws.{marked-bytes, marked-length}
 use Rattle.spec.proofs.WalkLaws.{bytes-drop, first-within, starts-length}
 use Rattle.spec.proofs.PartLaws.{marked-part, bytes-part}
-use Rattle.spec.specs.Bytes.{ascii, isIdent, isW, upper}
+use Rattle.spec.specs.Bytes.{ascii, isIdent, isW}
 use Rattle.spec.specs.Lists.{dropEnd}
-use Rattle.spec.specs.Map.{Marked, byte, marked, bytes, ofByte, frontByte}
-use Rattle.spec.specs.Search.{Test, first, startsIgnoringCase, wordHere}
+use Rattle.spec.specs.Map.{Marked, marked, bytes, ofByte, frontByte}
+use Rattle.spec.specs.Search.{Test, first, wordHere}
 use Rattle.spec.specs.Parts.{trimEnd, part}
 use Rattle.spec.specs.SelectInto.{depthOf, topWordHere, listed, pairUp, placeOr, fromPart, frontPlace, indentation, setLine, setLines, selectCut}
 use Rattle.spec.specs.declared.Found.{Found}
 use Rattle.spec.specs.declared.Found.the-variants.{At, Nothing}
 use Rattle.set_lines.specs.Lines.{Shared, linesText}
 use Rattle.select_into.specs.Pairs.{sharedBy, sharedOf, fromText, pairsText}
-use Rattle.select_into.proofs.EndLaws.{listed-trimmed}
-use Rattle.select_into.proofs.SetLaws.{lines-bytes, indentation-bytes}
+use Rattle.select_into.proofs.FromEndLaws.{listed-trimmed}
+use Rattle.select_into.proofs.SetTextLaws.{lines-bytes, indentation-bytes}
 
 -- ---- where a keyword stands
 

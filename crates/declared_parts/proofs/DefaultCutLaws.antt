@@ -16,7 +16,7 @@ use Rattle.spec.proofs.FirstLaws.{first-least}
 use Rattle.spec.proofs.LengthLaws.{starts-any-case, word-in}
 use Rattle.spec.proofs.MapLaws.{marked-length}
 use Rattle.spec.proofs.WalkLaws.{starts-length, starts-exact-at, passesAt, first-end, first-hit, first-miss}
-use Rattle.declared_parts.specs.Parts.{walrusHere, cutOf, cutIn}
+use Rattle.declared_parts.specs.DeclaredParts.{walrusHere, cutOf, cutIn}
 
 -- exact comparison
 prefix-exact : (w xs : List ℕ) → prefixBy (λ (b : ℕ). b) w xs ≡ isPrefix w xs

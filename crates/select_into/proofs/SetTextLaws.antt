@@ -20,7 +20,7 @@ use Rattle.set_lines.specs.Lines.{spaced, queryText, limitText, lineText, limit
 use Rattle.select_into.specs.Pairs.{sharedBy, lastLine}
 use Rattle.quotes.proofs.LimitLaws.{limit-marks, limit-append}
 use Rattle.spec.proofs.EndLaws.{drop-end-gone, drop-end-kept}
-use Rattle.select_into.proofs.EndLaws.{Trimmed}
+use Rattle.select_into.proofs.FromEndLaws.{Trimmed}
 
 -- ---- the subquery
 
