@@ -34,9 +34,9 @@ use Rattle.spec.specs.declared.Refusal.the-variants as refusal
 use Rattle.preprocessor.specs.AnswerRecords.{withRecords, ifAccepted}
 
 -- what the declarations' answer tells
-pub parsed-count : (ds : List Declared) (c n : ℕ) → parsedOf ds ≡ Count c n → (length ds ≤ 512) × (length ds ≡ c) × (length (packed ds) ≡ n)
+pub told-count : (ds : List Declared) (c n : ℕ) → parsedOf ds ≡ Count c n → (length ds ≤ 512) × (length ds ≡ c) × (length (packed ds) ≡ n)
 unfolding parsedOf
-parsed-count ds c n e =
+told-count ds c n e =
     by (ltb 512 (length ds))
     (λ p. let q : TooManyNames ≡ Count c n = rw p at e in absurd (apart (cc)))
     (λ p. let q : Count (length ds) (length (packed ds)) ≡ Count c n = rw p at e in (ltb-false 512 (length ds) p, cc, cc))
@@ -119,7 +119,7 @@ module _ (xs work work′ : List ℕ) (m : work′ ≡ keptBehind (mapOf xs) wor
   module _ (start c n : ℕ) (b : drop start xs ≡ bodyFrom (first (keywordHere (ascii "BEGIN")) 0 (marked xs work′)) xs)
       (q : parsedOf (recordsIn (marked xs work′)) ≡ Count c n) where
     told : (length (recordsOf xs) ≤ 512) × (length (recordsOf xs) ≡ c) × (length (packed (recordsOf xs)) ≡ n)
-    told = parsed-count (recordsOf xs) c n (ap parsedOf (sym the-records) ∙ q)
+    told = told-count (recordsOf xs) c n (ap parsedOf (sym the-records) ∙ q)
 
     the-body : bodyOf xs ≡ drop start xs
     unfolding bodyOf
