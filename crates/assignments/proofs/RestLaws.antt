@@ -14,9 +14,9 @@ use Rattle.spec.proofs.RefusalBounds.{bytes-length}
 use Rattle.spec.specs.Bytes.{ascii, isIdent, isW}
 use Rattle.spec.specs.Lists.{isEmpty, takeWhile, dropWhile}
 use Rattle.spec.specs.Map.{Marked, marked, live, bytes, lives, ofByte}
-use Rattle.spec.specs.Search.{first, firstFrom, byteHere, pieces}
+use Rattle.spec.specs.Search.{first, byteHere, pieces}
 use Rattle.spec.specs.Outcome.{qualifiedTarget, Outcome, accepted, refused, _⊕_}
-use Rattle.spec.specs.Assignments.{orElse, assignTarget, equalsTarget, markedTarget, Target, assignHere, rightSide, startsName, assignmentAt, assignment, statementTarget, checkedStatement, statement, joinStatements, assignments}
+use Rattle.spec.specs.Assignments.{Target, assignHere, rightSide, startsName, assignmentAt, assignment, statementTarget, checkedStatement, statement, joinStatements, assignments}
 use Rattle.spec.specs.declared.Found.{Found}
 use Rattle.spec.specs.declared.Found.the-variants.{At, Nothing}
 use Rattle.spec.proofs.Choice.{cond-case}
@@ -78,11 +78,6 @@ unfolding assignments pieces
 turn-start t out = turn-none out 0 (assignments t)
 
 -- ---- one statement
-
--- an empty one comes through
-pub nothing-stated : statement [] ≡ accepted []
-unfolding statement checkedStatement statementTarget orElse assignTarget equalsTarget markedTarget assignment assignmentAt first firstFrom isEmpty takeWhile dropWhile
-nothing-stated = refl
 
 pub empty-marked : (xs ms : List ℕ) → length xs ≡ 0 → marked xs ms ≡ []
 unfolding marked

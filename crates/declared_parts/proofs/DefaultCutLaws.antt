@@ -1,13 +1,12 @@
 -- Where a part is cut for its default. Assumes nothing.
-use mathlib.Core.Path.{_≡_, refl, ap, _∙_}
-use mathlib.Core.Bool.{Bool, true, false, _&&_}
-use mathlib.Core.List.{List, [], _∷_}
+use mathlib.Core.Path.{_≡_, refl, _∙_}
+use mathlib.Core.Bool.{true, false}
+use mathlib.Core.List.{List}
 use Prim.Native.Nat.{ℕ, _+_, _≤_, _<_}
 use native.Mathlib.Omega.{arith}
-use lib.Dec.{eqb}
 use lib.ListN.{length, drop, take, length-drop}
 use mathlib.Core.List.{reverse}
-use Rattle.spec.specs.Bytes.{ascii, isPrefix, prefixBy}
+use Rattle.spec.specs.Bytes.{ascii, isPrefix}
 use Rattle.spec.specs.Map.{Marked, frontByte, marked}
 use Rattle.spec.specs.Search.{first, keywordHere}
 use Rattle.spec.specs.declared.Found.{Found}
@@ -15,15 +14,8 @@ use Rattle.spec.specs.declared.Found.the-variants.{At, Nothing}
 use Rattle.spec.proofs.FirstLaws.{first-least}
 use Rattle.spec.proofs.LengthLaws.{starts-any-case, word-in}
 use Rattle.spec.proofs.MapLaws.{marked-length}
-use Rattle.spec.proofs.WalkLaws.{starts-length, starts-exact-at, passesAt, first-end, first-hit, first-miss}
+use Rattle.spec.proofs.WalkLaws.{starts-length, starts-exact-at, passesAt, first-end, first-hit, first-miss, prefix-exact}
 use Rattle.declared_parts.specs.DeclaredParts.{walrusHere, cutOf, cutIn}
-
--- exact comparison
-prefix-exact : (w xs : List ℕ) → prefixBy (λ (b : ℕ). b) w xs ≡ isPrefix w xs
-unfolding prefixBy isPrefix
-prefix-exact [] xs = refl
-prefix-exact (a ∷ w) [] = refl
-prefix-exact (a ∷ w) (x ∷ xs) = ap (λ (b : Bool). eqb x a && b) (prefix-exact w xs)
 
 module _ (xs : List ℕ) (i : ℕ) (ms : List ℕ) where
   pub walrus-end : length xs ≤ i → first walrusHere i (marked xs ms) ≡ Nothing

@@ -1,13 +1,14 @@
 -- A default that is wholly a dollar literal. Assumes nothing.
 use mathlib.Core.Path.{_≡_, refl, _∙_}
-use mathlib.Core.Bool.{Bool, true, false, _&&_, false≢true}
+use mathlib.Core.Bool.{Bool, true, false, _&&_}
 use mathlib.Core.List.{List, [], _∷_, _++_}
 use Prim.Native.Nat.{ℕ, suc, _+_, _-_, _*_, _≤_, _<_}
 use native.Mathlib.Omega.{arith}
-use borrow.Author.Tests.{eqb-true, eq-eqb, ne-eqb, le-leb, lt-leb, leb-true}
+use borrow.Author.Tests.{eq-eqb, ne-eqb, le-leb, lt-leb, leb-true}
 use lib.Dec.{eqb, leb}
 use lib.ListN.{length, getD, take, drop, length-append, length-drop}
 use lib.Seq.{drop-drop}
+use Rattle.spec.proofs.WalkLaws.{prefix-take}
 use Rattle.spec.proofs.Choice.{by, and-left, and-right}
 use Rattle.spec.proofs.SpanLaws.{prefix-len}
 use Rattle.spec.specs.Bytes.{isIdent, isPrefix, isSame}
@@ -37,15 +38,6 @@ delimiter-prefix [] = refl
 delimiter-prefix (c ∷ cs) =
     let k : length (takeWhile isIdent cs) + 1 ≡ suc (length (takeWhile isIdent cs)) = omega arith in
     rw (k, tag-prefix isIdent cs) refl
-
-prefix-take : (p xs : List ℕ) → isPrefix p xs ≡ true → take (length p) xs ≡ p
-unfolding isPrefix
-prefix-take [] xs h = refl
-prefix-take (a ∷ p) [] h = absurd (false≢true h)
-prefix-take (a ∷ p) (x ∷ xs) h =
-    let e : x ≡ a = eqb-true x a (and-left (eqb x a) (isPrefix p xs) h) in
-    let m = prefix-take p xs (and-right (eqb x a) (isPrefix p xs) h) in
-    rw (e, m) refl
 
 module _ (xs : List ℕ) (n : ℕ) (d : n ≡ length (delimiterOf xs)) where
   -- too short for two delimiters

@@ -2,7 +2,6 @@
 use mathlib.Core.Path.{_≡_, refl, sym, ap, _∙_}
 use mathlib.Core.Bool.{true, false}
 use mathlib.Core.List.{List, [], _∷_, _++_}
-use mathlib.Core.Option.{Option, none, some}
 use Prim.Native.Nat.{ℕ, suc, _+_, _-_, _*_, _≤_, _<_, zero-le, suc-le-suc}
 use native.Mathlib.Omega.{arith}
 use borrow.Author.Tests.{eq-eqb, ne-eqb}
@@ -11,10 +10,9 @@ use lib.Seq.{sets, length-take-le}
 use Rattle.spec.proofs.AheadLaws.{rest-of}
 use Rattle.spec.proofs.Choice.{by, cond-case}
 use Rattle.spec.proofs.MapLaws.{marked-length}
-use Rattle.spec.proofs.RecordLaws.{named, declare-length}
+use Rattle.spec.proofs.RecordLaws.{maybe-longer}
 use Rattle.spec.proofs.WalkLaws.{piecesAt, pieces-cut, pieces-last}
 use Rattle.spec.specs.Bytes.{isSame}
-use Rattle.spec.specs.Lists.{any}
 use Rattle.spec.specs.Map.{Marked, marked}
 use Rattle.spec.specs.Search.{first, byteHere, pieces}
 use Rattle.spec.specs.Declarations.{Declared, declaration, declare, declareMaybe, declareAll}
@@ -172,14 +170,6 @@ module _ (xs rs : List ℕ) (count : ℕ) (p : DeclarationPlaces) where
           }
 
 -- ---- the parts
-
--- records are never taken away
-maybe-longer : (o : Option Declared) (ds : List Declared) → length ds ≤ length (declareMaybe o ds)
-unfolding declareMaybe
-maybe-longer none ds = omega arith
-maybe-longer (some d) ds =
-    rw (declare-length d ds)
-    (cond-case (λ n. length ds ≤ n) (any (named (d .name)) ds) _ _ (λ _. omega arith) (λ _. omega arith))
 
 all-longer : (ps : List (List Marked)) (ds : List Declared) → length ds ≤ length (declareAll ps ds)
 unfolding declareAll

@@ -8,6 +8,7 @@ use borrow.Author.Tests.{eqb-true}
 use lib.Dec.{eqb}
 use lib.ListN.{take, drop, take-append-drop}
 use lib.Seq.{drop-drop}
+use Rattle.spec.proofs.RefusalOutcomes.{statement-nil}
 use Rattle.spec.proofs.ByteSets.{sign-not-ident, sign-not-w, ident-not-w}
 use Rattle.spec.proofs.Choice.{by, cond-case, and-left, and-right}
 use Rattle.spec.proofs.ListLaws.{while-split, while-all, all-append}
@@ -20,7 +21,6 @@ use Rattle.spec.specs.Outcome.{Outcome, accepted, refused, _⊕_}
 use Rattle.spec.specs.Assignments.{Target, assignHere, statementTarget, rightSide, startsName, assignmentAt, assignment, checkedStatement, statement, joinStatements, assignments}
 use Rattle.spec.specs.Parts.{trimEnd, trim}
 use Rattle.spec.specs.Closed.{endsLive}
-use Rattle.spec.specs.Computed.{computed}
 use Rattle.spec.specs.declared.Found.{Found}
 use Rattle.spec.specs.declared.Found.the-variants.{At, Nothing}
 use Rattle.joining.proofs.Bools.{or-first, or-second}
@@ -240,15 +240,11 @@ module _ (k : Reading) where
   join-more (accepted t) (refused f) h g = tt
   join-more (refused f) r h g = tt
 
-  nothing-accepted : statement [] ≡ accepted []
-  unfolding computed
-  nothing-accepted = refl
-
   join-kept : (s r : List Marked) (ss : List (List Marked)) → Statements k (s ∷ r ∷ ss) → Kept (joinStatements (s ∷ r ∷ ss))
   unfolding joinStatements
   join-kept s r [] h =
       subst (λ (z : List Marked). Kept (statement s ⊕ (accepted (live 59 ∷ []) ⊕ statement z))) (sym (h .1))
-      (rw nothing-accepted (join-last (statement s) (statement-kept s (h .0))))
+      (rw statement-nil (join-last (statement s) (statement-kept s (h .0))))
   join-kept s r (q ∷ ss) h = join-more (statement s) (joinStatements (r ∷ q ∷ ss)) (statement-kept s (h .0)) (join-kept r q ss (h .1))
 
   -- pass 3 gives text that is read and ends in a live `;`, or a refusal

@@ -16,7 +16,7 @@ use Rattle.spec.specs.Closed.{endsLive}
 use Rattle.joining.proofs.Bools.{clash, no, other, ident-no-quote}
 use Rattle.joining.proofs.Reading.{Reading}
 use Rattle.joining.proofs.Parts.{Read}
-use Rattle.joining.proofs.Statements.{is-live, ends-append, ends-rest, ends-ident, Shut}
+use Rattle.joining.proofs.Statements.{ends-append, ends-rest, ends-ident, Shut}
 use Rattle.joining.proofs.WellFormed.{Open, clear, dash, slash, sign, tag, inSingle, inDouble, liveOk, wellOk, tagged, liveNext, wellNext, next-ident}
 use Rattle.joining.proofs.WellFormedReading.{well-formed-reading}
 use Rattle.joining.proofs.RaiseRead.{Seen, edge, inWord, r1, r2, r3, r4, r5, gap, paren, inLevel, closed, levelLetter, wordStart, seenNext, seenOk, seenEdge, raise-reading}

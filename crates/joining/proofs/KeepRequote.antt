@@ -8,6 +8,8 @@ use borrow.Author.Tests.{eqb-true, eq-eqb, ltb-true, ltb-false}
 use lib.Dec.{eqb, ltb}
 use lib.ListN.{length, take, drop, getD, length-drop, drop-of-length-le}
 use lib.Seq.{take-suc, take-add, drop-drop, length-take-le}
+use Rattle.joining.proofs.SpanJoin.{seek-miss}
+use Rattle.spec.proofs.WalkLaws.{prefix-take}
 use Rattle.spec.proofs.ByteSets.{sign-not-ident}
 use Rattle.spec.proofs.BytesLaws.{bytes-append}
 use Rattle.spec.proofs.Choice.{by, and-left, and-right, or-left, or-right}
@@ -247,23 +249,6 @@ doubled-reads (c ∷ cs) b n =
 
 -- ---- dollar literals
 
--- where p is not found, the search goes to the end
-seek-none : (p xs : List ℕ) → isPrefix p (drop (seekLen p xs) xs) ≡ false → seekLen p xs ≡ length xs
-unfolding seekLen
-seek-none p [] h = refl
-seek-none p (c ∷ cs) h =
-    by (isPrefix p (c ∷ cs))
-    (λ e. clash (sym e ∙ rw e at h))
-    (λ e. rw e (ap suc (seek-none p cs (rw e at h))))
-
-prefix-take : (p xs : List ℕ) → isPrefix p xs ≡ true → take (length p) xs ≡ p
-unfolding isPrefix
-prefix-take [] xs h = refl
-prefix-take (a ∷ p) [] h = absurd (false≢true h)
-prefix-take (a ∷ p) (c ∷ cs) h =
-    ap (λ (l : List ℕ). c ∷ l) (prefix-take p cs (and-right (eqb c a) (isPrefix p cs) h))
-    ∙ ap (λ (n : ℕ). n ∷ p) (eqb-true c a (and-left (eqb c a) (isPrefix p cs) h))
-
 -- the opening delimiter ends in `$`
 opening : (c : ℕ) (cs : List ℕ) → opensDollar (c ∷ cs) ≡ true → (w : List ℕ) × (take (2 + tagLen cs) (c ∷ cs) ≡ c ∷ (w ++ (36 ∷ [])))
 unfolding isTag closesTag
@@ -489,7 +474,7 @@ module _ (c : ℕ) (cs : List ℕ) where
       by (isPrefix (take opens xs) (drop inner (drop opens xs)))
       (λ e. (e, rw e refl))
       (λ e.
-      let k = seek-none (take opens xs) (drop opens xs) e in
+      let k = seek-miss (take opens xs) (drop opens xs) e in
       let w : whole ≡ opens + inner + 0 = rw e refl in
       absurd (omega (arith, opens-in xs o, length-drop opens xs)))
 

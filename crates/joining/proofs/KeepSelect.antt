@@ -8,6 +8,7 @@ use borrow.Author.Tests.{eqb-true}
 use lib.Dec.{eqb, ltb}
 use lib.ListN.{length, take, drop, take-append-drop}
 use lib.Seq.{drop-drop}
+use Rattle.spec.proofs.JoinedPieces.{live-byte}
 use Rattle.spec.proofs.ByteSets.{sign-not-w}
 use Rattle.spec.proofs.Choice.{by, cond-case, and-left, and-right}
 use Rattle.spec.proofs.ListLaws.{while-split}
@@ -24,7 +25,7 @@ use Rattle.spec.specs.declared.Found.the-variants.{At, Nothing}
 use Rattle.joining.proofs.Bools.{clash, no}
 use Rattle.joining.proofs.Reading.{reads-more, leaves-append, cut, paste, Takes, takes-append, Reading}
 use Rattle.joining.proofs.Parts.{PlainWord, Read, ends, StandsAlone, BeforeSpace, nil-part, drop-end, before-space-end, at-word, behind-word, part-between, AllBeforeSpace, comma-parts, trim-parts, keep-before-space}
-use Rattle.joining.proofs.Statements.{is-live, ends-append, Shut, shut-leaves, shut-append, Statements, FirstOf, statements}
+use Rattle.joining.proofs.Statements.{ends-append, Shut, shut-leaves, shut-append, Statements, FirstOf, statements}
 
 -- the list is empty, or its front fails the test
 abbrev Stops : (Marked → Bool) → List Marked → Type 0
@@ -40,7 +41,7 @@ stops f (x ∷ t) = by (f x) (λ e. rw e (stops f t)) (λ e. rw e e)
 last-live : (t : List Marked) → endsLive t ≡ true → frontLive (drop (length t - 1) t) ≡ true
 unfolding endsLive frontLive
 last-live [] h = absurd (false≢true h)
-last-live (x ∷ []) h = rw (is-live 59 x h) refl
+last-live (x ∷ []) h = rw (live-byte 59 x h) refl
 last-live (x ∷ y ∷ t) h =
     let e : suc (length (y ∷ t)) - 1 ≡ suc (length (y ∷ t) - 1) = omega arith in
     subst (λ (n : ℕ). frontLive (drop n (x ∷ y ∷ t)) ≡ true) (sym e) (last-live (y ∷ t) h)
@@ -221,7 +222,7 @@ module _ (k : Reading) where
 
   comma-live : (back u : List Marked) (x : Marked) → commaHere back (x ∷ u) ≡ true → x ≡ live 44
   unfolding commaHere byteHere
-  comma-live back u x h = is-live 44 x (and-left (isLiveByte 44 x) (eqb (depthOf back) 0) h)
+  comma-live back u x h = live-byte 44 x (and-left (isLiveByte 44 x) (eqb (depthOf back) 0) h)
 
   listed-before-space : (t : List Marked) → StandsAlone k t → AllBeforeSpace k (listed t)
   unfolding listed

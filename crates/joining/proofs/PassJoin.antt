@@ -8,6 +8,7 @@ use native.Mathlib.Nat.{le-of-suc-le-suc, not-suc-le-zero}
 use borrow.Author.Tests.{not-true}
 use lib.Dec.{eqb}
 use lib.ListN.{length, drop}
+use Rattle.spec.proofs.RefusalOutcomes.{statement-nil}
 use Rattle.spec.proofs.ByteSets.{sign-not-word}
 use Rattle.spec.proofs.Choice.{by, and-left, and-right}
 use Rattle.spec.proofs.MapLaws.{map-append}
@@ -15,14 +16,14 @@ use Rattle.spec.proofs.ListLaws.{concat-append}
 use Rattle.spec.proofs.LengthLaws.{word-in}
 use Rattle.spec.proofs.JoinedPieces.{pieces-cons}
 use Rattle.spec.specs.Bytes.{ascii, within, isLower, isWord, isQuote, upper}
-use Rattle.spec.specs.Lists.{isEmpty, takeWhile, dropWhile, all}
+use Rattle.spec.specs.Lists.{all}
 use Rattle.spec.specs.Spans.{lexemes}
 use Rattle.spec.specs.Map.{Marked, live, quoted, byte, lives, markedText, isLiveByte, frontByte, frontLive}
-use Rattle.spec.specs.Search.{startsIgnoringCase, wordHere, byteHere, ontoFirst, piecesFrom, pieces, first, firstFrom}
+use Rattle.spec.specs.Search.{startsIgnoringCase, wordHere, byteHere, ontoFirst, piecesFrom, pieces}
 use Rattle.spec.specs.Requote.{requoteLexeme, requoted}
 use Rattle.spec.specs.Elsif.{elsifFrom, elsif}
 use Rattle.spec.specs.Outcome.{Outcome, accepted, refused, _⊕_}
-use Rattle.spec.specs.Assignments.{orElse, assignTarget, equalsTarget, markedTarget, statementTarget, assignment, assignmentAt, checkedStatement, statement, joinStatements, assignments}
+use Rattle.spec.specs.Assignments.{joinStatements, assignments}
 use Rattle.spec.specs.SelectInto.{quoteAfter, quoteWalk, selectStatement, joinSelects, selectInto}
 use Rattle.spec.specs.Closed.{endsLive}
 use Rattle.joining.proofs.SpanJoin.{lexemes-join, ends-split}
@@ -198,11 +199,6 @@ outcome-assoc (accepted t) (accepted u) (accepted v) = ap accepted (append-assoc
 outcome-assoc (accepted t) (accepted u) (refused r) = refl
 outcome-assoc (accepted t) (refused r) o = refl
 outcome-assoc (refused r) p o = refl
-
--- the empty statement adds nothing
-statement-nil : statement [] ≡ accepted []
-unfolding statement checkedStatement statementTarget orElse assignTarget equalsTarget markedTarget assignment assignmentAt first firstFrom isEmpty takeWhile dropWhile
-statement-nil = refl
 
 statements-append : (p q : List Marked) (ps qs : List (List Marked))
     → joinStatements ((p ∷ ps) ++ (q ∷ qs)) ≡ joinStatements ((p ∷ ps) ++ ([] ∷ [])) ⊕ joinStatements (q ∷ qs)

@@ -11,6 +11,7 @@ use borrow.Author.Tests.{eqb-true, leb-true, not-true}
 use lib.Dec.{eqb, leb}
 use lib.ListN.{length, drop, length-drop, length-append}
 use lib.Seq.{take-append-le, drop-append-le, drop-drop}
+use Rattle.spec.proofs.RefusalOutcomes.{outcome-none}
 use Rattle.spec.proofs.ByteSets.{sign-not-ident, sign-not-w, gap-w, ident-not-w}
 use Rattle.spec.proofs.BytesLaws.{bytes-append}
 use Rattle.spec.proofs.Apart.{apart}
@@ -22,7 +23,7 @@ use Rattle.spec.specs.Lists.{takeWhile, dropWhile, all}
 use Rattle.spec.specs.Spans.{opensDollar, kindAt, spanOf, spanAt, spanLen}
 use Rattle.spec.specs.Map.{Marked, live, quoted, byte, bytes, mark, markedText, isLiveByte, frontByte, frontLive, ofByte, spanFlag}
 use Rattle.spec.specs.Search.{startsIgnoringCase, wordHere}
-use Rattle.spec.specs.Outcome.{Outcome, accepted, refused, _⊕_}
+use Rattle.spec.specs.Outcome.{_⊕_}
 use Rattle.spec.specs.Raise.{passed, Level, exception, notice, warning, debug, log, info, LevelWord, levelWords, levelIn, endsLevel, isException, levelLen, contentOf, Action, raisedAt, Token, kept, raised, raisesFrom, tokenText, joinTokens, raise}
 use Rattle.spec.specs.Closed.{endsLive}
 use Rattle.spec.specs.declared.Span.the-variants.{Code}
@@ -499,11 +500,6 @@ raises-fresh : (act : Level → Action) (t : List Marked) → raisesFrom act 0 5
 unfolding raisesFrom
 raises-fresh act [] = refl
 raises-fresh act (x ∷ t) = rw (word-fresh (ascii "RAISE") (x ∷ t))
-
-outcome-none : (o : Outcome (List Marked)) → accepted [] ⊕ o ≡ o
-unfolding _⊕_
-outcome-none (accepted t) = refl
-outcome-none (refused r) = refl
 
 tokens-append : (ps qs : List Token) → joinTokens (ps ++ qs) ≡ joinTokens ps ⊕ joinTokens qs
 unfolding joinTokens

@@ -8,11 +8,11 @@ use Prim.Native.Nat.{ℕ, _-_}
 use borrow.Author.Tests.{eqb-true}
 use lib.Dec.{eqb}
 use Rattle.spec.proofs.ByteSets.{sign-not-ident, sign-not-w, gap-w, letter-ident, letter-not-w, w-not-ident, upper-cases}
-use Rattle.spec.proofs.Choice.{by, cond-case, or-cases}
+use Rattle.spec.proofs.Choice.{by, cond-case, or-cases, and-left, and-right}
 use Rattle.spec.specs.Bytes.{ascii, within, isDigit, isLower, isUpper, isIdent, isW, upper}
 use Rattle.spec.specs.Map.{Marked, live, byte, isLive, lives, frontByte}
 use Rattle.joining.proofs.Bools.{clash, no, and-no, at, another}
-use Rattle.joining.proofs.Reading.{Reads, leaves, Takes, Reading}
+use Rattle.joining.proofs.Reading.{Reads, leaves, Takes, Reading, readsAll, put-in}
 
 -- where the reading stands: behind no identifier byte, in a word, behind so many letters of RAISE, behind RAISE and a
 -- space, behind RAISE and `)`, in a word that a level may begin, behind that and `)`
@@ -74,18 +74,18 @@ seenRest paren = false
 seenRest inLevel = true
 seenRest closed = false
 
-abbrev pub seenFirm : Seen → Bool
-seenFirm edge = true
-seenFirm inWord = true
-seenFirm r1 = true
-seenFirm r2 = true
-seenFirm r3 = true
-seenFirm r4 = true
-seenFirm r5 = true
-seenFirm gap = false
-seenFirm paren = false
-seenFirm inLevel = true
-seenFirm closed = false
+abbrev pub seenBeforeSpace : Seen → Bool
+seenBeforeSpace edge = true
+seenBeforeSpace inWord = true
+seenBeforeSpace r1 = true
+seenBeforeSpace r2 = true
+seenBeforeSpace r3 = true
+seenBeforeSpace r4 = true
+seenBeforeSpace r5 = true
+seenBeforeSpace gap = false
+seenBeforeSpace paren = false
+seenBeforeSpace inLevel = true
+seenBeforeSpace closed = false
 
 abbrev pub seenEdge : Seen → Bool
 seenEdge edge = true
@@ -186,22 +186,22 @@ seen-forth inLevel x h =
     (λ f. rw f refl)))
 seen-forth closed x h = absurd (false≢true h)
 
-pub seen-settle : (s : Seen) (x : Marked) → isW (byte x) ≡ false → seenOk false s x ≡ true → seenFirm (seenNext s x) ≡ true
+pub seen-settle : (s : Seen) (x : Marked) → isW (byte x) ≡ false → seenOk false s x ≡ true → seenBeforeSpace (seenNext s x) ≡ true
 unfolding seenNext
-seen-settle edge x w h = start-cases (λ (z : Seen). seenFirm z ≡ true) x refl refl refl
-seen-settle inWord x w h = cond-case (λ (z : Seen). seenFirm z ≡ true) (isIdent (byte x)) inWord edge (λ _. refl) (λ _. refl)
-seen-settle r1 x w h = letter-cases (λ (z : Seen). seenFirm z ≡ true) 65 r2 x refl refl refl
-seen-settle r2 x w h = letter-cases (λ (z : Seen). seenFirm z ≡ true) 73 r3 x refl refl refl
-seen-settle r3 x w h = letter-cases (λ (z : Seen). seenFirm z ≡ true) 83 r4 x refl refl refl
-seen-settle r4 x w h = letter-cases (λ (z : Seen). seenFirm z ≡ true) 69 r5 x refl refl refl
+seen-settle edge x w h = start-cases (λ (z : Seen). seenBeforeSpace z ≡ true) x refl refl refl
+seen-settle inWord x w h = cond-case (λ (z : Seen). seenBeforeSpace z ≡ true) (isIdent (byte x)) inWord edge (λ _. refl) (λ _. refl)
+seen-settle r1 x w h = letter-cases (λ (z : Seen). seenBeforeSpace z ≡ true) 65 r2 x refl refl refl
+seen-settle r2 x w h = letter-cases (λ (z : Seen). seenBeforeSpace z ≡ true) 73 r3 x refl refl refl
+seen-settle r3 x w h = letter-cases (λ (z : Seen). seenBeforeSpace z ≡ true) 83 r4 x refl refl refl
+seen-settle r4 x w h = letter-cases (λ (z : Seen). seenBeforeSpace z ≡ true) 69 r5 x refl refl refl
 seen-settle r5 x w h =
     by (isIdent (byte x)) (λ e. rw e refl)
     (λ e. or-cases (eqb (byte x) 32) false (rw e at h)
     (λ f. let n : eqb (byte x) 32 ≡ false = another isW 32 (byte x) (gap-w 32 refl) w in clash (sym f ∙ n))
     (λ f. clash (sym f)))
 seen-settle gap x w h =
-    cond-case (λ (z : Seen). seenFirm z ≡ true) (levelLetter (byte x)) inLevel (wordStart x) (λ _. refl)
-    (λ _. start-cases (λ (z : Seen). seenFirm z ≡ true) x refl refl refl)
+    cond-case (λ (z : Seen). seenBeforeSpace z ≡ true) (levelLetter (byte x)) inLevel (wordStart x) (λ _. refl)
+    (λ _. start-cases (λ (z : Seen). seenBeforeSpace z ≡ true) x refl refl refl)
 seen-settle paren x w h = absurd (false≢true h)
 seen-settle inLevel x w h =
     by (isIdent (byte x)) (λ e. rw e refl)
@@ -392,91 +392,97 @@ seen-tail paren x w h g = absurd (false≢true h)
 seen-tail inLevel x w h g = tail-level
 seen-tail closed x w h g = absurd (false≢true h)
 
+-- ---- the texts that the passes put in
+
+everySeen : (Seen → Bool) → Bool
+everySeen f =
+    f edge && (f inWord && (f r1 && (f r2 && (f r3 && (f r4 && (f r5 && (f gap && (f paren && (f inLevel && f closed)))))))))
+
+each-seen : (f : Seen → Bool) → everySeen f ≡ true → (s : Seen) → f s ≡ true
+unfolding everySeen
+each-seen f h s =
+    let h0 = h in
+    let h1 = and-right (f edge) _ h0 in
+    let h2 = and-right (f inWord) _ h1 in
+    let h3 = and-right (f r1) _ h2 in
+    let h4 = and-right (f r2) _ h3 in
+    let h5 = and-right (f r3) _ h4 in
+    let h6 = and-right (f r4) _ h5 in
+    let h7 = and-right (f r5) _ h6 in
+    let h8 = and-right (f gap) _ h7 in
+    let h9 = and-right (f paren) _ h8 in
+    at s (and-left (f edge) _ h0) (and-left (f inWord) _ h1) (and-left (f r1) _ h2) (and-left (f r2) _ h3) (and-left (f r3) _ h4) (and-left (f r4) _ h5) (and-left (f r5) _ h6) (and-left (f gap) _ h7) (and-left (f paren) _ h8) (and-left (f inLevel) _ h9) (and-right (f inLevel) _ h9)
+  where
+    at : (s : Seen) → f edge ≡ true → f inWord ≡ true → f r1 ≡ true → f r2 ≡ true → f r3 ≡ true → f r4 ≡ true → f r5 ≡ true → f gap ≡ true → f paren ≡ true → f inLevel ≡ true → f closed ≡ true → f s ≡ true
+    at edge a b c d e g i j k l m = a
+    at inWord a b c d e g i j k l m = b
+    at r1 a b c d e g i j k l m = c
+    at r2 a b c d e g i j k l m = d
+    at r3 a b c d e g i j k l m = e
+    at r4 a b c d e g i j k l m = g
+    at r5 a b c d e g i j k l m = i
+    at gap a b c d e g i j k l m = j
+    at paren a b c d e g i j k l m = k
+    at inLevel a b c d e g i j k l m = l
+    at closed a b c d e g i j k l m = m
+
+abbrev isEdge : Seen → Bool
+isEdge edge = true
+isEdge inWord = false
+isEdge r1 = false
+isEdge r2 = false
+isEdge r3 = false
+isEdge r4 = false
+isEdge r5 = false
+isEdge gap = false
+isEdge paren = false
+isEdge inLevel = false
+isEdge closed = false
+
+only-edge : (s : Seen) → isEdge s ≡ true → s ≡ edge
+only-edge edge h = refl
+only-edge inWord h = absurd (false≢true h)
+only-edge r1 h = absurd (false≢true h)
+only-edge r2 h = absurd (false≢true h)
+only-edge r3 h = absurd (false≢true h)
+only-edge r4 h = absurd (false≢true h)
+only-edge r5 h = absurd (false≢true h)
+only-edge gap h = absurd (false≢true h)
+only-edge paren h = absurd (false≢true h)
+only-edge inLevel h = absurd (false≢true h)
+only-edge closed h = absurd (false≢true h)
+
+-- from the states of a set: computed for each text
+seen-text : (p : Bool) (set : Seen → Bool) (t : List Marked)
+    → everySeen (λ s. not (set s) || (readsAll (seenOk p) seenNext s t && isEdge (leaves seenNext s t))) ≡ true
+    → (s : Seen) → set s ≡ true → Takes (seenOk p) seenNext s edge t
+seen-text p set t = put-in (seenOk p) seenNext everySeen each-seen edge isEdge only-edge set t
+
 pub seen-set : (s : Seen) → seenRest s ≡ true → Takes (seenOk false) seenNext s edge (lives (ascii "SET "))
-unfolding lives seenNext wordStart letterNext levelLetter upper isIdent isLower isUpper isDigit within isW
-seen-set edge h = record { reads = (refl, (refl, (refl, (refl, tt)))); end = refl }
-seen-set inWord h = record { reads = (refl, (refl, (refl, (refl, tt)))); end = refl }
-seen-set r1 h = record { reads = (refl, (refl, (refl, (refl, tt)))); end = refl }
-seen-set r2 h = record { reads = (refl, (refl, (refl, (refl, tt)))); end = refl }
-seen-set r3 h = record { reads = (refl, (refl, (refl, (refl, tt)))); end = refl }
-seen-set r4 h = record { reads = (refl, (refl, (refl, (refl, tt)))); end = refl }
-seen-set r5 h = record { reads = (refl, (refl, (refl, (refl, tt)))); end = refl }
-seen-set gap h = record { reads = (refl, (refl, (refl, (refl, tt)))); end = refl }
-seen-set paren h = absurd (false≢true h)
-seen-set inLevel h = record { reads = (refl, (refl, (refl, (refl, tt)))); end = refl }
-seen-set closed h = absurd (false≢true h)
+unfolding everySeen lives seenNext wordStart letterNext levelLetter upper isIdent isLower isUpper isDigit within isW
+seen-set = seen-text false seenRest (lives (ascii "SET ")) refl
 
 pub seen-select : (s : Seen) → seenRest s ≡ true → Takes (seenOk false) seenNext s edge (lives (ascii "SELECT "))
-unfolding lives seenNext wordStart letterNext levelLetter upper isIdent isLower isUpper isDigit within isW
-seen-select edge h = record { reads = (refl, (refl, (refl, (refl, (refl, (refl, (refl, tt))))))); end = refl }
-seen-select inWord h = record { reads = (refl, (refl, (refl, (refl, (refl, (refl, (refl, tt))))))); end = refl }
-seen-select r1 h = record { reads = (refl, (refl, (refl, (refl, (refl, (refl, (refl, tt))))))); end = refl }
-seen-select r2 h = record { reads = (refl, (refl, (refl, (refl, (refl, (refl, (refl, tt))))))); end = refl }
-seen-select r3 h = record { reads = (refl, (refl, (refl, (refl, (refl, (refl, (refl, tt))))))); end = refl }
-seen-select r4 h = record { reads = (refl, (refl, (refl, (refl, (refl, (refl, (refl, tt))))))); end = refl }
-seen-select r5 h = record { reads = (refl, (refl, (refl, (refl, (refl, (refl, (refl, tt))))))); end = refl }
-seen-select gap h = record { reads = (refl, (refl, (refl, (refl, (refl, (refl, (refl, tt))))))); end = refl }
-seen-select paren h = absurd (false≢true h)
-seen-select inLevel h = record { reads = (refl, (refl, (refl, (refl, (refl, (refl, (refl, tt))))))); end = refl }
-seen-select closed h = absurd (false≢true h)
+unfolding everySeen lives seenNext wordStart letterNext levelLetter upper isIdent isLower isUpper isDigit within isW
+seen-select = seen-text false seenRest (lives (ascii "SELECT ")) refl
 
-pub seen-equals : (s : Seen) → seenFirm s ≡ true → Takes (seenOk false) seenNext s edge (lives (ascii " = "))
-unfolding lives seenNext wordStart letterNext levelLetter upper isIdent isLower isUpper isDigit within isW
-seen-equals edge h = record { reads = (refl, (refl, (refl, tt))); end = refl }
-seen-equals inWord h = record { reads = (refl, (refl, (refl, tt))); end = refl }
-seen-equals r1 h = record { reads = (refl, (refl, (refl, tt))); end = refl }
-seen-equals r2 h = record { reads = (refl, (refl, (refl, tt))); end = refl }
-seen-equals r3 h = record { reads = (refl, (refl, (refl, tt))); end = refl }
-seen-equals r4 h = record { reads = (refl, (refl, (refl, tt))); end = refl }
-seen-equals r5 h = record { reads = (refl, (refl, (refl, tt))); end = refl }
-seen-equals gap h = absurd (false≢true h)
-seen-equals paren h = absurd (false≢true h)
-seen-equals inLevel h = record { reads = (refl, (refl, (refl, tt))); end = refl }
-seen-equals closed h = absurd (false≢true h)
+pub seen-equals : (s : Seen) → seenBeforeSpace s ≡ true → Takes (seenOk false) seenNext s edge (lives (ascii " = "))
+unfolding everySeen lives seenNext wordStart letterNext levelLetter upper isIdent isLower isUpper isDigit within isW
+seen-equals = seen-text false seenBeforeSpace (lives (ascii " = ")) refl
 
-pub seen-open : (s : Seen) → seenFirm s ≡ true → Takes (seenOk false) seenNext s edge (lives (ascii " = ("))
-unfolding lives seenNext wordStart letterNext levelLetter upper isIdent isLower isUpper isDigit within isW
-seen-open edge h = record { reads = (refl, (refl, (refl, (refl, tt)))); end = refl }
-seen-open inWord h = record { reads = (refl, (refl, (refl, (refl, tt)))); end = refl }
-seen-open r1 h = record { reads = (refl, (refl, (refl, (refl, tt)))); end = refl }
-seen-open r2 h = record { reads = (refl, (refl, (refl, (refl, tt)))); end = refl }
-seen-open r3 h = record { reads = (refl, (refl, (refl, (refl, tt)))); end = refl }
-seen-open r4 h = record { reads = (refl, (refl, (refl, (refl, tt)))); end = refl }
-seen-open r5 h = record { reads = (refl, (refl, (refl, (refl, tt)))); end = refl }
-seen-open gap h = absurd (false≢true h)
-seen-open paren h = absurd (false≢true h)
-seen-open inLevel h = record { reads = (refl, (refl, (refl, (refl, tt)))); end = refl }
-seen-open closed h = absurd (false≢true h)
+pub seen-open : (s : Seen) → seenBeforeSpace s ≡ true → Takes (seenOk false) seenNext s edge (lives (ascii " = ("))
+unfolding everySeen lives seenNext wordStart letterNext levelLetter upper isIdent isLower isUpper isDigit within isW
+seen-open = seen-text false seenBeforeSpace (lives (ascii " = (")) refl
 
-pub seen-limit : (s : Seen) → seenFirm s ≡ true → Takes (seenOk true) seenNext s edge (lives (ascii " LIMIT 1);"))
-unfolding lives seenNext wordStart letterNext levelLetter upper isIdent isLower isUpper isDigit within isW
-seen-limit edge h = record { reads = (refl, (refl, (refl, (refl, (refl, (refl, (refl, (refl, (refl, (refl, tt)))))))))); end = refl }
-seen-limit inWord h = record { reads = (refl, (refl, (refl, (refl, (refl, (refl, (refl, (refl, (refl, (refl, tt)))))))))); end = refl }
-seen-limit r1 h = record { reads = (refl, (refl, (refl, (refl, (refl, (refl, (refl, (refl, (refl, (refl, tt)))))))))); end = refl }
-seen-limit r2 h = record { reads = (refl, (refl, (refl, (refl, (refl, (refl, (refl, (refl, (refl, (refl, tt)))))))))); end = refl }
-seen-limit r3 h = record { reads = (refl, (refl, (refl, (refl, (refl, (refl, (refl, (refl, (refl, (refl, tt)))))))))); end = refl }
-seen-limit r4 h = record { reads = (refl, (refl, (refl, (refl, (refl, (refl, (refl, (refl, (refl, (refl, tt)))))))))); end = refl }
-seen-limit r5 h = record { reads = (refl, (refl, (refl, (refl, (refl, (refl, (refl, (refl, (refl, (refl, tt)))))))))); end = refl }
-seen-limit gap h = absurd (false≢true h)
-seen-limit paren h = absurd (false≢true h)
-seen-limit inLevel h = record { reads = (refl, (refl, (refl, (refl, (refl, (refl, (refl, (refl, (refl, (refl, tt)))))))))); end = refl }
-seen-limit closed h = absurd (false≢true h)
+pub seen-limit : (s : Seen) → seenBeforeSpace s ≡ true → Takes (seenOk true) seenNext s edge (lives (ascii " LIMIT 1);"))
+unfolding everySeen lives seenNext wordStart letterNext levelLetter upper isIdent isLower isUpper isDigit within isW
+seen-limit = seen-text true seenBeforeSpace (lives (ascii " LIMIT 1);")) refl
 
-pub seen-closing : (s : Seen) → seenFirm s ≡ true → Takes (seenOk true) seenNext s edge (lives (ascii ");"))
-unfolding lives seenNext wordStart letterNext levelLetter upper isIdent isLower isUpper isDigit within isW
-seen-closing edge h = record { reads = (refl, (refl, tt)); end = refl }
-seen-closing inWord h = record { reads = (refl, (refl, tt)); end = refl }
-seen-closing r1 h = record { reads = (refl, (refl, tt)); end = refl }
-seen-closing r2 h = record { reads = (refl, (refl, tt)); end = refl }
-seen-closing r3 h = record { reads = (refl, (refl, tt)); end = refl }
-seen-closing r4 h = record { reads = (refl, (refl, tt)); end = refl }
-seen-closing r5 h = record { reads = (refl, (refl, tt)); end = refl }
-seen-closing gap h = absurd (false≢true h)
-seen-closing paren h = absurd (false≢true h)
-seen-closing inLevel h = record { reads = (refl, (refl, tt)); end = refl }
-seen-closing closed h = absurd (false≢true h)
+pub seen-closing : (s : Seen) → seenBeforeSpace s ≡ true → Takes (seenOk true) seenNext s edge (lives (ascii ");"))
+unfolding everySeen lives seenNext wordStart letterNext levelLetter upper isIdent isLower isUpper isDigit within isW
+seen-closing = seen-text true seenBeforeSpace (lives (ascii ");")) refl
 
-pub seen-space : (s : Seen) → seenFirm s ≡ true → Takes (seenOk false) seenNext s (seenNext s (live 32)) (live 32 ∷ []) × (seenRest (seenNext s (live 32)) ≡ true)
+pub seen-space : (s : Seen) → seenBeforeSpace s ≡ true → Takes (seenOk false) seenNext s (seenNext s (live 32)) (live 32 ∷ []) × (seenRest (seenNext s (live 32)) ≡ true)
 unfolding lives seenNext wordStart letterNext levelLetter upper isIdent isLower isUpper isDigit within isW
 seen-space edge h = (record { reads = (refl, tt); end = refl }, refl)
 seen-space inWord h = (record { reads = (refl, tt); end = refl }, refl)
@@ -498,7 +504,7 @@ f-next : (x : Marked) → eqb (upper (byte x)) 70 ≡ true → seenNext gap x �
 unfolding seenNext levelLetter
 f-next x f = let e = eqb-true (upper (byte x)) 70 f in let l : levelLetter (byte x) ≡ false = rw e refl in rw l refl
 
-gap-or-edge : (s : Seen) → seenFirm s ≡ true → (P : Seen → Type 0) → P edge → P gap → P (seenNext s (live 32))
+gap-or-edge : (s : Seen) → seenBeforeSpace s ≡ true → (P : Seen → Type 0) → P edge → P gap → P (seenNext s (live 32))
 unfolding lives seenNext wordStart letterNext levelLetter upper isIdent isLower isUpper isDigit within isW
 gap-or-edge edge h P a b = a
 gap-or-edge inWord h P a b = a
@@ -512,7 +518,7 @@ gap-or-edge paren h P a b = absurd (false≢true h)
 gap-or-edge inLevel h P a b = a
 gap-or-edge closed h P a b = absurd (false≢true h)
 
-pub seen-from : (s : Seen) (x : Marked) (t : List Marked) → seenFirm s ≡ true → eqb (upper (byte x)) 70 ≡ true → RaiseRead edge (x ∷ t)
+pub seen-from : (s : Seen) (x : Marked) (t : List Marked) → seenBeforeSpace s ≡ true → eqb (upper (byte x)) 70 ≡ true → RaiseRead edge (x ∷ t)
     → RaiseRead (seenNext s (live 32)) (x ∷ t) × (leaves seenNext (seenNext s (live 32)) (x ∷ t) ≡ leaves seenNext edge (x ∷ t))
 seen-from s x t h f r =
     gap-or-edge s h (λ (z : Seen). RaiseRead z (x ∷ t) × (leaves seenNext z (x ∷ t) ≡ leaves seenNext edge (x ∷ t)))
@@ -529,7 +535,7 @@ raise-reading =
       safe = seenOk true;
       after = seenNext;
       rest = seenRest;
-      beforeSpace = seenFirm;
+      beforeSpace = seenBeforeSpace;
       edge = seenEdge;
       safer = seen-safer;
       rest-start = refl;

@@ -10,6 +10,7 @@ use borrow.Author.Tests.{eqb-true, le-leb}
 use lib.Dec.{eqb, leb}
 use lib.ListN.{length, drop}
 use lib.Seq.{drop-drop}
+use Rattle.spec.proofs.JoinedPieces.{live-byte}
 use Rattle.spec.proofs.ByteSets.{letter-ident, not-word, upper-cases}
 use Rattle.spec.proofs.Choice.{by, and-left, and-right, or-left, or-right}
 use Rattle.spec.specs.Bytes.{ascii, within, isLower, isIdent, isWord, upper}
@@ -21,7 +22,7 @@ use Rattle.spec.specs.Closed.{endsLive}
 use Rattle.joining.specs.Safe.{endsLevelSafely, levelSafe, safeBehind, raisesSafe}
 use Rattle.joining.proofs.Bools.{clash, no, yes, at}
 use Rattle.joining.proofs.Reading.{Reads}
-use Rattle.joining.proofs.Statements.{is-live, ends-rest, ends-ident}
+use Rattle.joining.proofs.Statements.{ends-rest, ends-ident}
 use Rattle.joining.proofs.RaiseRead.{Seen, edge, inWord, r1, r2, r3, r4, r5, gap, paren, inLevel, closed, levelLetter, level-letter, wordStart, letterNext, seenNext, seenOk, seenEdge}
 use Rattle.joining.proofs.RaiseReadStart.{edge-byte}
 
@@ -31,7 +32,7 @@ Guarded s t = Reads (seenOk true) seenNext s t
 -- behind a byte that is no `;` a text goes on
 ends-more : (x : Marked) (t : List Marked) → eqb (byte x) 59 ≡ false → endsLive (x ∷ t) ≡ true → endsLive t ≡ true
 unfolding endsLive
-ends-more x [] n h = clash (sym (ap (λ (y : Marked). eqb (byte y) 59) (is-live 59 x h)) ∙ n)
+ends-more x [] n h = clash (sym (ap (λ (y : Marked). eqb (byte y) 59) (live-byte 59 x h)) ∙ n)
 ends-more x (y ∷ t) n h = h
 
 -- ---- the level

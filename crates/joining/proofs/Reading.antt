@@ -1,9 +1,10 @@
 -- Marked text read from the left with a state: what is read can be cut and put together again. Assumes nothing.
 use mathlib.Core.Path.{_≡_, refl, sym, ap, _∙_, subst}
-use mathlib.Core.Bool.{Bool, true, false, not, _||_}
+use mathlib.Core.Bool.{Bool, true, false, not, _&&_, _||_}
 use mathlib.Core.List.{List, [], _∷_, _++_}
 use Prim.Native.Nat.{ℕ}
 use lib.Dec.{eqb}
+use Rattle.spec.proofs.Choice.{and-left, and-right}
 use Rattle.spec.specs.Bytes.{ascii, isIdent, isQuote, isW, upper}
 use Rattle.spec.specs.Map.{Marked, live, byte, lives, frontByte}
 
@@ -48,6 +49,31 @@ module _ {S : Type 0} (ok : S → Marked → Bool) (after : S → Marked → S) 
       record {
         reads = paste t u s (a .reads) (rw (a .end) (b .reads));
         end = leaves-append after t u s ∙ (ap (λ (w : S). leaves after w u) (a .end) ∙ b .end);
+      }
+
+module _ {S : Type 0} (ok : S → Marked → Bool) (after : S → Marked → S) where
+  -- each byte is allowed, as a test that computes
+  abbrev pub readsAll : S → List Marked → Bool
+  readsAll s [] = true
+  readsAll s (x ∷ t) = ok s x && readsAll (after s x) t
+
+  pub all-reads : (t : List Marked) (s : S) → readsAll s t ≡ true → Reads ok after s t
+  all-reads [] s h = tt
+  all-reads (x ∷ t) s h =
+      let more = readsAll (after s x) t in
+      (and-left (ok s x) more h, all-reads t (after s x) (and-right (ok s x) more h))
+
+  -- a text that a pass puts in is read from each state of a set and leaves z: `every` tries all states
+  pub put-in : (every : (S → Bool) → Bool) → ((f : S → Bool) → every f ≡ true → (s : S) → f s ≡ true)
+      → (z : S) (isZ : S → Bool) → ((s : S) → isZ s ≡ true → s ≡ z)
+      → (set : S → Bool) (t : List Marked)
+      → every (λ s. not (set s) || (readsAll s t && isZ (leaves after s t))) ≡ true
+      → (s : S) → set s ≡ true → Takes ok after s z t
+  put-in every each z isZ only set t h s m =
+      let g : (readsAll s t && isZ (leaves after s t)) ≡ true = rw m at (each _ h s) in
+      record {
+        reads = all-reads t s (and-left (readsAll s t) (isZ (leaves after s t)) g);
+        end = only (leaves after s t) (and-right (readsAll s t) (isZ (leaves after s t)) g);
       }
 
 -- a reading that allows more

@@ -96,7 +96,7 @@ module _ (ys : List ℕ) where
   quoted-keep e q (c ∷ cs) h = up (quote-keep e q cs (down h))
 
 -- where p is not in front of what it stops at, the search ran to the end
-seek-miss : (p xs : List ℕ) → isPrefix p (drop (seekLen p xs) xs) ≡ false → seekLen p xs ≡ length xs
+pub seek-miss : (p xs : List ℕ) → isPrefix p (drop (seekLen p xs) xs) ≡ false → seekLen p xs ≡ length xs
 unfolding seekLen
 seek-miss p [] h = refl
 seek-miss p (x ∷ xs) h = go (λ k. seek-miss p xs k) (isPrefix p (x ∷ xs)) refl h

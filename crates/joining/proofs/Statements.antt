@@ -2,20 +2,15 @@
 use mathlib.Core.Path.{_≡_, refl, sym, ap, _∙_, subst}
 use mathlib.Core.Bool.{Bool, true, false≢true}
 use mathlib.Core.List.{List, [], _∷_, _++_}
-use Prim.Native.Nat.{ℕ}
-use borrow.Author.Tests.{eqb-true}
+use Rattle.spec.proofs.JoinedPieces.{live-byte}
 use Rattle.spec.proofs.ByteSets.{sign-not-ident}
 use Rattle.spec.proofs.Choice.{by}
 use Rattle.spec.specs.Bytes.{isIdent}
-use Rattle.spec.specs.Map.{Marked, live, quoted, byte, isLiveByte}
+use Rattle.spec.specs.Map.{Marked, live, byte, isLiveByte}
 use Rattle.spec.specs.Search.{byteHere, ontoFirst, piecesFrom, pieces}
 use Rattle.spec.specs.Closed.{endsLive}
 use Rattle.joining.proofs.Reading.{Reads, leaves, paste, Reading}
 use Rattle.joining.proofs.Parts.{Read}
-
-pub is-live : (b : ℕ) (x : Marked) → isLiveByte b x ≡ true → x ≡ live b
-is-live b (live c) h = ap live (eqb-true c b h)
-is-live b (quoted c) h = absurd (false≢true h)
 
 -- what stands before a text does not change its end
 pub ends-append : (a b : List Marked) → endsLive b ≡ true → endsLive (a ++ b) ≡ true
@@ -34,7 +29,7 @@ ends-rest x (y ∷ t) h n = h
 -- the last byte is a `;`, no identifier byte
 pub ends-ident : (x : Marked) (t : List Marked) → isIdent (byte x) ≡ true → endsLive (x ∷ t) ≡ true → endsLive t ≡ true
 unfolding endsLive
-ends-ident x [] i h = absurd (false≢true (sym (sign-not-ident 59 refl) ∙ subst (λ (y : Marked). isIdent (byte y) ≡ true) (is-live 59 x h) i))
+ends-ident x [] i h = absurd (false≢true (sym (sign-not-ident 59 refl) ∙ subst (λ (y : Marked). isIdent (byte y) ≡ true) (live-byte 59 x h) i))
 ends-ident x (y ∷ t) i h = h
 
 module _ (k : Reading) where
@@ -47,7 +42,7 @@ module _ (k : Reading) where
   pub shut-leaves : (t : List Marked) (s : k .State) → endsLive t ≡ true → leaves (k .after) s t ≡ k .start
   unfolding endsLive
   shut-leaves [] s h = absurd (false≢true h)
-  shut-leaves (x ∷ []) s h = ap (λ (y : Marked). k .after s y) (is-live 59 x h) ∙ k .semi s
+  shut-leaves (x ∷ []) s h = ap (λ (y : Marked). k .after s y) (live-byte 59 x h) ∙ k .semi s
   shut-leaves (x ∷ y ∷ t) s h = shut-leaves (y ∷ t) (k .after s x) h
 
   pub shut-append : (ok : k .State → Marked → Bool) (a b : List Marked) → Shut ok a → Shut ok b → Shut ok (a ++ b)
@@ -87,12 +82,12 @@ module _ (k : Reading) where
   cut-from : (t back : List Marked) (s : k .State) → endsLive t ≡ true → Read k s t → FirstOf s (piecesFrom (byteHere 59) back t)
   unfolding endsLive piecesFrom byteHere
   cut-from [] back s h r = absurd (false≢true h)
-  cut-from (x ∷ []) back s h r = rw h ((rw (is-live 59 x h) at (r .0), tt), refl)
+  cut-from (x ∷ []) back s h r = rw h ((rw (live-byte 59 x h) at (r .0), tt), refl)
   cut-from (x ∷ y ∷ t) back s h r =
       by (isLiveByte 59 x)
       (λ e.
-      let o : k .ok s (live 59) ≡ true = rw (is-live 59 x e) at (r .0) in
-      let z : k .after s x ≡ k .start = ap (λ (w : Marked). k .after s w) (is-live 59 x e) ∙ k .semi s in
+      let o : k .ok s (live 59) ≡ true = rw (live-byte 59 x e) at (r .0) in
+      let z : k .after s x ≡ k .start = ap (λ (w : Marked). k .after s w) (live-byte 59 x e) ∙ k .semi s in
       let more = cut-from (y ∷ t) (x ∷ back) (k .start) h (subst (λ (w : k .State). Read k w (y ∷ t)) z (r .1)) in
       rw e (first-cut s (piecesFrom (byteHere 59) (x ∷ back) (y ∷ t)) o (first-statements (piecesFrom (byteHere 59) (x ∷ back) (y ∷ t)) more)))
       (λ e. rw e (first-onto x s (piecesFrom (byteHere 59) (x ∷ back) (y ∷ t)) (r .0) (cut-from (y ∷ t) (x ∷ back) (k .after s x) h (r .1))))

@@ -1,15 +1,15 @@
 -- Passes 3 and 4 may cut and glue well formed text as they do. Assumes nothing.
 use mathlib.Core.Path.{_≡_, refl, sym, _∙_, subst}
-use mathlib.Core.Bool.{true, false, cond, not, _||_, false≢true}
+use mathlib.Core.Bool.{Bool, true, false, cond, not, _&&_, _||_, false≢true}
 use mathlib.Core.List.{List, [], _∷_}
 use Prim.Native.Nat.{ℕ}
 use lib.Dec.{eqb}
 use Rattle.spec.proofs.ByteSets.{sign-not-w, gap-w, w-not-ident}
-use Rattle.spec.proofs.Choice.{by, or-left, or-right}
+use Rattle.spec.proofs.Choice.{by, or-left, or-right, and-left, and-right}
 use Rattle.spec.specs.Bytes.{ascii, within, isDigit, isLower, isUpper, isIdent, isQuote, isW}
 use Rattle.spec.specs.Map.{Marked, live, quoted, byte, lives}
 use Rattle.joining.proofs.Bools.{clash, at, other, no-quote, white-no-quote}
-use Rattle.joining.proofs.Reading.{leaves, Takes, Reading}
+use Rattle.joining.proofs.Reading.{leaves, Takes, Reading, readsAll, put-in}
 use Rattle.joining.proofs.WellFormed.{Open, clear, dash, slash, sign, tag, inSingle, inDouble, liveOk, quotedOk, wellOk, liveNext, quotedNext, wellNext, isOut, Well, next-ident, live-quote, live-in, live-out}
 
 pub well-back : (s : Open) (x : Marked) → isQuote (byte x) ≡ false → wellOk s x ≡ true → isOut (wellNext s x) ≡ true → isOut s ≡ true
@@ -100,75 +100,84 @@ pub well-tail : (s : Open) (x : Marked) → (isW (byte x) || eqb (byte x) 59) �
     → wellOk s (live 59) ≡ true
 well-tail s x w o e = semi-ok s (well-back s x (end-no-quote (byte x) w) o (live-in (wellNext s x) 59 e))
 
+-- ---- the texts that the passes put in
+
+everyOpen : (Open → Bool) → Bool
+everyOpen f = f clear && (f dash && (f slash && (f sign && (f tag && (f inSingle && f inDouble)))))
+
+each-open : (f : Open → Bool) → everyOpen f ≡ true → (s : Open) → f s ≡ true
+unfolding everyOpen
+each-open f h s =
+    let h1 = and-right (f clear) _ h in
+    let h2 = and-right (f dash) _ h1 in
+    let h3 = and-right (f slash) _ h2 in
+    let h4 = and-right (f sign) _ h3 in
+    let h5 = and-right (f tag) _ h4 in
+    at s (and-left (f clear) _ h) (and-left (f dash) _ h1) (and-left (f slash) _ h2) (and-left (f sign) _ h3)
+    (and-left (f tag) _ h4) (and-left (f inSingle) _ h5) (and-right (f inSingle) _ h5)
+  where
+    at : (s : Open) → f clear ≡ true → f dash ≡ true → f slash ≡ true → f sign ≡ true → f tag ≡ true → f inSingle ≡ true
+        → f inDouble ≡ true
+        → f s ≡ true
+    at clear a b c d e g k = a
+    at dash a b c d e g k = b
+    at slash a b c d e g k = c
+    at sign a b c d e g k = d
+    at tag a b c d e g k = e
+    at inSingle a b c d e g k = g
+    at inDouble a b c d e g k = k
+
+abbrev isClear : Open → Bool
+isClear clear = true
+isClear dash = false
+isClear slash = false
+isClear sign = false
+isClear tag = false
+isClear inSingle = false
+isClear inDouble = false
+
+only-clear : (s : Open) → isClear s ≡ true → s ≡ clear
+only-clear clear h = refl
+only-clear dash h = absurd (false≢true h)
+only-clear slash h = absurd (false≢true h)
+only-clear sign h = absurd (false≢true h)
+only-clear tag h = absurd (false≢true h)
+only-clear inSingle h = absurd (false≢true h)
+only-clear inDouble h = absurd (false≢true h)
+
+-- outside a literal: computed for each text
+well-text : (t : List Marked)
+    → everyOpen (λ s. not (isOut s) || (readsAll wellOk wellNext s t && isClear (leaves wellNext s t))) ≡ true
+    → (s : Open) → isOut s ≡ true → Takes wellOk wellNext s clear t
+well-text t = put-in wellOk wellNext everyOpen each-open clear isClear only-clear isOut t
+
 pub well-set : (s : Open) → isOut s ≡ true → Takes wellOk wellNext s clear (lives (ascii "SET "))
-unfolding lives liveNext isIdent isLower isUpper isDigit within isQuote
-well-set clear h = record { reads = (refl, (refl, (refl, (refl, tt)))); end = refl }
-well-set dash h = record { reads = (refl, (refl, (refl, (refl, tt)))); end = refl }
-well-set slash h = record { reads = (refl, (refl, (refl, (refl, tt)))); end = refl }
-well-set sign h = record { reads = (refl, (refl, (refl, (refl, tt)))); end = refl }
-well-set tag h = record { reads = (refl, (refl, (refl, (refl, tt)))); end = refl }
-well-set inSingle h = absurd (false≢true h)
-well-set inDouble h = absurd (false≢true h)
+unfolding everyOpen lives liveNext isIdent isLower isUpper isDigit within isQuote
+well-set = well-text (lives (ascii "SET ")) refl
 
 pub well-select : (s : Open) → isOut s ≡ true → Takes wellOk wellNext s clear (lives (ascii "SELECT "))
-unfolding lives liveNext isIdent isLower isUpper isDigit within isQuote
-well-select clear h = record { reads = (refl, (refl, (refl, (refl, (refl, (refl, (refl, tt))))))); end = refl }
-well-select dash h = record { reads = (refl, (refl, (refl, (refl, (refl, (refl, (refl, tt))))))); end = refl }
-well-select slash h = record { reads = (refl, (refl, (refl, (refl, (refl, (refl, (refl, tt))))))); end = refl }
-well-select sign h = record { reads = (refl, (refl, (refl, (refl, (refl, (refl, (refl, tt))))))); end = refl }
-well-select tag h = record { reads = (refl, (refl, (refl, (refl, (refl, (refl, (refl, tt))))))); end = refl }
-well-select inSingle h = absurd (false≢true h)
-well-select inDouble h = absurd (false≢true h)
+unfolding everyOpen lives liveNext isIdent isLower isUpper isDigit within isQuote
+well-select = well-text (lives (ascii "SELECT ")) refl
 
 pub well-equals : (s : Open) → isOut s ≡ true → Takes wellOk wellNext s clear (lives (ascii " = "))
-unfolding lives liveNext isIdent isLower isUpper isDigit within isQuote
-well-equals clear h = record { reads = (refl, (refl, (refl, tt))); end = refl }
-well-equals dash h = record { reads = (refl, (refl, (refl, tt))); end = refl }
-well-equals slash h = record { reads = (refl, (refl, (refl, tt))); end = refl }
-well-equals sign h = record { reads = (refl, (refl, (refl, tt))); end = refl }
-well-equals tag h = record { reads = (refl, (refl, (refl, tt))); end = refl }
-well-equals inSingle h = absurd (false≢true h)
-well-equals inDouble h = absurd (false≢true h)
+unfolding everyOpen lives liveNext isIdent isLower isUpper isDigit within isQuote
+well-equals = well-text (lives (ascii " = ")) refl
 
 pub well-open : (s : Open) → isOut s ≡ true → Takes wellOk wellNext s clear (lives (ascii " = ("))
-unfolding lives liveNext isIdent isLower isUpper isDigit within isQuote
-well-open clear h = record { reads = (refl, (refl, (refl, (refl, tt)))); end = refl }
-well-open dash h = record { reads = (refl, (refl, (refl, (refl, tt)))); end = refl }
-well-open slash h = record { reads = (refl, (refl, (refl, (refl, tt)))); end = refl }
-well-open sign h = record { reads = (refl, (refl, (refl, (refl, tt)))); end = refl }
-well-open tag h = record { reads = (refl, (refl, (refl, (refl, tt)))); end = refl }
-well-open inSingle h = absurd (false≢true h)
-well-open inDouble h = absurd (false≢true h)
+unfolding everyOpen lives liveNext isIdent isLower isUpper isDigit within isQuote
+well-open = well-text (lives (ascii " = (")) refl
 
 pub well-limit : (s : Open) → isOut s ≡ true → Takes wellOk wellNext s clear (lives (ascii " LIMIT 1);"))
-unfolding lives liveNext isIdent isLower isUpper isDigit within isQuote
-well-limit clear h = record { reads = (refl, (refl, (refl, (refl, (refl, (refl, (refl, (refl, (refl, (refl, tt)))))))))); end = refl }
-well-limit dash h = record { reads = (refl, (refl, (refl, (refl, (refl, (refl, (refl, (refl, (refl, (refl, tt)))))))))); end = refl }
-well-limit slash h = record { reads = (refl, (refl, (refl, (refl, (refl, (refl, (refl, (refl, (refl, (refl, tt)))))))))); end = refl }
-well-limit sign h = record { reads = (refl, (refl, (refl, (refl, (refl, (refl, (refl, (refl, (refl, (refl, tt)))))))))); end = refl }
-well-limit tag h = record { reads = (refl, (refl, (refl, (refl, (refl, (refl, (refl, (refl, (refl, (refl, tt)))))))))); end = refl }
-well-limit inSingle h = absurd (false≢true h)
-well-limit inDouble h = absurd (false≢true h)
+unfolding everyOpen lives liveNext isIdent isLower isUpper isDigit within isQuote
+well-limit = well-text (lives (ascii " LIMIT 1);")) refl
 
 pub well-closing : (s : Open) → isOut s ≡ true → Takes wellOk wellNext s clear (lives (ascii ");"))
-unfolding lives liveNext isIdent isLower isUpper isDigit within isQuote
-well-closing clear h = record { reads = (refl, (refl, tt)); end = refl }
-well-closing dash h = record { reads = (refl, (refl, tt)); end = refl }
-well-closing slash h = record { reads = (refl, (refl, tt)); end = refl }
-well-closing sign h = record { reads = (refl, (refl, tt)); end = refl }
-well-closing tag h = record { reads = (refl, (refl, tt)); end = refl }
-well-closing inSingle h = absurd (false≢true h)
-well-closing inDouble h = absurd (false≢true h)
+unfolding everyOpen lives liveNext isIdent isLower isUpper isDigit within isQuote
+well-closing = well-text (lives (ascii ");")) refl
 
 pub well-space : (s : Open) → isOut s ≡ true → Takes wellOk wellNext s clear (lives (ascii " "))
-unfolding lives liveNext isIdent isLower isUpper isDigit within isQuote
-well-space clear h = record { reads = (refl, tt); end = refl }
-well-space dash h = record { reads = (refl, tt); end = refl }
-well-space slash h = record { reads = (refl, tt); end = refl }
-well-space sign h = record { reads = (refl, tt); end = refl }
-well-space tag h = record { reads = (refl, tt); end = refl }
-well-space inSingle h = absurd (false≢true h)
-well-space inDouble h = absurd (false≢true h)
+unfolding everyOpen lives liveNext isIdent isLower isUpper isDigit within isQuote
+well-space = well-text (lives (ascii " ")) refl
 
 -- passes 3 and 4 may cut and glue well formed text as they do
 unfoldable pub well-formed-reading : Reading

@@ -76,7 +76,7 @@ fn answer_of(p: Pass) -> Rewritten
     }
 }
 
-// The passes end in p, whose bytes stand in `from`.
+// The passes end in p; the bytes that it hands back, if any, stand in `from`.
 fn finish(out: &mut [u8], from: &[u8], p: Pass) -> Rewritten
     requires { ⌜ length (now out) ≡ 65536 ⌝ }
     requires { ⌜ length (now from) ≡ 65536 ⌝ }
@@ -153,6 +153,7 @@ fn run_passes(text: &[u8], output: &mut [u8], work: &mut [u8], spare: &mut [u8])
     };
     let selected = select_pass(&spare[..n], work, output);
     let Pass::Done(k) = selected else {
+        // Pass 4 refuses by 6 alone, which hands no bytes back.
         return finish(output, spare, selected);
     };
     let raised = raise_pass(&output[..k], work, spare);

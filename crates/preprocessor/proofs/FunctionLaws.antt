@@ -46,9 +46,9 @@ unfolding parsedOf
 parsed-names ds e = by (ltb 512 (length ds)) (λ p. ltb-true 512 (length ds) p) (λ p. let q : Count (length ds) (length (packed ds)) ≡ TooManyNames = rw p at e in absurd (apart (cc)))
 
 -- the call's result with too many names
-pub function-refused : (xs : List ℕ) → 512 < length (recordsOf xs) → functionResult xs ≡ withoutRecords refusal.TooManyNames []
+pub names-refused : (xs : List ℕ) → 512 < length (recordsOf xs) → functionResult xs ≡ withoutRecords refusal.TooManyNames []
 unfolding functionResult recordLimit
-function-refused xs h = rw (lt-ltb 512 (length (recordsOf xs)) h) refl
+names-refused xs h = rw (lt-ltb 512 (length (recordsOf xs)) h) refl
 
 -- the records change an accepted answer's count, and no output
 pub records-answer : (ds : List Declared) (w : Rewriting) → withRecords (length ds) (resultOf [] w .answer) ≡ resultOf ds w .answer
@@ -173,7 +173,7 @@ module _ (xs work work′ : List ℕ) (m : work′ ≡ keptBehind (mapOf xs) wor
     many = parsed-names (recordsOf xs) (ap parsedOf (sym the-records) ∙ q)
 
     pub refused-is : functionResult xs ≡ withoutRecords refusal.TooManyNames []
-    refused-is = function-refused xs many
+    refused-is = names-refused xs many
 
     pub texts-same : (d d′ rs rs′ : List ℕ) → Holds (recordsIn (marked xs work′)) d d′ rs rs′ → d′ ≡ d
     texts-same d d′ rs rs′ held = (subst (λ (ds : List Declared). Holds ds d d′ rs rs′) the-records held) .refused many

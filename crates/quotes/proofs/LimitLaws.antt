@@ -1,5 +1,5 @@
 -- ` LIMIT ` read byte by byte says whether it stands in the text; a text may come in parts. Assumes nothing.
-use mathlib.Core.Path.{_≡_, refl, sym, ap, _∙_}
+use mathlib.Core.Path.{_≡_, refl, sym, _∙_}
 use mathlib.Core.Bool.{Bool, true, false, cond, _&&_, _||_}
 use mathlib.Core.List.{List, [], _∷_, _++_}
 use Prim.Native.Nat.{ℕ, zero, suc, _+_, _≤_, _<_}
@@ -12,7 +12,7 @@ use Rattle.spec.proofs.AheadLaws.{drop-one}
 use Rattle.spec.proofs.Choice.{by}
 use Rattle.spec.proofs.WalkLaws.{starts-case}
 use Rattle.spec.specs.Bytes.{ascii, within, isLower, upper, prefixBy}
-use Rattle.spec.specs.Map.{Marked, bytes, lives}
+use Rattle.spec.specs.Map.{Marked, bytes}
 use Rattle.spec.specs.Search.{firstFrom, first, isFound, startsIgnoringCase}
 use Rattle.spec.specs.SelectInto.{hasLimit}
 use Rattle.quotes.specs.Limits.{limitNext, limitFrom}
@@ -124,11 +124,6 @@ limit-read (c ∷ cs) k h =
 pub limit-marks : (t : List Marked) → hasLimit t ≡ eqb (limitFrom 0 (bytes t)) 7
 unfolding hasLimit first
 limit-marks t = limit-found [] t ∙ sym (limit-read (bytes t) 0 (omega arith) ∙ front-in (bytes t))
-
-lives-bytes : (xs : List ℕ) → bytes (lives xs) ≡ xs
-unfolding bytes lives
-lives-bytes [] = refl
-lives-bytes (c ∷ cs) = ap (λ (l : List ℕ). c ∷ l) (lives-bytes cs)
 
 -- one byte more from i on, and none left
 module _ (xs : List ℕ) (i k : ℕ) where

@@ -8,6 +8,7 @@ use native.Mathlib.Omega.{arith}
 use borrow.Author.Tests.{leb-true, leb-false}
 use lib.Dec.{leb}
 use lib.ListN.{length, take, drop, getD}
+use Rattle.spec.proofs.RefusalOutcomes.{outcome-none}
 use Rattle.spec.proofs.Choice.{by}
 use Rattle.spec.proofs.CopyLaws.{copied, copied-all}
 use Rattle.spec.proofs.FirstLaws.{first-least}
@@ -21,11 +22,6 @@ use Rattle.spec.specs.Raise.{actionOf, Token, fateText, tokenText, joinTokens, 
 use Rattle.spec.specs.declared.Found.the-variants.{At, Nothing}
 
 module _ (t : List Marked) where
-  accepted-nothing : (o : Outcome (List Marked)) → accepted [] ⊕ o ≡ o
-  unfolding _⊕_
-  accepted-nothing (accepted t) = refl
-  accepted-nothing (refused r) = refl
-
   accepted-more : (x : Marked) (u : List Marked) (o : Outcome (List Marked)) → accepted (x ∷ u) ⊕ o ≡ accepted (x ∷ []) ⊕ (accepted u ⊕ o)
   unfolding _⊕_
   accepted-more x u (accepted t) = refl
@@ -48,12 +44,12 @@ module _ (t : List Marked) where
   unfolding joinTokens tokenText
   raise-step i j e =
       let b = first-least raiseHere t i j e in
-      copied (λ (l : List Marked) (o : Outcome (List Marked)). accepted l ⊕ o) accepted-nothing accepted-more raiseHere t leftAt left-kept i j e
+      copied (λ (l : List Marked) (o : Outcome (List Marked)). accepted l ⊕ o) outcome-none accepted-more raiseHere t leftAt left-kept i j e
       ∙ ap (λ (ps : List Token). accepted (take (j - i) (drop i t)) ⊕ joinTokens ps) (raise-goes t j (b .inside) (b .passes))
 
   pub raise-last : (i : ℕ) → first raiseHere i t ≡ Nothing → leftAt i ≡ accepted (drop i t) ⊕ accepted []
   raise-last =
-      copied-all (λ (l : List Marked) (o : Outcome (List Marked)). accepted l ⊕ o) accepted-nothing accepted-more raiseHere t leftAt left-kept (accepted []) left-end
+      copied-all (λ (l : List Marked) (o : Outcome (List Marked)). accepted l ⊕ o) outcome-none accepted-more raiseHere t leftAt left-kept (accepted []) left-end
 
   -- past the end it does not matter how far
   pub left-min : (j n k : ℕ) → n ≡ min k (length t - j) → j ≤ length t → leftAt (j + k) ≡ leftAt (j + n)

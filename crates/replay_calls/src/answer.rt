@@ -17,7 +17,7 @@ use stored_list::part;
 use stored_list::same;
 use stored_list::same_front;
 
-// How many bytes of each lent buffer a call fills.
+// How many bytes of each lent buffer a call fills; the replay states its sizes by itself.
 const SIZE: usize = 65536;
 
 // How many record numbers the function call fills.

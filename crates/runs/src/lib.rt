@@ -1,4 +1,5 @@
-// Runs of the bytes of a set in a text: where they end, where they start, and a text without W at both ends.
+// Runs of the bytes of a set in a text: where they end, where they start, whether there is one, and a text
+// without W at both ends.
 use classes::is_ident_byte;
 use classes::is_n;
 use classes::is_w;

@@ -1,24 +1,17 @@
 -- The search for a needle whose first byte is live, one step at an index. Assumes nothing.
-use mathlib.Core.Path.{_≡_, refl, ap, _∙_}
-use mathlib.Core.Bool.{Bool, true, false, _&&_}
-use mathlib.Core.List.{List, [], _∷_}
+use mathlib.Core.Path.{_≡_, refl, _∙_}
+use mathlib.Core.Bool.{true, false, _&&_}
+use mathlib.Core.List.{List}
 use Prim.Native.Nat.{ℕ, _+_, _≤_, _<_}
 use borrow.Author.Tests.{eq-eqb, ne-eqb}
 use lib.Dec.{eqb}
 use lib.ListN.{length, drop, getD}
-use Rattle.spec.specs.Bytes.{isPrefix, prefixBy}
+use Rattle.spec.specs.Bytes.{isPrefix}
 use Rattle.spec.specs.Map.{marked}
 use Rattle.spec.specs.Search.{first, needleHere}
 use Rattle.spec.specs.declared.Found.the-variants.{At, Nothing}
 use Rattle.spec.proofs.MapLaws.{marked-length}
-use Rattle.spec.proofs.WalkLaws.{front-live, starts-exact-at, passesAt, first-end, first-hit, first-miss}
-
--- exact comparison
-prefix-exact : (w xs : List ℕ) → prefixBy (λ (b : ℕ). b) w xs ≡ isPrefix w xs
-unfolding prefixBy isPrefix
-prefix-exact [] xs = refl
-prefix-exact (a ∷ w) [] = refl
-prefix-exact (a ∷ w) (x ∷ xs) = ap (λ (b : Bool). eqb x a && b) (prefix-exact w xs)
+use Rattle.spec.proofs.WalkLaws.{front-live, starts-exact-at, passesAt, first-end, first-hit, first-miss, prefix-exact}
 
 module _ (w xs ms : List ℕ) (i : ℕ) where
   pub needle-end : length xs ≤ i → first (needleHere w) i (marked xs ms) ≡ Nothing

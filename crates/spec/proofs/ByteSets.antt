@@ -1,5 +1,5 @@
--- Facts on the byte sets: all that proofs use of which bytes are in them, so that who exchanges a set proves this list anew.
--- Assumes nothing.
+-- Facts on the byte sets: what proofs use of which bytes are in them, so that who exchanges a set proves this list anew. Besides,
+-- the tables of crate `joining` compute with the sets byte by byte, and `isDigit` stays as it is. Assumes nothing.
 use mathlib.Core.Path.{_≡_, refl, sym, ap, _∙_, subst}
 use mathlib.Core.Bool.{Bool, true, false, not, _&&_, _||_, false≢true}
 use mathlib.Core.List.{List, [], _∷_}
@@ -147,11 +147,3 @@ lower-upper c e =
 upper-other : (c : ℕ) → isLower c ≡ false → upper c ≡ c
 unfolding upper
 upper-other c e = rw e refl
-
--- letter case does not matter for identifier bytes
-pub ident-upper : (c : ℕ) → isIdent c ≡ isIdent (upper c)
-unfolding isIdent upper
-ident-upper c =
-    by (isLower c)
-    (λ e. rw (e, lower-upper c e) (by (isLower (c - 32)) (λ f. rw f refl) (λ f. rw f refl)))
-    (λ e. ap isIdent (sym (upper-other c e)))

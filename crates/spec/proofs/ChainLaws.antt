@@ -6,14 +6,14 @@ use mathlib.Core.Option.{some}
 use Prim.Native.Nat.{ℕ, zero, suc, _+_, _*_, _≤_, _<_, zero-le, suc-le-suc}
 use native.Mathlib.Nat.{not-suc-le-zero, le-of-suc-le-suc}
 use native.Mathlib.Omega.{arith}
-use borrow.Author.Tests.{not-true, eqb-true, eqb-false, eq-eqb, ne-eqb, le-leb}
+use borrow.Author.Tests.{not-true, eqb-true, eqb-false, eq-eqb, ne-eqb}
 use lib.Dec.{eqb}
 use lib.ListN.{length, getD, getElem?}
 use Rattle.spec.proofs.Choice.{by, and-left, and-right, and-both, or-left, or-right}
 use Rattle.spec.proofs.NameOrder.{same-sym, before-irrefl, before-trans, by-order}
 use Rattle.spec.proofs.RecordLaws.{named, distinct, names, length-names, numberAt, number-next}
-use Rattle.spec.specs.Bytes.{isSame, isBefore, within}
-use Rattle.spec.specs.Lists.{any, all, keep}
+use Rattle.spec.specs.Bytes.{isSame, isBefore}
+use Rattle.spec.specs.Lists.{any, keep}
 use Rattle.spec.specs.Declarations.{Declared, recordWidth, Place, firstInOrder, headNext, nextOf, numbersOf, chainFrom, chain}
 
 -- ---- how many elements pass a test
@@ -260,12 +260,6 @@ walk-once ds f i (k ∷ ks) w m a b =
     (λ e. let q : m ≡ k = eqb-true m k e in
     rw (e, q, w .0 .passes) (ap suc ((rw q at more) ∙ rw (before-irrefl (nameOf ds k)))))
     (λ e. rw (e, w .0 .others m a b (eqb-false m k e)) more)
-
-walk-within : (ds : List Declared) (f : List ℕ → Bool) (i : ℕ) (ks : List ℕ) → Walk ds f i ks → all (within 1 (length ds)) ks ≡ true
-unfolding all within
-walk-within ds f i [] w = refl
-walk-within ds f i (k ∷ ks) w =
-    rw (le-leb 1 k (w .0 .low), le-leb k (length ds) (w .0 .high)) (walk-within ds _ _ ks (w .1))
 
 -- each name comes before the next
 unfoldable pub rising : List (List ℕ) → Bool

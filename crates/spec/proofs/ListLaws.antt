@@ -1,6 +1,6 @@
 -- Lists by a test on their elements, and sums over lists. Assumes nothing.
 use mathlib.Core.Path.{_≡_, refl, sym, ap, _∙_}
-use mathlib.Core.Bool.{Bool, true, not, _&&_, _||_}
+use mathlib.Core.Bool.{Bool, true, _&&_}
 use mathlib.Core.List.{List, [], _∷_, _++_, map, reverse, reverseAux, append-assoc}
 use Prim.Native.Nat.{ℕ, suc, _+_, _*_, _≤_, zero-le, suc-le-suc}
 use native.Mathlib.Nat.{mul-zero, mul-suc, add-comm}
@@ -8,7 +8,7 @@ use native.Mathlib.Omega.{arith}
 use lib.Dec.{eqb, eqb·suc-zero}
 use lib.ListN.{length, take, drop, length-append, take-append-drop}
 use Rattle.spec.proofs.Choice.{by, cond-case}
-use Rattle.spec.specs.Lists.{isEmpty, takeWhile, dropWhile, dropEnd, any, all, keep, concat}
+use Rattle.spec.specs.Lists.{isEmpty, takeWhile, dropWhile, dropEnd, all, concat}
 
 module _ {A : Type 0} where
   pub empty-length : (l : List A) → isEmpty l ≡ eqb (length l) 0
@@ -32,26 +32,10 @@ module _ {A : Type 0} where
   while-all f [] = refl
   while-all f (x ∷ t) = by (f x) (λ e. simp e (while-all f t)) (λ e. simp e)
 
-  -- every element passes exactly if none fails
-  pub all-none : (f : A → Bool) (t : List A) → all f t ≡ not (any (λ x. not (f x)) t)
-  unfolding all any
-  all-none f [] = refl
-  all-none f (x ∷ t) = by (f x) (λ e. simp e (all-none f t)) (λ e. simp e)
-
   pub all-append : (f : A → Bool) (s t : List A) → all f (s ++ t) ≡ (all f s && all f t)
   unfolding all
   all-append f [] t = refl
   all-append f (x ∷ s) t = by (f x) (λ e. simp e (all-append f s t)) (λ e. simp e)
-
-  pub any-append : (f : A → Bool) (s t : List A) → any f (s ++ t) ≡ (any f s || any f t)
-  unfolding any
-  any-append f [] t = refl
-  any-append f (x ∷ s) t = by (f x) (λ e. simp e) (λ e. simp e (any-append f s t))
-
-  pub keep-append : (f : A → Bool) (s t : List A) → keep f (s ++ t) ≡ keep f s ++ keep f t
-  unfolding keep
-  keep-append f [] t = refl
-  keep-append f (x ∷ s) t = by (f x) (λ e. simp e (ap (λ l. x ∷ l) (keep-append f s t))) (λ e. simp e (keep-append f s t))
 
   pub concat-append : (s t : List (List A)) → concat (s ++ t) ≡ concat s ++ concat t
   unfolding concat
@@ -108,13 +92,6 @@ module _ {A : Type 0} where
   drop-while-le f (x ∷ t) =
       cond-case (λ l. length l ≤ suc (length t)) (f x) (dropWhile f t) (x ∷ t)
       (λ _. omega (arith, drop-while-le f t)) (λ _. omega arith)
-
-  pub keep-le : (f : A → Bool) (t : List A) → length (keep f t) ≤ length t
-  unfolding keep
-  keep-le f [] = zero-le
-  keep-le f (x ∷ t) =
-      cond-case (λ l. length l ≤ suc (length t)) (f x) (x ∷ keep f t) (keep f t)
-      (λ _. suc-le-suc (keep-le f t)) (λ _. omega (arith, keep-le f t))
 
 -- the sum over a list of images
 pub total-map : {A B : Type 0} (f : B → ℕ) (g : A → B) (t : List A) → total f (map g t) ≡ total (λ x. f (g x)) t

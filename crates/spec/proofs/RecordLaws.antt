@@ -202,7 +202,7 @@ pub length-names : (ds : List Declared) → length (names ds) ≡ length ds
 unfolding names
 length-names ds = length-map ds (λ (d : Declared). d .name)
 
-maybe-longer : (o : Option Declared) (ds : List Declared) → length ds ≤ length (declareMaybe o ds)
+pub maybe-longer : (o : Option Declared) (ds : List Declared) → length ds ≤ length (declareMaybe o ds)
 unfolding declareMaybe
 maybe-longer none ds = omega arith
 maybe-longer (some d) ds =

@@ -6,10 +6,19 @@ use mathlib.Core.Option.{Option, none, some}
 use Prim.Native.Nat.{ℕ}
 use Rattle.spec.proofs.FirstFound.{eitherOf, firstSome}
 use Rattle.spec.specs.Bytes.{ascii}
+use Rattle.spec.specs.Lists.{isEmpty, takeWhile, dropWhile}
+use Rattle.spec.specs.Search.{firstFrom, first}
 use Rattle.spec.specs.Map.{Marked, live, bytes, lives}
 use Rattle.spec.specs.Outcome.{qualifiedTarget, usingClause, Outcome, accepted, refused, _⊕_}
-use Rattle.spec.specs.Assignments.{Target, statementTarget, assignment, checkedStatement, statement, joinStatements}
+use Rattle.spec.specs.Assignments.{orElse, assignTarget, equalsTarget, markedTarget, assignmentAt, Target, statementTarget, assignment, checkedStatement, statement, joinStatements}
 use Rattle.spec.specs.Raise.{Fate, rewritten, dropped, passed, refusedClause, Token, kept, raised, fateText, tokenText, joinTokens}
+
+-- ---- outcomes joined
+
+pub outcome-none : (o : Outcome (List Marked)) → accepted [] ⊕ o ≡ o
+unfolding _⊕_
+outcome-none (accepted t) = refl
+outcome-none (refused r) = refl
 
 -- ---- statements with their first target
 
@@ -39,6 +48,11 @@ unfolding _⊕_
 join-targets none none t u = refl
 join-targets none (some r) t u = refl
 join-targets (some r) p t u = refl
+
+-- an empty statement comes through
+pub statement-nil : statement [] ≡ accepted []
+unfolding statement checkedStatement statementTarget orElse assignTarget equalsTarget markedTarget assignment assignmentAt first firstFrom isEmpty takeWhile dropWhile
+statement-nil = refl
 
 -- pass 3's outcome is the refusal of the first target, and the statements' text if there is none
 pub join-statements : (ss : List (List Marked)) → joinStatements ss ≡ targetOr (firstTarget ss) (assignedText ss)

@@ -1,4 +1,5 @@
--- How a row of document 01's table is written down. Assumes nothing.
+-- How a row of document 01's table is written down, and a row of the function call for `oracle/check-definitions`. Assumes
+-- nothing.
 use Prim.Native.Nat.{ℕ, _+_, _*_}
 use Prim.Native.String.{String}
 use mathlib.Core.Bool.{Bool, cond, not, _&&_}

@@ -7,13 +7,13 @@ use Prim.Native.Nat.{ℕ, zero, suc, _+_, _-_, _≤_, _<_, zero-le, suc-le-suc}
 use native.Mathlib.Nat.{le-of-suc-le-suc}
 use native.Mathlib.Numerals.{add-one}
 use native.Mathlib.Omega.{arith}
-use borrow.Author.Tests.{ltb-true, ltb-false, eq-eqb, ne-eqb}
+use borrow.Author.Tests.{ltb-true, ltb-false, eqb-true, eq-eqb, ne-eqb}
 use lib.Dec.{eqb, ltb, eqb·suc-zero}
 use lib.ListN.{length, take, drop, getD, length-reverse, length-drop, drop-of-length-le, List·getD-eq-default}
 use lib.Seq.{length-take-le, take-suc, drop-cons, drop-nil, getD-drop, drop-drop}
-use Rattle.spec.proofs.Choice.{by, neither-less, and-right}
+use Rattle.spec.proofs.Choice.{by, neither-less, and-left, and-right}
 use Rattle.spec.proofs.MapLaws.{mark-byte, map-length, marked-length, marked-bytes}
-use Rattle.spec.specs.Bytes.{upper, isWord, isN, prefixBy}
+use Rattle.spec.specs.Bytes.{isPrefix, upper, isWord, isN, prefixBy}
 use Rattle.spec.specs.Lists.{takeWhile, dropWhile}
 use Rattle.spec.specs.Map.{Marked, live, quoted, byte, isLive, mark, mapOf, marked, markedText, bytes, frontByte, frontLive, isLiveByte}
 use Rattle.spec.specs.Search.{Test, firstFrom, first, startsIgnoringCase, starts, wordHere, byteHere, needleHere, isSkipped, isWordMark, ontoFirst, piecesFrom, startsFrom}
@@ -169,6 +169,23 @@ byte-before xs ms i p h =
     ap (λ (k : ℕ). frontByte (reverse (take k (marked xs ms)))) e ∙ back-byte xs ms (i - 1) (omega arith)
 
 -- ---- texts that start with a word, compared by any function of their bytes
+
+-- exact comparison
+pub prefix-exact : (w xs : List ℕ) → prefixBy (λ (b : ℕ). b) w xs ≡ isPrefix w xs
+unfolding prefixBy isPrefix
+prefix-exact [] xs = refl
+prefix-exact (a ∷ w) [] = refl
+prefix-exact (a ∷ w) (x ∷ xs) = ap (λ (b : Bool). eqb x a && b) (prefix-exact w xs)
+
+-- what stands in front is the front
+pub prefix-take : (p xs : List ℕ) → isPrefix p xs ≡ true → take (length p) xs ≡ p
+unfolding isPrefix
+prefix-take [] xs h = refl
+prefix-take (a ∷ p) [] h = absurd (false≢true h)
+prefix-take (a ∷ p) (x ∷ xs) h =
+    let e : x ≡ a = eqb-true x a (and-left (eqb x a) (isPrefix p xs) h) in
+    let m = prefix-take p xs (and-right (eqb x a) (isPrefix p xs) h) in
+    rw (e, m) refl
 
 -- a text in front of which a word stands is at least as long
 pub prefix-by-len : (f : ℕ → ℕ) (w xs : List ℕ) → prefixBy f w xs ≡ true → length w ≤ length xs

@@ -15,7 +15,7 @@ pub data PassRefusal : Type 0 where
   -- 6: the result exceeds the buffer size
   resultTooLong : PassRefusal
 
--- what is handed back with a refusal: its numbers, and what the output holds
+-- what is handed back for a refusal: the refusal that the call answers, and what the output holds
 pub record HandedBack : Type 0 where
   pub refusal : Refusal
   pub output : List ℕ

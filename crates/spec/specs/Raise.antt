@@ -96,6 +96,7 @@ levelIn (w ∷ ws) t =
 unfoldable pub endsLevel : ℕ → Bool
 endsLevel c = isW c || eqb c 59
 
+-- EXCEPTION is told from the others by its length, whatever its action
 abbrev pub isException : Level → Bool
 isException exception = true
 isException notice = false

@@ -24,7 +24,8 @@ pub enum Found {
     Nothing,
 }
 
-// Why a call refuses its text, by number. 1, 3 and 2 are checked before anything is written.
+// Why a call or a search refuses its text, by number. 1, 3 and 2 are checked before anything is written; a search gives no
+// others.
 pub enum Refusal {
     // 1: the text is over the limit.
     TextTooLong,

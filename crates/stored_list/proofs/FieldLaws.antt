@@ -59,10 +59,6 @@ module _ (b : ℕ) (xs : List ℕ) (i : ℕ) where
   unfolding placeOf
   place-ge = omega arith
 
-  pub place-le : i ≤ length xs → placeOf b i xs ≤ length xs
-  unfolding placeOf
-  place-le h = omega (arith, while-length (isOther b) (drop i xs), length-drop i xs)
-
   pub place-at : placeOf b i xs < length xs → getD xs (placeOf b i xs) 0 ≡ b
   unfolding placeOf
   place-at h = other-same b _ (while-fails-at (isOther b) xs 0 i h)

@@ -1,9 +1,10 @@
--- `assignments::put_statement` meets its contract, by whether the statement is empty, and then whether it has a qualified target. `told` says which
--- one the check found; without one the statement is what `rewrite_assignment` writes. Assumes nothing.
+-- `assignments::put_statement` meets its contract, by whether the statement is empty, and then whether it has a
+-- qualified target. `told` says which one the check found; without one the statement is what `rewrite_assignment` writes. Assumes nothing.
 use native.Mathlib.Omega.{arith}
 use mathlib.Core.List.{[], _∷_, _++_}
 use lib.ListN.{length, take, drop, length-append, length-drop}
 use lib.Seq.{length-take-le}
+use Rattle.spec.proofs.RefusalOutcomes.{statement-nil}
 use Rattle.spec.proofs.RefusalBounds.{bytes-length}
 use Rattle.spec.specs.Map.{marked, bytes}
 use Rattle.spec.specs.Assignments.{statementTarget, assignment}
@@ -11,7 +12,7 @@ use Rattle.spec.proofs.MapLaws.{marked-length}
 use Rattle.output.specs.declared.Pass.the-variants.{Done}
 use Rattle.targets.specs.Tells.{Tells}
 use Rattle.targets.specs.declared.TargetFound.the-variants as target
-use Rattle.assignments.proofs.RestLaws.{told-qualified, told-none, empty-marked, nothing-stated}
+use Rattle.assignments.proofs.RestLaws.{told-qualified, told-none, empty-marked}
 use mathlib.Core.Path.{_≡_, refl, ap, _∙_}
 use Prim.Native.Nat.{ℕ, _+_, _-_}
 use borrow.Author.Needs.{needs}
@@ -35,7 +36,7 @@ unfolding bytes
 returns c =
     let a = c .before .before .before .before .args in
     let e : marked (a .text .now) (a .map .now) ≡ [] = empty-marked (a .text .now) (a .map .now) (c .if1 .taken) in
-    rw (e, nothing-stated) (ap Done (omega arith), refl)
+    rw (e, statement-nil) (ap Done (omega arith), refl)
 
 qualified-assignment-target-requires : tie.Need-qualified-assignment-target-requires
 qualified-assignment-target-requires c κs = search needs

@@ -1,5 +1,5 @@
 -- `assignments::right_side` meets its contract, for any text with these bytes: trimming by the code is trimming by the
--- definition, twice, and `end-at` is the cut of the `;` between. Assumes nothing.
+-- definition, twice, and `right-at` is the cut of the `;` between. Assumes nothing.
 use native.Mathlib.Omega.{arith}
 use mathlib.Core.Path.{sym, _∙_}
 use lib.Seq.{length-take-le}

@@ -1,6 +1,6 @@
 -- `assignments::transform_assignments` meets its contract. The loop's invariant says that the outcome of the whole is
 -- the n bytes stored and the outcome of the statements from `from` on, and that n is at most 8 · from. `answered` and
--- `left-in` say what becomes of a statement, `rest-in` splits the rest at the next `;`. Assumes nothing.
+-- `left-in` say what becomes of a statement, `turn-in` splits what is left at the next `;`. Assumes nothing.
 use borrow.Author.Needs.{needs}
 use native.Mathlib.Omega.{arith}
 use mathlib.Core.Path.{_≡_, refl, sym, _∙_}

@@ -1,3 +1,5 @@
+-- `declared_parts::run_end_between` meets its contract: what `run_end` promises of the part, with the part's length for the
+-- bounds. Assumes nothing.
 use native.Mathlib.Omega.{arith}
 use Rattle.declared_parts.proofs.BetweenLaws.{between-length}
 use borrow.Author.Needs.{needs}

@@ -1,5 +1,5 @@
--- `declared_parts::trim_end` meets its contract. The loop's invariant says that the text up to `to` and the text up to
--- i are as long without W at the end. Assumes nothing.
+-- `declared_parts::trim_end` meets its contract: what `run_start` promises of the whole part, with the part's length for the
+-- bounds. Assumes nothing.
 use native.Mathlib.Omega.{arith}
 use Rattle.spec.specs.Bytes.{isW}
 use Rattle.runs.proofs.RunLaws.{start-whole}

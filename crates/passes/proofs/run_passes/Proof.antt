@@ -1,5 +1,6 @@
 -- `passes::run_passes` meets its contract. What is known where each pass has run is said once, at its place: the text that the
--- next pass reads, and the lengths of the three buffers. A pass that refuses ends the row, and `finish` copies what it left.
+-- next pass reads, and the lengths of the three buffers. A pass that refuses ends the row: `finish` copies what passes
+-- 3 and 5 left, and of pass 4, which refuses by 6 alone, nothing.
 -- Assumes nothing.
 use mathlib.Core.Path.{_≡_, sym, ap, _∙_}
 use mathlib.Core.List.{List, []}

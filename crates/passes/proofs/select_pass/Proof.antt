@@ -1,4 +1,4 @@
--- `passes::select_pass` meets its contract: the pass reads the text with its map, and what it answers and leaves, within the buffer
+-- `passes::select_pass` meets its contract: the pass reads the text with its map of quotes, and what it answers and leaves, within the buffer
 -- size, is what pass 4 gives. Assumes nothing.
 use mathlib.Core.Path.{sym}
 use native.Mathlib.Omega.{arith}

@@ -1,3 +1,5 @@
+-- `runs::has` meets its contract. The loop's invariant says that a byte of the set stands in the text exactly if one stands from
+-- i on. Assumes nothing.
 use native.Mathlib.Omega.{arith}
 use borrow.Author.Needs.{needs}
 use mathlib.Core.Path.{_≡_, refl, sym, _∙_}

@@ -1,3 +1,4 @@
+-- `runs::is_in` meets its contract, set by set. Assumes nothing.
 use mathlib.Core.Path.{refl, sym, ap, _∙_}
 use mathlib.Core.Bool.{not}
 use borrow.Author.Needs.{needs}

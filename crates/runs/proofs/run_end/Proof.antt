@@ -1,3 +1,5 @@
+-- `runs::run_end` meets its contract. The loop's invariant says that the run from `from` ends where the run from i ends.
+-- Assumes nothing.
 use native.Mathlib.Omega.{arith}
 use borrow.Author.Needs.{needs}
 use mathlib.Core.Path.{_≡_, sym, _∙_}

@@ -1,3 +1,5 @@
+-- `runs::run_start` meets its contract. The loop's invariant says that the run before `end` starts where the run before i
+-- starts, and that i is at most `end`. Assumes nothing.
 use native.Mathlib.Omega.{arith}
 use borrow.Author.Needs.{needs}
 use mathlib.Core.Path.{_≡_, sym, _∙_}

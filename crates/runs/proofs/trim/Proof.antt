@@ -1,3 +1,4 @@
+-- `runs::trim` meets its contract: `trimmed-at`, from what the run at the front and the run at the end promise. Assumes nothing.
 use native.Mathlib.Omega.{arith}
 use mathlib.Core.Path.{_≡_, sym}
 use Prim.Native.Nat.{_-_}

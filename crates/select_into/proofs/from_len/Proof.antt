@@ -1,5 +1,5 @@
--- `select_into::from_len` meets its contract. `from-take` says that `fromText` is the text up to `trimmed_len`, without
--- `;` at its end. Assumes nothing.
+-- `select_into::from_len` meets its contract. `from-take` says that `fromText` is the text without W at its end,
+-- and then without `;`: the two runs that end it. Assumes nothing.
 use mathlib.Core.Path.{ap, _∙_}
 use lib.ListN.{length}
 use Rattle.select_into.proofs.FromLaws.{from-take}

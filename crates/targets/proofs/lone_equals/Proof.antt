@@ -1,4 +1,4 @@
--- `targets::lone_equals` meets its contract. `lone-at` reads the definition, for any text of these bytes, as tests on
+-- `targets::lone_equals` meets its contract. `lone-bytes` reads the definition, for any text of these bytes, as tests on
 -- the two bytes at i; each return rewrites it with the tests made. Assumes nothing.
 use mathlib.Core.Path.{sym, _∙_}
 use borrow.Author.Tests.{eq-eqb, ne-eqb}
