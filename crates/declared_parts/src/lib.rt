@@ -167,19 +167,20 @@ pub fn put_spaced(out: &mut [u8], n: usize, text: &[u8]) -> usize
     o
 }
 
-// Whether x and y are the same bytes. They are compared from both ends: names that share a front or an end differ at once.
+// Whether x and y are the same bytes. They are compared from both ends, so that names that share a front or an end differ at once.
 pub fn same_bytes(x: &[u8], y: &[u8]) -> bool
     ensures { λ r. ⌜ r ≡ isSame (now (x .entry)) (now (y .entry)) ⌝ }
 {
     if x.len() == y.len() {
-        let n = x.len();
-        let mut i = n;
-        while 0 < i {
-            if x[i - 1] != y[i - 1] {
+        let mut i: usize = 0;
+        let mut j = x.len();
+        while i < j {
+            if x[j - 1] != y[j - 1] {
                 return false;
             }
-            if x[n - i] == y[n - i] {
-                i -= 1;
+            if x[i] == y[i] {
+                i += 1;
+                j -= 1;
             } else {
                 return false;
             }
@@ -190,23 +191,20 @@ pub fn same_bytes(x: &[u8], y: &[u8]) -> bool
     }
 }
 
-// Whether x comes before y in byte order.
+// Whether x comes before y in byte order. The loop has one bound, the shorter length, and no second test of the index.
 pub fn comes_before(x: &[u8], y: &[u8]) -> bool
     ensures { λ r. ⌜ r ≡ isBefore (now (x .entry)) (now (y .entry)) ⌝ }
 {
+    let n = if x.len() < y.len() { x.len() } else { y.len() };
     let mut i: usize = 0;
-    while i < x.len() {
-        if i < y.len() {
-            if x[i] == y[i] {
-                i += 1;
-            } else {
-                return x[i] < y[i];
-            }
+    while i < n {
+        if x[i] == y[i] {
+            i += 1;
         } else {
-            return false;
+            return x[i] < y[i];
         }
     }
-    i < y.len()
+    n < y.len()
 }
 
 // Whether a default is wholly `$tag$..$tag$`, where its delimiter would have d bytes.
