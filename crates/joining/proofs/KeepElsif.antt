@@ -6,7 +6,7 @@ use Prim.Native.Nat.{ℕ, zero, suc}
 use borrow.Author.Tests.{eqb-true}
 use lib.Dec.{eqb}
 use lib.ListN.{length}
-use Rattle.spec.proofs.ByteSets.{sign-not-ident, letter-ident, not-word, upper-cases}
+use Rattle.spec.proofs.ByteSets.{sign-not-ident, letter-ident, capital-ident, not-word, upper-cases}
 use Rattle.spec.proofs.Choice.{by, and-left, and-right}
 use Rattle.spec.specs.Bytes.{ascii, within, isDigit, isLower, isUpper, isIdent, isWord, isQuote, isW, upper}
 use Rattle.spec.specs.Map.{Marked, live, quoted, byte, lives, frontLive}
@@ -51,12 +51,12 @@ word-idents (a ∷ w) (x ∷ t) l h = (
 letters : Letters (ascii "LSIF")
 unfolding upper isLower within
 letters = (
-  λ c e. upper-cases (λ (n : ℕ). isIdent n ≡ true) c 76 (eqb-true (upper c) 76 e) (letter-ident 76 refl) (letter-ident 108 refl),
+  λ c e. capital-ident c 76 refl (eqb-true (upper c) 76 e),
   (
-    λ c e. upper-cases (λ (n : ℕ). isIdent n ≡ true) c 83 (eqb-true (upper c) 83 e) (letter-ident 83 refl) (letter-ident 115 refl),
+    λ c e. capital-ident c 83 refl (eqb-true (upper c) 83 e),
     (
-      λ c e. upper-cases (λ (n : ℕ). isIdent n ≡ true) c 73 (eqb-true (upper c) 73 e) (letter-ident 73 refl) (letter-ident 105 refl),
-      (λ c e. upper-cases (λ (n : ℕ). isIdent n ≡ true) c 70 (eqb-true (upper c) 70 e) (letter-ident 70 refl) (letter-ident 102 refl), tt),
+      λ c e. capital-ident c 73 refl (eqb-true (upper c) 73 e),
+      (λ c e. capital-ident c 70 refl (eqb-true (upper c) 70 e), tt),
     ),
   ),
 )
@@ -88,7 +88,7 @@ AllIdent [] = Unit {0}
 AllIdent (c ∷ w) = (isIdent c ≡ true) × AllIdent w
 
 e-ident : (c : ℕ) → eqb (upper c) 69 ≡ true → isIdent c ≡ true
-e-ident c e = upper-cases (λ (n : ℕ). isIdent n ≡ true) c 69 (eqb-true (upper c) 69 e) (letter-ident 69 refl) (letter-ident 101 refl)
+e-ident c e = capital-ident c 69 refl (eqb-true (upper c) 69 e)
 
 lseif : AllIdent (ascii "LSEIF")
 lseif = (letter-ident 76 refl, (letter-ident 83 refl, (letter-ident 69 refl, (letter-ident 73 refl, (letter-ident 70 refl, tt)))))

@@ -11,7 +11,7 @@ use lib.Dec.{eqb, leb}
 use lib.ListN.{length, drop}
 use lib.Seq.{drop-drop}
 use Rattle.spec.proofs.JoinedPieces.{live-byte}
-use Rattle.spec.proofs.ByteSets.{letter-ident, not-word, upper-cases}
+use Rattle.spec.proofs.ByteSets.{isCapital, capital-ident, not-word}
 use Rattle.spec.proofs.Choice.{by, and-left, and-right, or-left, or-right}
 use Rattle.spec.specs.Bytes.{ascii, within, isLower, isIdent, isWord, upper}
 use Rattle.spec.specs.Lists.{dropWhile}
@@ -147,10 +147,10 @@ letter-next a s x i e = rw (i, e) refl
 abbrev Capital : ℕ → Type 0
 Capital a = (c : ℕ) → eqb (upper c) (upper a) ≡ true → (eqb (upper c) a ≡ true) × (isIdent c ≡ true)
 
-capital : (a : ℕ) → upper a ≡ a → isIdent a ≡ true → isIdent (a + 32) ≡ true → Capital a
-capital a u i j c e =
+capital : (a : ℕ) → upper a ≡ a → isCapital a ≡ true → Capital a
+capital a u i c e =
     let f : eqb (upper c) a ≡ true = subst (λ (n : ℕ). eqb (upper c) n ≡ true) u e in
-    (f, upper-cases (λ (n : ℕ). isIdent n ≡ true) c a (eqb-true (upper c) a f) i j)
+    (f, capital-ident c a i (eqb-true (upper c) a f))
 
 record Behind (s : Seen) (w : List ℕ) (t : List Marked) : Type 0 where
   reads : Guarded s t
@@ -172,10 +172,10 @@ one-letter a w s z (x ∷ t) c n b =
 aise : (t : List Marked) → Behind r1 (ascii "AISE") t → Behind r5 [] (drop 4 t)
 unfolding seenNext upper isLower within
 aise t b =
-    let two = one-letter 65 (ascii "ISE") r1 r2 t (capital 65 refl (letter-ident 65 refl) (letter-ident 97 refl)) (λ x. refl) b in
-    let three = one-letter 73 (ascii "SE") r2 r3 (drop 1 t) (capital 73 refl (letter-ident 73 refl) (letter-ident 105 refl)) (λ x. refl) two in
-    let four = one-letter 83 (ascii "E") r3 r4 (drop 1 (drop 1 t)) (capital 83 refl (letter-ident 83 refl) (letter-ident 115 refl)) (λ x. refl) three in
-    let five = one-letter 69 [] r4 r5 (drop 1 (drop 1 (drop 1 t))) (capital 69 refl (letter-ident 69 refl) (letter-ident 101 refl)) (λ x. refl) four in
+    let two = one-letter 65 (ascii "ISE") r1 r2 t (capital 65 refl refl) (λ x. refl) b in
+    let three = one-letter 73 (ascii "SE") r2 r3 (drop 1 t) (capital 73 refl refl) (λ x. refl) two in
+    let four = one-letter 83 (ascii "E") r3 r4 (drop 1 (drop 1 t)) (capital 83 refl refl) (λ x. refl) three in
+    let five = one-letter 69 [] r4 r5 (drop 1 (drop 1 (drop 1 t))) (capital 69 refl refl) (λ x. refl) four in
     let e : drop 1 (drop 1 (drop 1 (drop 1 t))) ≡ drop 4 t =
     ap (λ (u : List Marked). drop 1 (drop 1 u)) (drop-drop 1 1 t) ∙ (ap (drop 1) (drop-drop 1 2 t) ∙ drop-drop 1 3 t) in
     subst (λ (u : List Marked). Behind r5 [] u) e five
@@ -211,7 +211,7 @@ raise-safe s p x t e h r w =
     let w2 = and-right (startsIgnoringCase (ascii "RAISE") (x ∷ t)) _ w1 in
     let left = not-word p (no (isWord p) (and-left (not (isWord p)) _ w2)) in
     let right = not-word (frontByte (drop 4 t)) (no (isWord (frontByte (drop 4 t))) (and-right (not (isWord p)) _ w2)) in
-    let u = capital 82 refl (letter-ident 82 refl) (letter-ident 114 refl) (byte x) (and-left (eqb (upper (byte x)) (upper 82)) (startsIgnoringCase (ascii "AISE") t) m) in
+    let u = capital 82 refl refl (byte x) (and-left (eqb (upper (byte x)) (upper 82)) (startsIgnoringCase (ascii "AISE") t) m) in
     let n = r-next s x (e ∙ yes (isIdent p) left) l (u .0) (u .1) in
     let b =
     aise t

@@ -105,6 +105,7 @@ pub fn find_keyword_in(text: &[u8], map: &[u8], word: &[u8], from: usize) -> Fou
         return Found::Nothing;
     }
     let last = text.len() - n;
+    let initial = upper_of(word[0]);
     let mut i = from;
     let place = 'offsets: loop {
         if last < i {
@@ -112,6 +113,10 @@ pub fn find_keyword_in(text: &[u8], map: &[u8], word: &[u8], from: usize) -> Fou
         }
         let at = i;
         i += 1;
+        // Most places fail here.
+        if upper_of(text[at]) != initial {
+            continue 'offsets;
+        }
         if edges_at(text, map, n, at) {
             let mut j: usize = 0;
             while j < n {

@@ -12,6 +12,7 @@ ghost use Prim.Native.Nat.{_+_, _≤_};
 ghost use lib.ListN.{length, drop};
 ghost use Rattle.spec.specs.Spans.{escapes, quotedLen, blockLen, lineLen, tagLen, seekLen, opensDollar, dollarOf, spanAt, spanLen};
 ghost use Rattle.spec.specs.declared.Span.the-variants.{Dollar, Code};
+ghost use Rattle.spans.specs.Openers.{opensSpan};
 ghost use Rattle.spans.specs.Steps.{stepAt};
 
 // Whether b is a backslash, where backslashes escape.
@@ -176,11 +177,32 @@ fn dollar_quoted(rest: &[u8]) -> Span
     }
 }
 
+// Whether b is the first byte of a comment, of a quote or of a dollar literal's delimiter.
+fn opens_span(b: u8) -> bool
+    ensures { λ r. ⌜ r ≡ opensSpan b ⌝ }
+{
+    if b == b'-' {
+        true
+    } else if b == b'/' {
+        true
+    } else if b == b'\'' {
+        true
+    } else if b == b'"' {
+        true
+    } else {
+        b == b'$'
+    }
+}
+
 // The span at the front of `rest`.
 pub fn next_span(rest: &[u8]) -> Span
     ensures { λ r. ⌜ r ≡ spanAt (now (rest .entry)) ⌝ }
 {
     let c = byte_at(rest, 0);
+    // Most bytes open nothing; the next byte is read for the others alone.
+    if !opens_span(c) {
+        return Span::Code(1);
+    }
     let d = byte_at(rest, 1);
     if is_pair(b'-', b'-', c, d) {
         return Span::Verbatim(2 + line_len(&rest[2..]));

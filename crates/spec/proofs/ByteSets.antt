@@ -7,7 +7,7 @@ use Prim.Native.Nat.{ℕ, _+_, _-_, _≤_, _<_}
 use native.Mathlib.Omega.{arith}
 use borrow.Author.Tests.{leb-true, le-leb, lt-ltb, le-ltb, eqb-true, not-true, not-false}
 use lib.Dec.{eqb, leb}
-use Rattle.spec.proofs.Choice.{by, and-left, and-right, and-both, or-left, or-cases}
+use Rattle.spec.proofs.Choice.{by, and-left, and-right, or-left, or-cases}
 use Rattle.spec.specs.Bytes.{within, isDigit, isLower, isUpper, isIdent, isWord, isW, isN, isHigh, upper}
 
 -- ---- the bytes that the definitions name
@@ -30,9 +30,13 @@ isSign c = oneOf signs c
 abbrev pub isGap : ℕ → Bool
 isGap c = oneOf gaps c
 
+-- an ASCII letter in capitals
+abbrev pub isCapital : ℕ → Bool
+isCapital c = leb 65 c && leb c 90
+
 -- an ASCII letter
 abbrev pub isLetter : ℕ → Bool
-isLetter c = (leb 97 c && leb c 122) || (leb 65 c && leb c 90)
+isLetter c = (leb 97 c && leb c 122) || isCapital c
 
 -- no byte of the list passes the test
 abbrev none : (ℕ → Bool) → List ℕ → Bool
@@ -138,12 +142,11 @@ upper-cases P c n e a b =
     subst P h b)
     (λ l. let f : c ≡ n = sym (rw l refl) ∙ e in subst P (sym f) a)
 
-lower-upper : (c : ℕ) → isLower c ≡ true → isUpper (c - 32) ≡ true
-unfolding isLower isUpper within
-lower-upper c e =
-    let r = range 97 122 c e in
-    and-both (leb 65 (c - 32)) (leb (c - 32) 90) (le-leb 65 (c - 32) (omega arith)) (le-leb (c - 32) 90 (omega arith))
-
-upper-other : (c : ℕ) → isLower c ≡ false → upper c ≡ c
-unfolding upper
-upper-other c e = rw e refl
+-- a byte that is a capital letter but for its case is an identifier byte
+pub capital-ident : (c n : ℕ) → isCapital n ≡ true → upper c ≡ n → isIdent c ≡ true
+capital-ident c n h e =
+    let least = leb-true 65 n (and-left (leb 65 n) (leb n 90) h) in
+    let most = leb-true n 90 (and-right (leb 65 n) (leb n 90) h) in
+    let small : isLetter (n + 32) ≡ true = rw (le-leb 97 (n + 32) (omega arith), le-leb (n + 32) 122 (omega arith)) refl in
+    let large : isLetter n ≡ true = rw h (by (leb 97 n && leb n 122) (λ f. rw f refl) (λ f. rw f refl)) in
+    upper-cases (λ (m : ℕ). isIdent m ≡ true) c n e (letter-ident n large) (letter-ident (n + 32) small)

@@ -1,6 +1,6 @@
 -- The marking words at an offset, and the walk that meets them. Assumes nothing.
 use mathlib.Core.Path.{_≡_, refl, sym, ap, _∙_}
-use mathlib.Core.Bool.{Bool, true, false, not, _&&_, and-false}
+use mathlib.Core.Bool.{Bool, true, false, not, _&&_, and-false, false≢true}
 use mathlib.Core.List.{List, [], _∷_}
 use mathlib.Core.Option.{Option, none, some}
 use Prim.Native.Nat.{ℕ, zero, suc, _+_, _-_, _≤_, _<_}
@@ -10,13 +10,14 @@ use borrow.Author.Tests.{eq-eqb, ne-eqb}
 use lib.Dec.{eqb}
 use lib.ListN.{length, take, drop, getD, drop-of-length-le}
 use lib.Seq.{drop-drop}
-use Rattle.spec.specs.Bytes.{isWord, upper, prefixBy}
+use Rattle.spec.specs.Bytes.{within, isLower, isWord, upper, prefixBy}
 use Rattle.spec.specs.Map.{Marked, marked, byte}
 use Rattle.spec.specs.Search.{wordHere}
 use Rattle.spec.specs.Assignments as spec
 use Rattle.spec.specs.Assignments.{Target, orElse, markings, markingHere, casesBehind, targetBehind, markedTarget}
+use Rattle.spec.proofs.ByteSets.{isCapital, capital-ident, not-word}
 use Rattle.spec.proofs.MapLaws.{mark-byte, marked-length}
-use Rattle.spec.proofs.WalkLaws.{drop-step, marked-step, front-live, front-byte, starts-case-at}
+use Rattle.spec.proofs.WalkLaws.{drop-step, marked-step, front-live, front-byte, starts-case-at, prefix-miss}
 use Rattle.targets.specs.Words.{entries, blank, markOf, metOf, casesAfter, casesMet, targetPast, targetMet}
 use Rattle.targets.specs.declared.Mark.{Mark}
 use Rattle.targets.specs.declared.Met.{Met}
@@ -52,6 +53,14 @@ entry-long = six (λ (k : ℕ). getD entries k blank .len ≤ 5) (omega arith) (
 pub entry-size : (k : ℕ) → k < 6 → length (take (getD entries k blank .len) (getD entries k blank .word)) ≡ getD entries k blank .len
 unfolding entries blank
 entry-size = six (λ (k : ℕ). length (take (getD entries k blank .len) (getD entries k blank .word)) ≡ getD entries k blank .len) refl refl refl refl refl refl
+
+entry-capital : (k : ℕ) → k < 6 → isCapital (upper (getD (take (getD entries k blank .len) (getD entries k blank .word)) 0 0)) ≡ true
+unfolding entries blank upper isLower within
+entry-capital = six (λ (k : ℕ). isCapital (upper (getD (take (getD entries k blank .len) (getD entries k blank .word)) 0 0)) ≡ true) refl refl refl refl refl refl
+
+entry-some : (k : ℕ) → k < 6 → 0 < getD entries k blank .len
+unfolding entries blank
+entry-some = six (λ (k : ℕ). 0 < getD entries k blank .len) (omega arith) (omega arith) (omega arith) (omega arith) (omega arith) (omega arith)
 
 table-long : length markings ≡ 6
 unfolding markings
@@ -111,6 +120,20 @@ module _ (xs ms : List ℕ) (p i : ℕ) (h : i < length xs) where
       pub met-miss : isEntryAt xs i k ≡ false → metFrom xs ms p i k ≡ metFrom xs ms p i (k + 1)
       unfolding markingHere
       met-miss q = rw (drop-step markings k noMarking (omega (arith, table-long)), stands false q) refl
+
+  -- a byte that is no word byte starts no word
+  pub met-other : getD ms i 0 ≡ 0 → isWord p ≡ false → isWord (getD xs i 0) ≡ false → metFrom xs ms p i 0 ≡ Nothing
+  met-other l n b = go 0 6 refl
+    where
+      absent : (k : ℕ) → k < 6 → isEntryAt xs i k ≡ false
+      absent k e =
+          let w = take (getD entries k blank .len) (getD entries k blank .word) in
+          let some : 0 < length w = omega (arith, entry-some k e, entry-size k e) in
+          simp (prefix-miss upper w xs 0 i some h (λ q. false≢true (sym (not-word (getD xs i 0) b) ∙ capital-ident (getD xs i 0) (upper (getD w 0 0)) (entry-capital k e) q)))
+
+      go : (k r : ℕ) → k + r ≡ 6 → metFrom xs ms p i k ≡ Nothing
+      go k zero e = met-none l n k (omega arith)
+      go k (suc r) e = met-miss l n k (omega arith) (absent k (omega arith)) ∙ go (k + 1) r (omega arith)
 
 -- ---- the walk
 

@@ -233,6 +233,9 @@ fn marking_at(statement: &[u8], map: &[u8], before: u8, i: usize) -> Met
     if is_word_byte(before) {
         return Met::Nothing;
     }
+    if !is_word_byte(statement[i]) {
+        return Met::Nothing;
+    }
     let mut k: usize = 0;
     while k < 6 {
         let e = marking_of(k);
