@@ -2,11 +2,12 @@
 use mathlib.Core.Path.{_≡_, refl, sym, ap, _∙_}
 use mathlib.Core.Bool.{true, false}
 use mathlib.Core.List.{List, [], _∷_, _++_}
-use Prim.Native.Nat.{ℕ, suc, _+_, _-_, _*_, _≤_, _<_, zero-le, suc-le-suc}
+use Prim.Native.Nat.{ℕ, zero, suc, _+_, _-_, _*_, _≤_, _<_, zero-le, suc-le-suc}
+use native.Mathlib.Nat.{add-zero}
 use native.Mathlib.Omega.{arith}
 use borrow.Author.Tests.{eq-eqb, ne-eqb}
-use lib.ListN.{length, take, drop, length-append, length-drop}
-use lib.Seq.{sets, length-take-le}
+use lib.ListN.{length, getD, take, drop, length-append, length-drop}
+use lib.Seq.{sets, length-take-le, getD-take, getD-drop}
 use Rattle.spec.proofs.AheadLaws.{rest-of}
 use Rattle.spec.proofs.Choice.{by, cond-case}
 use Rattle.spec.proofs.MapLaws.{marked-length}
@@ -18,12 +19,31 @@ use Rattle.spec.specs.Search.{first, byteHere, pieces}
 use Rattle.spec.specs.Declarations.{Declared, declaration, declare, declareMaybe, declareAll}
 use Rattle.spec.specs.declared.Found.the-variants.{At, Nothing}
 use Rattle.spec.specs.Parts.{part}
+use Rattle.declared_parts.proofs.DeclaredNameLaws.{not-same}
 use Rattle.declared_parts.specs.DeclaredParts.{declaredBy, partNumbers, readOf, Within}
 use Rattle.declared_parts.specs.declared.DeclarationPlaces.{DeclarationPlaces}
 use Rattle.declared_records.specs.Held.{recordIn, recordsFrom, placeOf, Added, Gathered}
 use Rattle.declared_records.proofs.HeldLaws.{sets-drop, record-other, record-put, from-length, from-replaced, from-added}
 
 -- ---- where a name stands
+
+-- a record whose name starts with another byte has another name; 0 is no byte
+pub other-initial : (xs rs : List ℕ) (k : ℕ) (n : List ℕ) → (getD n 0 0 ≡ 0 → ⊥) → (getD xs (getD (drop (8 * k) rs) 1 0) 0 ≡ getD n 0 0 → ⊥)
+    → false ≡ isSame n (recordIn xs rs k .name)
+unfolding declaredBy
+other-initial xs rs k n some other = not-same n _ apart
+  where
+    at : ℕ
+    at = getD (drop (8 * k) rs) 1 0
+
+    apart : n ≡ take (getD (drop (8 * k) rs) 2 0) (drop at xs) → ⊥
+    apart e = go (getD (drop (8 * k) rs) 2 0) e
+      where
+        go : (m : ℕ) → n ≡ take m (drop at xs) → ⊥
+        go zero e = some (ap (λ (l : List ℕ). getD l 0 0) e)
+        go (suc m) e =
+            let front : getD n 0 0 ≡ getD (drop at xs) 0 0 = ap (λ (l : List ℕ). getD l 0 0) e ∙ getD-take (suc m) (drop at xs) 0 0 (omega arith) in
+            other (sym (front ∙ (getD-drop at xs 0 0 ∙ rw add-zero refl)))
 
 pub place-le : (n : List ℕ) (ds : List Declared) → placeOf n ds ≤ length ds
 unfolding placeOf

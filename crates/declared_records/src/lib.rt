@@ -1,4 +1,5 @@
 // The records of a section while they are read: each holds the places of its last declaration in the section's text.
+use classes::byte_at;
 use declared_parts::DeclarationPlaces;
 use declared_parts::piece;
 use declared_parts::read_part;
@@ -10,6 +11,7 @@ ghost use mathlib.Core.List.{_∷_, []};
 ghost use Prim.Native.Nat.{_-_, _*_, _^_, _≤_, _<_};
 ghost use lib.ListN.{length, getD, drop, replicate};
 ghost use lib.Seq.{sets};
+ghost use Rattle.spec.specs.Bytes.{isSame};
 ghost use Rattle.spec.specs.Map.{marked};
 ghost use Rattle.declared_parts.specs.DeclaredParts.{Within, partNumbers};
 ghost use Rattle.declared_records.specs.Held.{recordIn, recordsFrom, placeOf, Added, Gathered};
@@ -110,6 +112,22 @@ fn put_part(records: &mut [u32], k: usize, p: DeclarationPlaces)
     );
 }
 
+// Whether record k has this name, whose first byte is `initial`: that byte tells most names apart.
+fn is_named(text: &[u8], records: &[u32], k: usize, name: &[u8], initial: u8) -> bool
+    requires { ⌜ initial ≡ getD (now name) 0 0 ⌝ }
+    requires { ⌜ k ≤ 512 ⌝ }
+    requires { ⌜ 4104 ≤ length (now records) ⌝ }
+    ensures { λ r. ⌜ r ≡ isSame (now (name .entry)) (recordIn (now (text .entry)) (now (records .entry)) k .name) ⌝ }
+{
+    if initial != 0 {
+        if byte_at(text, number(records, k, 1)) != initial {
+            return false;
+        }
+    }
+    let here = name_of(text, records, k);
+    same_bytes(name, here)
+}
+
 // How many records stand ahead of the first one of this name.
 fn find_name(text: &[u8], records: &[u32], count: usize, name: &[u8]) -> usize
     requires { ⌜ count ≤ 512 ⌝ }
@@ -117,10 +135,10 @@ fn find_name(text: &[u8], records: &[u32], count: usize, name: &[u8]) -> usize
     ensures { λ r. ⌜ r ≡ placeOf (now (name .entry)) (recordsFrom (now (text .entry)) (now (records .entry)) 1 count) ⌝ }
     ensures { λ r. ⌜ r ≤ count ⌝ }
 {
+    let initial = byte_at(name, 0);
     let mut k: usize = 0;
     while k < count {
-        let here = name_of(text, records, k + 1);
-        if same_bytes(name, here) {
+        if is_named(text, records, k + 1, name, initial) {
             return k;
         } else {
             k += 1;

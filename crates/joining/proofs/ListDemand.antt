@@ -1,15 +1,18 @@
 -- Demand 3 for a list of closed bodies with any body behind them. Assumes nothing.
 use mathlib.Core.Path.{_≡_, refl, sym, ap, _∙_}
-use mathlib.Core.Bool.{true}
+use mathlib.Core.Bool.{true, false≢true}
 use mathlib.Core.List.{List, [], _∷_, _++_, append-assoc, map, List·Memᴰ, List·Memᴰ·head, List·Memᴰ·tail, List·Memᴰ·not-nil, List·Memᴰ·cases-cons}
 use mathlib.Core.Option.{none}
 use mathlib.Core.Logic.{_↔_, ⊎-elim}
 use Prim.Native.Nat.{ℕ, _≤_, _<_}
 use native.Mathlib.Omega.{arith}
+use borrow.Author.Tests.{eqb-true, eq-eqb}
+use lib.Dec.{eqb}
 use lib.ListN.{length, length-append}
 use Rattle.spec.proofs.Apart.{apart}
-use Rattle.spec.proofs.Choice.{and-left, and-right}
+use Rattle.spec.proofs.Choice.{by, and-left, and-right}
 use Rattle.spec.proofs.RefusalLaws.{after2, after3, after4, after5, targetIn, clauseIn, Through2, Through4, Exceeds, in1, in2, in3, in4, in5, assign-done, assign-refused, raise-done, raise-refused, qualified-exactly, using-exactly, too-long-exactly}
+use Rattle.spec.proofs.RefusalCalls.{passNumber, pass-number, told}
 use Rattle.spec.proofs.CheckLaws.{NoHigh, CheckRefuses, too-long, too-short, not-ascii, check-only, check-always}
 use Rattle.spec.specs.Lists.{all, concat}
 use Rattle.spec.specs.Map.{markedText}
@@ -130,11 +133,14 @@ module _ (act : Level → Action) (l : Lent) (c : List ℕ) where
     where
       by-result : checkBy l c ≡ Passed → (r : Rewriting) → rewriting act c ≡ r → P
       by-result e (accepted zs) q = other 0 (number-passed act l c e ∙ rw q refl) (λ z. omega arith) (λ z. omega arith)
-      by-result e (refused (qualifiedTarget a n)) q = other 4 (number-passed act l c e ∙ rw q refl) (λ z. omega arith) (λ z. omega arith)
-      by-result e (refused (usingClause d)) q = other 5 (number-passed act l c e ∙ rw q refl) (λ z. omega arith) (λ z. omega arith)
-      by-result e (refused resultTooLong) q =
+      by-result e (refused f) q =
+          let n : numberOf act l c ≡ passNumber f = number-passed act l c e ∙ rw q refl in
           let k = check-only textLimit _ c [] Passed e in
-          six (number-passed act l c e ∙ rw q refl) (record { fits = k .0; ascii = k .2; exceeds = q })
+          by (eqb (passNumber f) 6)
+          (λ h.
+          let g = eqb-true (passNumber f) 6 h in
+          six (n ∙ g) (record { fits = k .0; ascii = k .2; exceeds = q ∙ ap refused (told 6 f g) }))
+          (λ h. other (passNumber f) n (λ z. omega (arith, pass-number f .0)) (λ z. false≢true (sym h ∙ eq-eqb (passNumber f) 6 z)))
 
       by-check : (k : Check) → checkBy l c ≡ k → P
       by-check Passed e = by-result e (rewriting act c) refl

@@ -1,10 +1,10 @@
 -- What the two calls answer, by what the passes give: 7 exactly if too many names are declared, the body call never 7 and
 -- with no records, and each other answer exactly if the passes give it. Assumes nothing.
-use mathlib.Core.Path.{_≡_, refl, sym, ap, _∙_}
+use mathlib.Core.Path.{_≡_, refl, sym, ap, _∙_, subst}
 use mathlib.Core.Logic.{_↔_}
 use mathlib.Core.Bool.{Bool}
 use mathlib.Core.List.{List, [], _∷_, _++_}
-use Prim.Native.Nat.{ℕ, _≤_, _<_}
+use Prim.Native.Nat.{ℕ, zero, suc, _-_, _≤_, _<_}
 use native.Mathlib.Omega.{arith}
 use borrow.Author.Tests.{ltb-true, lt-ltb, le-ltb}
 use lib.Dec.{ltb}
@@ -39,6 +39,24 @@ pass-number (qualifiedTarget q n) = (omega arith, λ h. omega arith)
 pass-number (usingClause c) = (omega arith, λ h. omega arith)
 pass-number resultTooLong = (omega arith, λ h. omega arith)
 
+-- what a number tells of a pass's refusal, from 4 on
+abbrev FromFour : ℕ → PassRefusal → Type 0
+FromFour zero f = (q : List ℕ) × (n : List ℕ) × (f ≡ qualifiedTarget q n)
+FromFour (suc zero) f = (c : List ℕ) × (f ≡ usingClause c)
+FromFour (suc (suc zero)) f = f ≡ resultTooLong
+FromFour (suc (suc (suc n))) f = ⊥
+
+abbrev NumberTells : ℕ → PassRefusal → Type 0
+NumberTells n f = FromFour (n - 4) f
+
+number-tells : (f : PassRefusal) → NumberTells (passNumber f) f
+number-tells (qualifiedTarget q n) = (q, n, refl)
+number-tells (usingClause c) = (c, refl)
+number-tells resultTooLong = refl
+
+pub told : (n : ℕ) (f : PassRefusal) → passNumber f ≡ n → NumberTells n f
+told n f e = subst (λ (k : ℕ). NumberTells k f) e (number-tells f)
+
 -- so a refusal that is answered for the passes has such a number
 result-number : (ds : List Declared) (r : Rewriting) (f : Refusal) → resultOf ds r .answer ≡ rewritten.Refused f
     → (4 ≤ refusalNumbers f .number) × (refusalNumbers f .number ≡ 7 → ⊥)
@@ -72,9 +90,9 @@ module _ (ds : List Declared) (xs : List ℕ) where
       to : (r : Rewriting) → rewriting actionOf xs ≡ r → callNumbers (resultOf ds r .answer) .number ≡ 4
           → (q : List ℕ) × (n : List ℕ) × HasQualifiedTarget xs q n
       to (accepted zs) e h = absurd (omega arith)
-      to (refused (qualifiedTarget q n)) e h = (q, n, qualified-in-words actionOf xs q n .0 e)
-      to (refused (usingClause c)) e h = absurd (omega arith)
-      to (refused resultTooLong) e h = absurd (omega arith)
+      to (refused f) e h =
+          let w = told 4 f h in
+          (w .0, w .1, qualified-in-words actionOf xs (w .0) (w .1) .0 (e ∙ ap refused (w .2)))
 
   -- its place is the length of q, and the output holds `q.n`
   pub result-four : (q n : List ℕ) → HasQualifiedTarget xs q n
@@ -91,9 +109,9 @@ module _ (ds : List Declared) (xs : List ℕ) where
       to : (r : Rewriting) → rewriting actionOf xs ≡ r → callNumbers (resultOf ds r .answer) .number ≡ 5
           → (c : List ℕ) × HasUsingClause xs c
       to (accepted zs) e h = absurd (omega arith)
-      to (refused (qualifiedTarget q n)) e h = absurd (omega arith)
-      to (refused (usingClause c)) e h = (c, using-in-words xs c .0 e)
-      to (refused resultTooLong) e h = absurd (omega arith)
+      to (refused f) e h =
+          let w = told 5 f h in
+          (w .0, using-in-words xs (w .0) .0 (e ∙ ap refused (w .1)))
 
   -- the output holds the clause
   pub result-five : (c : List ℕ) → HasUsingClause xs c
@@ -108,9 +126,7 @@ module _ (ds : List Declared) (xs : List ℕ) where
     where
       to : (r : Rewriting) → rewriting actionOf xs ≡ r → callNumbers (resultOf ds r .answer) .number ≡ 6 → Exceeds actionOf xs
       to (accepted zs) e h = absurd (omega arith)
-      to (refused (qualifiedTarget q n)) e h = absurd (omega arith)
-      to (refused (usingClause c)) e h = absurd (omega arith)
-      to (refused resultTooLong) e h = too-long-exactly actionOf xs .0 e
+      to (refused f) e h = too-long-exactly actionOf xs .0 (e ∙ ap refused (told 6 f h))
 
 -- ---- the checks
 
