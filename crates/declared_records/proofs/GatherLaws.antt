@@ -1,13 +1,13 @@
 -- The records of a section, part by part: where a name stands, what a part adds, and what the parts give. Assumes nothing.
-use mathlib.Core.Path.{_≡_, refl, sym, ap, _∙_}
+use mathlib.Core.Path.{_≡_, refl, sym, ap, _∙_, subst}
 use mathlib.Core.Bool.{true, false}
 use mathlib.Core.List.{List, [], _∷_, _++_}
-use Prim.Native.Nat.{ℕ, zero, suc, _+_, _-_, _*_, _≤_, _<_, zero-le, suc-le-suc}
-use native.Mathlib.Nat.{add-zero}
+use Prim.Native.Nat.{ℕ, suc, _+_, _-_, _*_, _≤_, _<_, zero-le, suc-le-suc}
 use native.Mathlib.Omega.{arith}
-use borrow.Author.Tests.{eq-eqb, ne-eqb}
+use borrow.Author.Tests.{eq-eqb, ne-eqb, eqb-true, eqb-false}
+use lib.Dec.{eqb}
 use lib.ListN.{length, getD, take, drop, length-append, length-drop}
-use lib.Seq.{sets, length-take-le, getD-take, getD-drop}
+use lib.Seq.{sets, length-take-le}
 use Rattle.spec.proofs.AheadLaws.{rest-of}
 use Rattle.spec.proofs.Choice.{by, cond-case}
 use Rattle.spec.proofs.MapLaws.{marked-length}
@@ -22,28 +22,14 @@ use Rattle.spec.specs.Parts.{part}
 use Rattle.declared_parts.proofs.DeclaredNameLaws.{not-same}
 use Rattle.declared_parts.specs.DeclaredParts.{declaredBy, partNumbers, readOf, Within}
 use Rattle.declared_parts.specs.declared.DeclarationPlaces.{DeclarationPlaces}
-use Rattle.declared_records.specs.Held.{recordIn, recordsFrom, placeOf, Added, Gathered}
-use Rattle.declared_records.proofs.HeldLaws.{sets-drop, record-other, record-put, from-length, from-replaced, from-added}
+use Rattle.declared_records.specs.Held.{recordIn, recordsFrom, placeOf, nameHash, heldNumbers, HashIn, Hashed, Added, Gathered}
+use Rattle.declared_records.proofs.HeldLaws.{sets-drop, record-other, record-put, hash-put, hash-other, from-length, from-replaced, from-added}
 
 -- ---- where a name stands
 
--- a record whose name starts with another byte has another name; 0 is no byte
-pub other-initial : (xs rs : List ℕ) (k : ℕ) (n : List ℕ) → (getD n 0 0 ≡ 0 → ⊥) → (getD xs (getD (drop (8 * k) rs) 1 0) 0 ≡ getD n 0 0 → ⊥)
-    → false ≡ isSame n (recordIn xs rs k .name)
-unfolding declaredBy
-other-initial xs rs k n some other = not-same n _ apart
-  where
-    at : ℕ
-    at = getD (drop (8 * k) rs) 1 0
-
-    apart : n ≡ take (getD (drop (8 * k) rs) 2 0) (drop at xs) → ⊥
-    apart e = go (getD (drop (8 * k) rs) 2 0) e
-      where
-        go : (m : ℕ) → n ≡ take m (drop at xs) → ⊥
-        go zero e = some (ap (λ (l : List ℕ). getD l 0 0) e)
-        go (suc m) e =
-            let front : getD n 0 0 ≡ getD (drop at xs) 0 0 = ap (λ (l : List ℕ). getD l 0 0) e ∙ getD-take (suc m) (drop at xs) 0 0 (omega arith) in
-            other (sym (front ∙ (getD-drop at xs 0 0 ∙ rw add-zero refl)))
+-- a record whose name has another hash has another name
+pub other-hash : (xs rs : List ℕ) (k : ℕ) (n : List ℕ) → HashIn xs rs k → (getD (drop (8 * k) rs) 0 0 ≡ nameHash n → ⊥) → false ≡ isSame n (recordIn xs rs k .name)
+other-hash xs rs k n h other = not-same n _ (λ e. other (h ∙ ap nameHash (sym e)))
 
 pub place-le : (n : List ℕ) (ds : List Declared) → placeOf n ds ≤ length ds
 unfolding placeOf
@@ -112,11 +98,11 @@ module _ (xs rs : List ℕ) (count : ℕ) (p : DeclarationPlaces) where
   new = declaredBy xs (partNumbers p)
 
   -- no type, no record
-  pub add-none : p .«kind_len» ≡ 0 → Added xs rs count p rs count
+  pub add-none : Hashed xs rs count → p .«kind_len» ≡ 0 → Added xs rs count p rs count
   unfolding readOf declareMaybe
-  add-none e =
+  add-none g e =
       let o : declareMaybe (readOf xs p) held ≡ held = rw (eq-eqb (p .«kind_len») 0 e) refl in
-      record { number = sym (ap length o ∙ from-length xs rs 1 count); records = λ _. sym o; behind = refl }
+      record { number = sym (ap length o ∙ from-length xs rs 1 count); records = λ _. sym o; hashed = λ _. g; behind = refl }
 
   module _ (e : p .«kind_len» ≡ 0 → ⊥) (k : ℕ) (q : k ≡ placeOf (take (p .«name_len») (drop (p .name) xs)) held) where
     known : k ≡ placeOf (new .name) held
@@ -144,26 +130,35 @@ module _ (xs rs : List ℕ) (count : ℕ) (p : DeclarationPlaces) where
 
     -- no room
     pub add-full : count ≤ 512 → k ≡ 512 → Added xs rs count p rs 513
-    add-full h f = record { number = omega (arith, low, made-length); records = λ g. absurd (omega arith); behind = refl }
+    add-full h f = record { number = omega (arith, low, made-length); records = λ g. absurd (omega arith); hashed = λ g. absurd (omega arith); behind = refl }
 
-    module _ (room : 8 * (k + 1) + 8 ≤ length rs) (within : k < 512) where
+    module _ (room : 8 * (k + 1) + 8 ≤ length rs) (within : k < 512) (keeps : Hashed xs rs count) where
+      abbrev numbers : List ℕ
+      numbers = heldNumbers (nameHash (take (p .«name_len») (drop (p .name) xs))) p
+
       abbrev stored : List ℕ
-      stored = sets rs (8 * (k + 1)) (partNumbers p)
+      stored = sets rs (8 * (k + 1)) numbers
 
-      eight : length (partNumbers p) ≡ 8
+      eight : length numbers ≡ 8
       unfolding partNumbers
       eight = refl
 
       at : recordIn xs stored (1 + k) ≡ new
       at =
           let z : 1 + k ≡ k + 1 = omega arith in
-          rw z (record-put xs rs (k + 1) p room)
+          rw z (record-put xs rs (k + 1) _ p room)
 
       others : (j : ℕ) → (j ≡ 1 + k → ⊥) → recordIn xs stored j ≡ recordIn xs rs j
-      others j n = record-other xs rs (partNumbers p) (k + 1) j eight (λ r. n (omega arith))
+      others j n = record-other xs rs numbers (k + 1) j eight (λ r. n (omega arith))
 
       past : drop 4104 stored ≡ drop 4104 rs
-      past = sets-drop (partNumbers p) rs (8 * (k + 1)) 4104 (omega (arith, eight))
+      past = sets-drop numbers rs (8 * (k + 1)) 4104 (omega (arith, eight))
+
+      all-hashed : (r : ℕ) → ((j : ℕ) → j ≤ r → (j ≡ k + 1 → ⊥) → j ≤ count) → Hashed xs stored r
+      all-hashed r f j a b =
+          by (eqb j (k + 1))
+          (λ e. subst (λ (i : ℕ). HashIn xs stored i) (sym (eqb-true j (k + 1) e)) (hash-put xs rs (k + 1) p room))
+          (λ e. let n = eqb-false j (k + 1) e in hash-other xs rs numbers (k + 1) j eight n (keeps j a (f j b n)))
 
       -- a repeated name
       pub add-replaced : k < count → Added xs rs count p stored count
@@ -171,6 +166,7 @@ module _ (xs rs : List ℕ) (count : ℕ) (p : DeclarationPlaces) where
           record {
             number = omega (arith, made-length);
             records = λ _. from-replaced xs rs stored new k count 1 h at others ∙ sym made;
+            hashed = λ _. all-hashed count (λ j b n. b);
             behind = past;
           }
 
@@ -186,6 +182,7 @@ module _ (xs rs : List ℕ) (count : ℕ) (p : DeclarationPlaces) where
                 let a : recordIn xs stored (1 + count) ≡ new = ap (λ i. recordIn xs stored (1 + i)) (sym z) ∙ at in
                 let o : (j : ℕ) → (j ≡ 1 + count → ⊥) → recordIn xs stored j ≡ recordIn xs rs j = λ j n. others j (λ r. n (r ∙ ap (λ i. 1 + i) z)) in
                 ap (recordsFrom xs stored 1) m ∙ (from-added xs rs stored new count 1 a o ∙ sym (rw z at made)));
+            hashed = λ _. all-hashed (k + 1) (λ j b n. omega (arith, low, n));
             behind = past;
           }
 

@@ -1,18 +1,19 @@
 -- The records that a list of numbers holds: what a store leaves of them. Assumes nothing.
 use mathlib.Core.Path.{_≡_, refl, sym, ap, _∙_}
 use mathlib.Core.List.{List, [], _∷_, _++_}
-use Prim.Native.Nat.{ℕ, zero, suc, _+_, _*_, _≤_, _<_}
+use Prim.Native.Nat.{ℕ, zero, suc, _+_, _*_, _%_, _≤_, _<_}
 use native.Mathlib.Nat.{le-of-suc-le-suc}
 use native.Mathlib.Omega.{arith}
 use borrow.Author.Tests.{ltb-true, ltb-false}
 use lib.Dec.{ltb}
 use Rattle.spec.proofs.Choice.{by}
-use lib.ListN.{length, getD, take, drop, set}
+use Rattle.spec.proofs.WalkLaws.{drop-step}
+use lib.ListN.{length, getD, take, drop, set, drop-of-length-le}
 use lib.Seq.{sets, sets-eq, getD-set-other, getD-drop, length-take-le, drop-at, drop-set-lt}
 use Rattle.declared_parts.specs.DeclaredParts.{defaultBy, declaredBy, partNumbers}
 use Rattle.declared_parts.specs.declared.DeclarationPlaces.{DeclarationPlaces}
 use Rattle.spec.specs.Declarations.{Declared}
-use Rattle.declared_records.specs.Held.{recordIn, recordsFrom}
+use Rattle.declared_records.specs.Held.{recordIn, recordsFrom, hashFrom, nameHash, heldNumbers, HashIn}
 
 -- a store elsewhere
 pub sets-ahead : (vs l : List ℕ) (i j : ℕ) → j < i → getD (sets l i vs) j 0 ≡ getD l j 0
@@ -57,21 +58,43 @@ pub record-same : (xs rs rs′ : List ℕ) (k : ℕ) → ((i : ℕ) → 0 < i �
 record-same xs rs rs′ k h =
     declared-same xs (drop (8 * k) rs) (drop (8 * k) rs′) (λ i a b. getD-drop (8 * k) rs i 0 ∙ (h i a b ∙ sym (getD-drop (8 * k) rs′ i 0)))
 
--- stores as another record leave a record as it is
+-- stores as another record leave a record's numbers as they are, and the record
+pub number-other : (rs vs : List ℕ) (k j i : ℕ) → length vs ≡ 8 → (j ≡ k → ⊥) → i < 8 → getD (sets rs (8 * k) vs) (8 * j + i) 0 ≡ getD rs (8 * j + i) 0
+number-other rs vs k j i l n b =
+    by (ltb j k)
+    (λ e. let h : j < k = ltb-true j k e in sets-ahead vs rs (8 * k) (8 * j + i) (omega arith))
+    (λ e. let h : k ≤ j = ltb-false j k e in let m : k < j = omega (arith, n) in sets-behind vs rs (8 * k) (8 * j + i) (omega arith))
+
 pub record-other : (xs rs vs : List ℕ) (k j : ℕ) → length vs ≡ 8 → (j ≡ k → ⊥) → recordIn xs (sets rs (8 * k) vs) j ≡ recordIn xs rs j
-record-other xs rs vs k j l n =
-    record-same xs (sets rs (8 * k) vs) rs j (λ i a b. side i b)
-  where
-    side : (i : ℕ) → i < 8 → getD (sets rs (8 * k) vs) (8 * j + i) 0 ≡ getD rs (8 * j + i) 0
-    side i b =
-        by (ltb j k)
-        (λ e. let h : j < k = ltb-true j k e in sets-ahead vs rs (8 * k) (8 * j + i) (omega arith))
-        (λ e. let h : k ≤ j = ltb-false j k e in let m : k < j = omega (arith, n) in sets-behind vs rs (8 * k) (8 * j + i) (omega arith))
+record-other xs rs vs k j l n = record-same xs (sets rs (8 * k) vs) rs j (λ i a b. number-other rs vs k j i l n b)
 
 -- the numbers of a part as record k declare what the part declares
-pub record-put : (xs rs : List ℕ) (k : ℕ) (p : DeclarationPlaces) → 8 * k + 8 ≤ length rs → recordIn xs (sets rs (8 * k) (partNumbers p)) k ≡ declaredBy xs (partNumbers p)
+pub record-put : (xs rs : List ℕ) (k h : ℕ) (p : DeclarationPlaces) → 8 * k + 8 ≤ length rs → recordIn xs (sets rs (8 * k) (heldNumbers h p)) k ≡ declaredBy xs (partNumbers p)
 unfolding partNumbers declaredBy defaultBy
-record-put xs rs k p h = rw (sets-there (partNumbers p) rs (8 * k) h) refl
+record-put xs rs k h p m = rw (sets-there (heldNumbers h p) rs (8 * k) m) refl
+
+-- ---- hashes
+
+pub hash-step : (h : ℕ) (xs : List ℕ) (i : ℕ) → i < length xs → hashFrom h (drop i xs) ≡ hashFrom ((h * 31 + getD xs i 0) % 65536) (drop (i + 1) xs)
+unfolding hashFrom
+hash-step h xs i m = rw (drop-step xs i 0 m) refl
+
+pub hash-end : (h : ℕ) (xs : List ℕ) (i : ℕ) → length xs ≤ i → hashFrom h (drop i xs) ≡ h
+unfolding hashFrom
+hash-end h xs i m = rw (drop-of-length-le xs m) refl
+
+-- the hash of a part's name is stored with it
+pub hash-put : (xs rs : List ℕ) (k : ℕ) (p : DeclarationPlaces) → 8 * k + 8 ≤ length rs
+    → HashIn xs (sets rs (8 * k) (heldNumbers (nameHash (take (p .«name_len») (drop (p .name) xs))) p)) k
+unfolding partNumbers declaredBy defaultBy
+hash-put xs rs k p m = rw (sets-there (heldNumbers (nameHash (take (p .«name_len») (drop (p .name) xs))) p) rs (8 * k) m) refl
+
+-- and the others keep theirs
+pub hash-other : (xs rs vs : List ℕ) (k j : ℕ) → length vs ≡ 8 → (j ≡ k → ⊥) → HashIn xs rs j → HashIn xs (sets rs (8 * k) vs) j
+hash-other xs rs vs k j l n e =
+    getD-drop (8 * j) (sets rs (8 * k) vs) 0 0
+    ∙ (number-other rs vs k j 0 l n (omega arith)
+    ∙ (sym (getD-drop (8 * j) rs 0 0) ∙ (e ∙ ap (λ (d : Declared). nameHash (d .name)) (sym (record-other xs rs vs k j l n)))))
 
 -- ---- several records
 

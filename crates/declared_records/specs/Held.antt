@@ -1,15 +1,15 @@
 -- The records while they are read: eight numbers each, as of a record, but the places are in the text of the section.
 -- Assumes nothing.
 use mathlib.Core.Path.{_≡_}
-use Prim.Native.Nat.{ℕ, zero, suc, _*_, _≤_, _<_}
+use Prim.Native.Nat.{ℕ, zero, suc, _+_, _*_, _%_, _≤_, _<_}
 use mathlib.Core.Bool.{cond}
 use mathlib.Core.List.{List, [], _∷_}
-use lib.ListN.{length, drop}
+use lib.ListN.{length, getD, drop}
 use Rattle.spec.specs.Bytes.{isSame}
 use Rattle.spec.specs.Map.{Marked}
 use Rattle.spec.specs.Search.{byteHere, pieces}
 use Rattle.spec.specs.Declarations.{Declared, declareMaybe, declareAll}
-use Rattle.declared_parts.specs.DeclaredParts.{declaredBy, readOf}
+use Rattle.declared_parts.specs.DeclaredParts.{declaredBy, partNumbers, readOf}
 use Rattle.declared_parts.specs.declared.DeclarationPlaces.{DeclarationPlaces}
 
 -- record k, and n records from record k on
@@ -27,10 +27,30 @@ placeOf n (d ∷ ds) =
     let more = suc (placeOf n ds) in
     cond (isSame n (d .name)) 0 more
 
+-- a hash of a name
+unfoldable pub hashFrom : ℕ → List ℕ → ℕ
+hashFrom h [] = h
+hashFrom h (b ∷ bs) = hashFrom ((h * 31 + b) % 65536) bs
+
+abbrev pub nameHash : List ℕ → ℕ
+nameHash xs = hashFrom 0 xs
+
+-- a part's numbers with its name's hash in front, where the next will stand
+abbrev pub heldNumbers : ℕ → DeclarationPlaces → List ℕ
+heldNumbers hash p = hash ∷ drop 1 (partNumbers p)
+
+-- record k, and each of `count` records, has its name's hash in front
+abbrev pub HashIn : List ℕ → List ℕ → ℕ → Type 0
+HashIn xs rs k = getD (drop (8 * k) rs) 0 0 ≡ nameHash (recordIn xs rs k .name)
+
+abbrev pub Hashed : List ℕ → List ℕ → ℕ → Type 0
+Hashed xs rs count = (k : ℕ) → 1 ≤ k → k ≤ count → HashIn xs rs k
+
 -- r records are what a part makes of `count`; over 512 nothing is known of them
 pub record Added (xs rs : List ℕ) (count : ℕ) (p : DeclarationPlaces) (rs′ : List ℕ) (r : ℕ) : Type 0 where
   pub number : r ≡ length (declareMaybe (readOf xs p) (recordsFrom xs rs 1 count))
   pub records : r ≤ 512 → recordsFrom xs rs′ 1 r ≡ declareMaybe (readOf xs p) (recordsFrom xs rs 1 count)
+  pub hashed : r ≤ 512 → Hashed xs rs′ r
   pub behind : drop 4104 rs′ ≡ drop 4104 rs
 
 -- r records are those of the section t; over 512, too many are declared

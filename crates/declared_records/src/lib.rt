@@ -1,5 +1,5 @@
-// The records of a section while they are read: each holds the places of its last declaration in the section's text.
-use classes::byte_at;
+// The records of a section while they are read: each holds the places of its last declaration in the section's text, and
+// its name's hash.
 use declared_parts::DeclarationPlaces;
 use declared_parts::piece;
 use declared_parts::read_part;
@@ -13,8 +13,8 @@ ghost use lib.ListN.{length, getD, drop, replicate};
 ghost use lib.Seq.{sets};
 ghost use Rattle.spec.specs.Bytes.{isSame};
 ghost use Rattle.spec.specs.Map.{marked};
-ghost use Rattle.declared_parts.specs.DeclaredParts.{Within, partNumbers};
-ghost use Rattle.declared_records.specs.Held.{recordIn, recordsFrom, placeOf, Added, Gathered};
+ghost use Rattle.declared_parts.specs.DeclaredParts.{Within};
+ghost use Rattle.declared_records.specs.Held.{recordIn, recordsFrom, placeOf, nameHash, heldNumbers, HashIn, Hashed, Added, Gathered};
 
 // How many numbers a record has, how many records there may be, and how many numbers they and the head take.
 pub const RECORD_WIDTH: usize = 8;
@@ -91,17 +91,32 @@ pub fn clear(records: &mut [u32], from: usize, to: usize)
     }
 }
 
-// The places of a part as record k.
-fn put_part(records: &mut [u32], k: usize, p: DeclarationPlaces)
+// A number made from a name's bytes. Two names with different numbers are different.
+fn hash_of(name: &[u8]) -> usize
+    ensures { λ r. ⌜ r ≡ nameHash (now (name .entry)) ⌝ }
+    ensures { λ r. ⌜ r < 65536 ⌝ }
+{
+    let mut hash: usize = 0;
+    let mut i: usize = 0;
+    while i < name.len() {
+        hash = (hash * 31 + name[i] as usize) % 65536;
+        i += 1;
+    }
+    hash
+}
+
+// The places of a part as record k, and its name's hash where the next will stand.
+fn put_part(records: &mut [u32], k: usize, hash: usize, p: DeclarationPlaces)
     requires { ⌜ k ≤ 512 ⌝ }
     requires { ⌜ 4104 ≤ length (now records) ⌝ }
+    requires { ⌜ hash < 65536 ⌝ }
     requires { ⌜ Within 65536 p ⌝ }
-    ensures { λ _. ⌜ now (records .exit) ≡ sets (now (records .entry)) (8 * k) (partNumbers p) ⌝ }
+    ensures { λ _. ⌜ now (records .exit) ≡ sets (now (records .entry)) (8 * k) (heldNumbers hash p) ⌝ }
 {
     put_numbers(
         records,
         k,
-        0,
+        hash as u32,
         p.name as u32,
         p.name_len as u32,
         p.kind as u32,
@@ -112,33 +127,34 @@ fn put_part(records: &mut [u32], k: usize, p: DeclarationPlaces)
     );
 }
 
-// Whether record k has this name, whose first byte is `initial`: that byte tells most names apart.
-fn is_named(text: &[u8], records: &[u32], k: usize, name: &[u8], initial: u8) -> bool
-    requires { ⌜ initial ≡ getD (now name) 0 0 ⌝ }
+// Whether record k has this name; the hashes tell most names apart.
+fn is_named(text: &[u8], records: &[u32], k: usize, name: &[u8], hash: usize) -> bool
     requires { ⌜ k ≤ 512 ⌝ }
     requires { ⌜ 4104 ≤ length (now records) ⌝ }
+    requires { ⌜ hash ≡ nameHash (now name) ⌝ }
+    requires { ⌜ HashIn (now text) (now records) k ⌝ }
     ensures { λ r. ⌜ r ≡ isSame (now (name .entry)) (recordIn (now (text .entry)) (now (records .entry)) k .name) ⌝ }
 {
-    if initial != 0 {
-        if byte_at(text, number(records, k, 1)) != initial {
-            return false;
-        }
+    if number(records, k, 0) == hash {
+        let here = name_of(text, records, k);
+        same_bytes(name, here)
+    } else {
+        false
     }
-    let here = name_of(text, records, k);
-    same_bytes(name, here)
 }
 
 // How many records stand ahead of the first one of this name.
-fn find_name(text: &[u8], records: &[u32], count: usize, name: &[u8]) -> usize
+fn find_name(text: &[u8], records: &[u32], count: usize, name: &[u8], hash: usize) -> usize
     requires { ⌜ count ≤ 512 ⌝ }
     requires { ⌜ 4104 ≤ length (now records) ⌝ }
+    requires { ⌜ hash ≡ nameHash (now name) ⌝ }
+    requires { ⌜ Hashed (now text) (now records) count ⌝ }
     ensures { λ r. ⌜ r ≡ placeOf (now (name .entry)) (recordsFrom (now (text .entry)) (now (records .entry)) 1 count) ⌝ }
     ensures { λ r. ⌜ r ≤ count ⌝ }
 {
-    let initial = byte_at(name, 0);
     let mut k: usize = 0;
     while k < count {
-        if is_named(text, records, k + 1, name, initial) {
+        if is_named(text, records, k + 1, name, hash) {
             return k;
         } else {
             k += 1;
@@ -152,17 +168,19 @@ fn add_part(text: &[u8], records: &mut [u32], count: usize, p: DeclarationPlaces
     requires { ⌜ count ≤ 512 ⌝ }
     requires { ⌜ 4104 ≤ length (now records) ⌝ }
     requires { ⌜ Within 65536 p ⌝ }
+    requires { ⌜ Hashed (now text) (now records) count ⌝ }
     ensures { λ r. ⌜ Added (now (text .entry)) (now (records .entry)) count p (now (records .exit)) r ⌝ }
 {
     if p.kind_len == 0 {
         return count;
     }
     let name = piece(text, p.name, p.name_len);
-    let k = find_name(text, records, count, name);
+    let hash = hash_of(name);
+    let k = find_name(text, records, count, name, hash);
     if k == RECORD_LIMIT {
         return TOO_MANY;
     }
-    put_part(records, k + 1, p);
+    put_part(records, k + 1, hash, p);
     if k < count { count } else { k + 1 }
 }
 

@@ -1,6 +1,6 @@
 -- `declared_records::gather` meets its contract. The loop's invariant says that the records so far, with what the
--- pieces from `at` on declare, are what all pieces declare, and that the numbers behind the records are as they were.
--- Assumes nothing.
+-- pieces from `at` on declare, are what all pieces declare, that each record has its name's hash, and that the numbers
+-- behind the records are as they were. Assumes nothing.
 use native.Mathlib.Omega.{arith}
 use borrow.Author.Needs.{needs}
 use mathlib.Core.Path.{_≡_, refl, sym, _∙_}
@@ -12,12 +12,13 @@ use Rattle.spec.specs.Search.{byteHere, pieces}
 use Rattle.spec.specs.Declarations.{declareAll}
 use Rattle.spec.proofs.MapLaws.{marked-length}
 use Rattle.spec.proofs.WalkLaws.{first-within}
+use Rattle.declared_records.specs.Held.{Hashed}
 use Rattle.declared_records.proofs.GatherLaws.{within-more, madeFrom, gathered-start, gathered-last, gathered-over, gathered-next}
 use Rattle.declared_records.proofs.gather.Statement.{statement}
 use Rattle.declared_records.proofs.gather.Tie as tie
 
 abbrev Inv-loop : tie.InvT-loop
-Inv-loop text map records₀ count₀ at₀ records count at = (count ≤ 512) × (at ≤ length text) × (length records ≡ length records₀) × (declareAll (pieces (byteHere 59) (marked text map)) [] ≡ madeFrom text map at records count) × (drop 4104 records ≡ drop 4104 records₀)
+Inv-loop text map records₀ count₀ at₀ records count at = (count ≤ 512) × (at ≤ length text) × (length records ≡ length records₀) × (declareAll (pieces (byteHere 59) (marked text map)) [] ≡ madeFrom text map at records count) × (drop 4104 records ≡ drop 4104 records₀) × Hashed text records count
 
 abbrev μ-loop : tie.MeasureT-loop
 μ-loop text map records₀ count₀ at₀ records count at = length text - at
@@ -36,7 +37,7 @@ inside c =
     (w .0, omega (arith, w .1, marked-length xs ms))
 
 loop-holds : tie.Need-loop-holds Inv-loop μ-loop
-loop-holds c = (omega arith, omega arith, refl, gathered-start (c .before .before .before .args .text .now) (c .before .before .before .args .map .now) (c .before .before .before .args .records .now), refl)
+loop-holds c = (omega arith, omega arith, refl, gathered-start (c .before .before .before .args .text .now) (c .before .before .before .args .map .now) (c .before .before .before .args .records .now), refl, λ k a b. absurd (omega arith))
 
 find-byte-in-requires : tie.Need-find-byte-in-requires Inv-loop μ-loop
 find-byte-in-requires c κs = search needs
@@ -51,7 +52,9 @@ read-part-requires : tie.Need-read-part-requires Inv-loop μ-loop
 read-part-requires c κs = search needs
 
 add-part-requires : tie.Need-add-part-requires Inv-loop μ-loop
-add-part-requires c κs = (omega arith, (omega arith, within-more _ 65536 _ (omega arith) (c .before .read-part .ensures .1)))
+add-part-requires c κs =
+    let at-loop = c .before .before .before .before .before in
+    (omega arith, (omega arith, (within-more _ 65536 _ (omega arith) (c .before .read-part .ensures .1), at-loop .loop .inv .5)))
 
 same-length : tie.Need-same-length Inv-loop μ-loop
 same-length c =
@@ -76,7 +79,10 @@ read-part-requires-2 c κs =
     (w .0, (omega arith, omega arith))
 
 add-part-requires-2 : tie.Need-add-part-requires-2 Inv-loop μ-loop
-add-part-requires-2 c κs = (omega arith, (omega arith, within-more _ 65536 _ (omega arith) (c .before .read-part2 .ensures .1)))
+add-part-requires-2 c κs =
+    let at-found = c .before .before .before in
+    let at-loop = at-found .before .before .before in
+    (omega arith, (omega arith, (within-more _ 65536 _ (omega arith) (c .before .read-part2 .ensures .1), at-loop .loop .inv .5)))
 
 same-length-2 : tie.Need-same-length-2 Inv-loop μ-loop
 same-length-2 c =
@@ -119,7 +125,7 @@ loop-again c =
     let a = at-start .args in
     let l = at-loop .loop in
     let w = inside at-found in
-    (omega arith, omega arith, c .before .before .before .add-part2 .kept .1 .0 ∙ l .inv .2, gathered-next (a .text .now) (a .map .now) (l .at) (l .records) (l .count) (at-read-part2 .read-part2 .result) _ _ (c .before .before .before .add-part2 .ensures) (l .inv .3) (at-found .found .given .0 .0) (sym (at-find-byte-in .find-byte-in .ensures) ∙ at-found .found .given .1) (at-read-part2 .read-part2 .ensures .0) (omega arith), c .before .before .before .add-part2 .ensures .behind ∙ l .inv .4)
+    (omega arith, omega arith, c .before .before .before .add-part2 .kept .1 .0 ∙ l .inv .2, gathered-next (a .text .now) (a .map .now) (l .at) (l .records) (l .count) (at-read-part2 .read-part2 .result) _ _ (c .before .before .before .add-part2 .ensures) (l .inv .3) (at-found .found .given .0 .0) (sym (at-find-byte-in .find-byte-in .ensures) ∙ at-found .found .given .1) (at-read-part2 .read-part2 .ensures .0) (omega arith), c .before .before .before .add-part2 .ensures .behind ∙ l .inv .4, c .before .before .before .add-part2 .ensures .hashed (omega arith))
 
 pub gather-spec : {M : Type 1} → statement M
 gather-spec =

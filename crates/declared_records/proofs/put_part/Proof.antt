@@ -1,5 +1,5 @@
--- `declared_records::put_part` meets its contract. What is asked of the part makes each number fit 32 bits; the stores
--- are those of `put_numbers`. Assumes nothing.
+-- `declared_records::put_part` meets its contract. What is asked of the hash and the part makes each number fit 32 bits;
+-- the stores are those of `put_numbers`. Assumes nothing.
 use Rattle.declared_parts.specs.DeclaredParts.{partNumbers}
 use borrow.Author.Needs.{needs}
 use Rattle.declared_records.proofs.put_part.Statement.{statement}
@@ -26,6 +26,9 @@ cast-put-numbers-6 c = search needs
 cast-put-numbers-7 : tie.Need-cast-put-numbers-7
 cast-put-numbers-7 c = search needs
 
+cast-put-numbers-8 : tie.Need-cast-put-numbers-8
+cast-put-numbers-8 c = search needs
+
 put-numbers-requires : tie.Need-put-numbers-requires
 put-numbers-requires c κs = search needs
 
@@ -47,6 +50,7 @@ put-part-spec =
     cast-put-numbers-5
     cast-put-numbers-6
     cast-put-numbers-7
+    cast-put-numbers-8
     put-numbers-requires
     same-length
     returns)
