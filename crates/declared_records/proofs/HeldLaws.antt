@@ -75,7 +75,7 @@ record-put xs rs k h p m = rw (sets-there (heldNumbers h p) rs (8 * k) m) refl
 
 -- ---- hashes
 
-pub hash-step : (h : ℕ) (xs : List ℕ) (i : ℕ) → i < length xs → hashFrom h (drop i xs) ≡ hashFrom ((h * 31 + getD xs i 0) % 65536) (drop (i + 1) xs)
+pub hash-step : (h : ℕ) (xs : List ℕ) (i : ℕ) → i < length xs → hashFrom h (drop i xs) ≡ hashFrom ((h * 257 + getD xs i 0) % 4294967296) (drop (i + 1) xs)
 unfolding hashFrom
 hash-step h xs i m = rw (drop-step xs i 0 m) refl
 

@@ -30,7 +30,7 @@ placeOf n (d ∷ ds) =
 -- a hash of a name
 unfoldable pub hashFrom : ℕ → List ℕ → ℕ
 hashFrom h [] = h
-hashFrom h (b ∷ bs) = hashFrom ((h * 31 + b) % 65536) bs
+hashFrom h (b ∷ bs) = hashFrom ((h * 257 + b) % 4294967296) bs
 
 abbrev pub nameHash : List ℕ → ℕ
 nameHash xs = hashFrom 0 xs

@@ -94,12 +94,12 @@ pub fn clear(records: &mut [u32], from: usize, to: usize)
 // A number made from a name's bytes. Two names with different numbers are different.
 fn hash_of(name: &[u8]) -> usize
     ensures { λ r. ⌜ r ≡ nameHash (now (name .entry)) ⌝ }
-    ensures { λ r. ⌜ r < 65536 ⌝ }
+    ensures { λ r. ⌜ r < 2 ^ 32 ⌝ }
 {
     let mut hash: usize = 0;
     let mut i: usize = 0;
     while i < name.len() {
-        hash = (hash * 31 + name[i] as usize) % 65536;
+        hash = (hash * 257 + name[i] as usize) % 4294967296;
         i += 1;
     }
     hash
@@ -109,7 +109,7 @@ fn hash_of(name: &[u8]) -> usize
 fn put_part(records: &mut [u32], k: usize, hash: usize, p: DeclarationPlaces)
     requires { ⌜ k ≤ 512 ⌝ }
     requires { ⌜ 4104 ≤ length (now records) ⌝ }
-    requires { ⌜ hash < 65536 ⌝ }
+    requires { ⌜ hash < 2 ^ 32 ⌝ }
     requires { ⌜ Within 65536 p ⌝ }
     ensures { λ _. ⌜ now (records .exit) ≡ sets (now (records .entry)) (8 * k) (heldNumbers hash p) ⌝ }
 {

@@ -1,5 +1,5 @@
 -- `declared_records::hash_of` meets its contract. The loop's invariant says that the name's hash is what the bytes from i
--- on make of the hash so far, which is below 65536. Assumes nothing.
+-- on make of the hash so far, which is below 2 ^ 32. Assumes nothing.
 use native.Mathlib.Omega.{arith}
 use native.Mathlib.Nat.{mod-lt}
 use borrow.Author.Needs.{needs}
@@ -12,7 +12,7 @@ use Rattle.declared_records.proofs.hash_of.Statement.{statement}
 use Rattle.declared_records.proofs.hash_of.Tie as tie
 
 abbrev Inv-loop : tie.InvT-loop
-Inv-loop name hash₀ i₀ hash i = (i ≤ length name) × (nameHash name ≡ hashFrom hash (drop i name)) × (hash < 65536)
+Inv-loop name hash₀ i₀ hash i = (i ≤ length name) × (nameHash name ≡ hashFrom hash (drop i name)) × (hash < 4294967296)
 
 abbrev μ-loop : tie.MeasureT-loop
 μ-loop name hash₀ i₀ hash i = length name - i
