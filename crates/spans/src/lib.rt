@@ -1,9 +1,10 @@
 // Spans: what the text in front opens, and a cursor that walks from span to span.
 use classes::byte_at;
 use classes::in_range;
-use classes::is_ident_byte;
 use classes::is_pair;
 use classes::starts_with;
+use runs::Set;
+use runs::run_end;
 use spec::DollarQuoted;
 use spec::Span;
 ghost use mathlib.Core.Path.{_≡_};
@@ -81,29 +82,8 @@ fn block_comment_len(rest: &[u8]) -> usize
 fn line_len(rest: &[u8]) -> usize
     ensures { λ r. ⌜ r ≡ lineLen (now (rest .entry)) ⌝ }
 {
-    let mut i: usize = 0;
-    while i < rest.len() {
-        if rest[i] == b'\n' {
-            return i + 1;
-        }
-        i += 1;
-    }
-    i
-}
-
-// How many identifier bytes stand in front.
-fn tag_len(rest: &[u8]) -> usize
-    ensures { λ r. ⌜ r ≡ tagLen (now (rest .entry)) ⌝ }
-{
-    let mut i: usize = 0;
-    while i < rest.len() {
-        if is_ident_byte(rest[i]) {
-            i += 1;
-        } else {
-            return i;
-        }
-    }
-    i
+    let n = run_end(rest, Set::Except(b'\n'), 0);
+    if n < rest.len() { n + 1 } else { n }
 }
 
 // Where `pat` stands first in `text`, or the length of `text`.
@@ -166,10 +146,7 @@ fn dollar_of(rest: &[u8], n: usize) -> DollarQuoted
 fn dollar_quoted(rest: &[u8]) -> Span
     ensures { λ r. ⌜ r ≡ cond (opensDollar (now (rest .entry))) (Dollar (dollarOf (2 + tagLen (drop 1 (now (rest .entry)))) (now (rest .entry)))) (Code 1) ⌝ }
 {
-    if rest.len() == 0 {
-        return Span::Code(1);
-    }
-    let t = tag_len(&rest[1..]);
+    let t = run_end(rest, Set::Ident, 1) - 1;
     if opens_here(rest, t) {
         Span::Dollar(dollar_of(rest, 2 + t))
     } else {

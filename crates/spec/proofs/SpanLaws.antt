@@ -209,9 +209,3 @@ module _ (xs : List ℕ) (c d : ℕ) (hc : c ≡ getD xs 0 0) (hd : d ≡ getD x
           pub at-code : (c ≡ 36 → ⊥) → spanAt xs ≡ Code 1
           unfolding opensDollar
           at-code o = at-opened ∙ simp (← hc, ne-eqb c 36 o)
-
--- nothing opens in the empty text
-pub opens-nil : (xs : List ℕ) → length xs ≡ 0 → opensDollar xs ≡ false
-unfolding opensDollar
-opens-nil [] h = refl
-opens-nil (x ∷ xs) h = absurd (omega arith)
