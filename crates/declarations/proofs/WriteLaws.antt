@@ -11,9 +11,9 @@ use lib.Seq.{sets}
 use Rattle.output.proofs.StoreLaws.{sets-append}
 use Rattle.spec.proofs.Choice.{by}
 use Rattle.spec.specs.Declarations.{Declared, textOr, packedRecord, packed, defaultNumbers}
-use Rattle.declared_parts.specs.DeclaredParts.{spaced, defaultBy, declaredBy}
+use Rattle.declared_parts.specs.DeclaredParts.{spaced, valueOf, defaultBy, declaredBy}
 use Rattle.declared_records.specs.Held.{recordIn, recordsFrom}
-use Rattle.declarations.specs.SectionRecords.{valueOf, endsOf, otherNumbers, finalNumbers}
+use Rattle.declarations.specs.SectionRecords.{endsOf, otherNumbers, finalNumbers}
 use Rattle.declarations.specs.declared.Ends.{Ends}
 use Rattle.declared_records.proofs.HeldLaws.{sets-behind, record-same}
 

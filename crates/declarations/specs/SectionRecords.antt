@@ -3,14 +3,13 @@ use mathlib.Core.Path.{_≡_}
 use Prim.Native.Nat.{ℕ, zero, suc, _+_, _*_, _≤_, _<_}
 use mathlib.Core.Bool.{cond}
 use mathlib.Core.List.{List, [], _∷_, _++_}
-use mathlib.Core.Option.{Option, none, some}
 use lib.Dec.{eqb, leb, ltb}
 use lib.ListN.{length, getD, take, drop}
 use lib.Seq.{sets}
 use Rattle.spec.specs.Bytes.{ascii}
 use Rattle.spec.specs.Map.{Marked}
 use Rattle.spec.specs.Search.{first, keywordHere, byteHere, pieces}
-use Rattle.spec.specs.Declarations.{Declared, requotedDefault, declareAll, declareSection, textOr, packedRecord, packed, headNext, nextOf, defaultNumbers, numbersOf}
+use Rattle.spec.specs.Declarations.{Declared, declareAll, declareSection, textOr, packedRecord, packed, headNext, nextOf, defaultNumbers, numbersOf}
 use Rattle.spec.specs.Parts.{part}
 use Rattle.declared_records.specs.Held.{recordIn, recordsFrom}
 use Rattle.spec.specs.declared.Found.{Found}
@@ -49,10 +48,6 @@ pub record SectionIn (t : List Marked) (s : Section) : Type 0 where
 -- the answer
 unfoldable pub parsedOf : List Declared → Parsed
 parsedOf ds = cond (ltb 512 (length ds)) TooManyNames (Count (length ds) (length (packed ds)))
-
--- a default that is there if the number is not 0
-abbrev pub valueOf : ℕ → List ℕ → Option (List ℕ)
-valueOf present text = cond (eqb present 0) none (some (requotedDefault text))
 
 -- where the texts of a record end that are packed from n on
 unfoldable pub endsOf : ℕ → Declared → Ends

@@ -24,9 +24,10 @@ ghost use Rattle.spec.specs.Bytes.{ascii};
 ghost use Rattle.spec.specs.Map.{marked};
 ghost use Rattle.spec.specs.Search.{first, keywordHere};
 ghost use Rattle.spec.specs.Declarations.{bodyFrom, packedRecord, packed, textOr};
+ghost use Rattle.declared_parts.specs.DeclaredParts.{valueOf};
 ghost use Rattle.declared_records.specs.Held.{recordIn, recordsFrom};
 ghost use Rattle.declarations.specs.Chain.{nameIn, Different, Chained, LastAhead, Inserted, comesBehind, InChain};
-ghost use Rattle.declarations.specs.SectionRecords.{recordsIn, Linked, valueOf, endsOf, declareEnd, sectionOf, SectionIn, recordsOfSection, parsedOf, otherNumbers, finalNumbers, Holds};
+ghost use Rattle.declarations.specs.SectionRecords.{recordsIn, Linked, endsOf, declareEnd, sectionOf, SectionIn, recordsOfSection, parsedOf, otherNumbers, finalNumbers, Holds};
 
 // What reading the declarations answers.
 pub enum Parsed {

@@ -21,7 +21,7 @@ use Rattle.spec.specs.Parts.{trim, trimEnd, part}
 use Rattle.spec.specs.Declarations.{requotedDefault, words, declaredOf, partAt, declaration}
 use Rattle.spec.specs.declared.Found.{Found}
 use Rattle.spec.specs.declared.Found.the-variants.{At, Nothing}
-use Rattle.declared_parts.specs.DeclaredParts.{walrusHere, cutOf, cutIn, defaultBy, declaredBy, partNumbers, readOf}
+use Rattle.declared_parts.specs.DeclaredParts.{walrusHere, cutOf, cutIn, valueOf, defaultBy, declaredBy, partNumbers, readOf}
 use Rattle.declared_parts.specs.declared.Cut.{Cut}
 use Rattle.declared_parts.specs.declared.DeclarationPlaces.{DeclarationPlaces}
 use Rattle.declared_parts.proofs.BetweenLaws.{frontEnd, endLen, between-length, drop-between, take-between, behind-front, ahead-of-end}
@@ -70,10 +70,6 @@ trimmed xs ms a b s e p q h =
     ∙ (ended xs ms s b isW (omega arith) ∙ ap (λ n. part s n (marked xs ms)) (sym q))
 
 -- ---- one part
-
--- a default, if the flag is not 0
-abbrev pub valueOf : ℕ → List ℕ → Option (List ℕ)
-valueOf p ys = cond (eqb p 0) none (some (requotedDefault ys))
 
 cut-part : (f g : Found) (t : List Marked)
     → partAt f 2 g 7 t ≡ declaredOf (words (take (cutOf f g (length t) .head) t)) (valueOf (cutOf f g (length t) .present) (bytes (trim (drop (cutOf f g (length t) .rest) t))))

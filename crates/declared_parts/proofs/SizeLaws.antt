@@ -18,9 +18,9 @@ use Rattle.spec.specs.Lists.{isEmpty, takeWhile, dropWhile}
 use Rattle.spec.specs.Map.{Marked, bytes}
 use Rattle.spec.specs.Parts.{trim}
 use Rattle.spec.specs.Declarations.{Declared, delimiterOf, requotedDefault, words, declaredOf, declaration, textOr, packedRecord}
-use Rattle.declared_parts.specs.DeclaredParts.{cutIn, isWhole, spaced}
+use Rattle.declared_parts.specs.DeclaredParts.{cutIn, valueOf, isWhole, spaced}
 use Rattle.declared_parts.proofs.DefaultCutLaws.{cut-fits}
-use Rattle.declared_parts.proofs.ReadLaws.{valueOf, cut-declaration}
+use Rattle.declared_parts.proofs.ReadLaws.{cut-declaration}
 use Rattle.declared_parts.proofs.SpacedLaws.{spaced-le}
 use Rattle.declared_parts.proofs.WholeLaws.{delimiter-length, whole-long, whole-text, other-text}
 use Rattle.declared_parts.proofs.WordsLaws.{space, inWord, declared-words}

@@ -42,11 +42,13 @@ cutOf Nothing Nothing n = record { head = n; rest = n; present = 0 }
 unfoldable pub cutIn : List Marked → Cut
 cutIn t = cutOf (first walrusHere 0 t) (first (keywordHere (ascii "DEFAULT")) 0 t) (length t)
 
+-- a default that is there if the number is not 0
+abbrev pub valueOf : ℕ → List ℕ → Option (List ℕ)
+valueOf present text = cond (eqb present 0) none (some (requotedDefault text))
+
 -- eight numbers as of a record, but the places are those of the name, the type's words and the default in the text xs
 unfoldable pub defaultBy : List ℕ → List ℕ → Option (List ℕ)
-defaultBy xs ns =
-    let text = some (requotedDefault (take (getD ns 7 0) (drop (getD ns 6 0) xs))) in
-    cond (eqb (getD ns 5 0) 0) none text
+defaultBy xs ns = valueOf (getD ns 5 0) (take (getD ns 7 0) (drop (getD ns 6 0) xs))
 
 unfoldable pub declaredBy : List ℕ → List ℕ → Declared
 declaredBy xs ns =

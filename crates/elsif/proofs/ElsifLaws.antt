@@ -16,7 +16,7 @@ use Rattle.spec.proofs.FirstLaws.{first-least}
 use Rattle.spec.proofs.LengthLaws.{word-in}
 use Rattle.spec.proofs.MapLaws.{map-append, marked-length}
 use Rattle.spec.proofs.PartLaws.{bytes-part}
-use Rattle.spec.proofs.WalkLaws.{starts-length, drop-step, back-step, bytes-drop, passesAt}
+use Rattle.spec.proofs.WalkLaws.{starts-length, drop-step, before-next, bytes-drop, passesAt}
 use Rattle.spec.specs.Bytes.{ascii, isWord}
 use Rattle.spec.specs.Elsif.{elsifFrom, elsif}
 use Rattle.spec.specs.Map.{Marked, live, byte, marked, bytes, lives, frontByte}
@@ -51,11 +51,6 @@ unfolding elsifFrom
 from-end k p u q = rw q refl
 
 module _ (t : List Marked) where
-  -- the byte before i + 1 is the one at i
-  byte-at : (i : ℕ) → i < length t → byte (getD t i (live 0)) ≡ frontByte (reverse (take (i + 1) t))
-  unfolding frontByte
-  byte-at i h = rw (back-step t i (live 0) h) refl
-
   -- k bytes passed over
   skipped : (k i : ℕ) → elsifFrom k (frontByte (reverse (take i t))) (drop i t) ≡ elsifAt t (i + k)
   skipped zero i = rw add-zero refl
@@ -66,7 +61,7 @@ module _ (t : List Marked) where
       let h = ltb-true i (length t) e in
       rw n
       (from-skip k (frontByte (reverse (take i t))) (drop i t) (drop (i + 1) t) (getD t i (live 0)) (drop-step t i (live 0) h)
-      ∙ (ap (λ (b : ℕ). elsifFrom k b (drop (i + 1) t)) (byte-at i h) ∙ skipped k (i + 1))))
+      ∙ (ap (λ (b : ℕ). elsifFrom k b (drop (i + 1) t)) (before-next t i h) ∙ skipped k (i + 1))))
       (λ e.
       let h = ltb-false i (length t) e in
       let m : length t ≤ i + suc k = omega arith in
@@ -76,14 +71,14 @@ module _ (t : List Marked) where
   unfolding keywordHere
   copies i h e =
       from-copy (frontByte (reverse (take i t))) (drop i t) (drop (i + 1) t) (getD t i (live 0)) (drop-step t i (live 0) h) e
-      ∙ ap (λ (b : ℕ). getD t i (live 0) ∷ elsifFrom 0 b (drop (i + 1) t)) (byte-at i h)
+      ∙ ap (λ (b : ℕ). getD t i (live 0) ∷ elsifFrom 0 b (drop (i + 1) t)) (before-next t i h)
 
   puts : (i : ℕ) → i < length t → passesAt keyword t i ≡ true → elsifAt t i ≡ lives (ascii "ELSEIF") ++ elsifAt t (i + 5)
   unfolding keywordHere
   puts i h e =
       let n : i + 1 + 4 ≡ i + 5 = omega arith in
       from-put (frontByte (reverse (take i t))) (drop i t) (drop (i + 1) t) (getD t i (live 0)) (drop-step t i (live 0) h) e
-      ∙ (ap (λ (b : ℕ). lives (ascii "ELSEIF") ++ elsifFrom 4 b (drop (i + 1) t)) (byte-at i h)
+      ∙ (ap (λ (b : ℕ). lives (ascii "ELSEIF") ++ elsifFrom 4 b (drop (i + 1) t)) (before-next t i h)
       ∙ ap (λ (l : List Marked). lives (ascii "ELSEIF") ++ l) (skipped 4 (i + 1) ∙ ap (elsifAt t) n))
 
   module _ (i j : ℕ) (e : first keyword i t ≡ At j) where

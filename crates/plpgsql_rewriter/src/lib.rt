@@ -31,7 +31,7 @@ fn put_four(answer: &mut [u32; 4], number: u32, second: usize, third: usize, fou
 }
 
 // The four numbers of a refused search.
-fn put_refusal(answer: &mut [u32; 4], r: Refusal)
+fn put_search_refusal(answer: &mut [u32; 4], r: Refusal)
     ensures { λ _. ⌜ now (answer .exit) ≡ refusalNumbers r .number ∷ 0 ∷ narrow (refusalNumbers r .place) ∷ 0 ∷ [] ⌝ }
 {
     let n = refusal_numbers(r);
@@ -45,7 +45,7 @@ fn put_found(answer: &mut [u32; 4], s: Search)
     match s {
         Search::Found(i) => put_four(answer, 0, 1, i, 0),
         Search::NotFound => put_four(answer, 0, 0, 0, 0),
-        Search::Refused(r) => put_refusal(answer, r),
+        Search::Refused(r) => put_search_refusal(answer, r),
     }
 }
 
@@ -55,12 +55,12 @@ fn put_filled(answer: &mut [u32; 4], f: Filled)
 {
     match f {
         Filled::Count(n) => put_four(answer, 0, 0, 0, n),
-        Filled::Refused(r) => put_refusal(answer, r),
+        Filled::Refused(r) => put_search_refusal(answer, r),
     }
 }
 
 // The four numbers of a refused call.
-fn put_refused(answer: &mut [u32; 4], r: Refusal)
+fn put_call_refusal(answer: &mut [u32; 4], r: Refusal)
     ensures { λ _. ⌜ now (answer .exit) ≡ refusalNumbers r .number ∷ narrow (refusalNumbers r .place) ∷ narrow (refusalNumbers r .length) ∷ narrow 0 ∷ [] ⌝ }
 {
     let n = refusal_numbers(r);
@@ -73,7 +73,7 @@ fn put_called(answer: &mut [u32; 4], r: Rewritten)
 {
     match r {
         Rewritten::Accepted { length, records } => put_four(answer, 0, 0, length, records),
-        Rewritten::Refused(f) => put_refused(answer, f),
+        Rewritten::Refused(f) => put_call_refusal(answer, f),
     }
 }
 

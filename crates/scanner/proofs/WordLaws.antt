@@ -14,18 +14,20 @@ use Rattle.spec.specs.Lists.{takeWhile}
 use Rattle.spec.specs.Map.{Marked, live, byte, mark, marked, bytes}
 use Rattle.spec.specs.Search.{isSkipped, isWordMark, nextWord, isWordText}
 use Rattle.spec.proofs.MapLaws.{marked-length}
-use Rattle.spec.proofs.WalkLaws.{map-take, marked-at, bytes-drop, starts-case, while-take, while-drop, while-length, while-length-end, while-length-hit, while-length-miss}
+use Rattle.spec.proofs.RunPlaces as places
+use Rattle.runs.proofs.RunLaws as runs
+use Rattle.spec.proofs.WalkLaws.{map-take, marked-at, bytes-drop, starts-case, while-take, while-drop, while-length}
 
 -- ---- where the bytes that pass a test end
 
 module _ (f : Marked → Bool) (xs ms : List ℕ) where
   -- where those from i on end
   abbrev pub endFrom : ℕ → ℕ
-  endFrom i = i + length (takeWhile f (drop i (marked xs ms)))
+  endFrom i = places.endFrom f (marked xs ms) i
 
   module _ (i : ℕ) where
     pub end-past : length xs ≤ i → endFrom i ≡ i
-    end-past h = omega (arith, while-length-end f (marked xs ms) i (rw marked-length h))
+    end-past h = runs.end-past f (marked xs ms) i (rw marked-length h)
 
     -- m is the map byte at i
     module _ (m : ℕ) (h : i < length xs) (e : m ≡ getD ms i 0) where
@@ -33,10 +35,10 @@ module _ (f : Marked → Bool) (xs ms : List ℕ) where
       here b q = rw (marked-at xs ms i (live 0) h, ← e) q
 
       pub end-step : f (mark m (getD xs i 0)) ≡ true → endFrom i ≡ endFrom (i + 1)
-      end-step q = omega (arith, while-length-hit f (marked xs ms) i (live 0) (rw marked-length h) (here true q))
+      end-step q = runs.end-step f (marked xs ms) i (live 0) (rw marked-length h) (here true q)
 
       pub end-here : f (mark m (getD xs i 0)) ≡ false → endFrom i ≡ i
-      end-here q = omega (arith, while-length-miss f (marked xs ms) i (live 0) (rw marked-length h) (here false q))
+      end-here q = runs.end-here f (marked xs ms) i (live 0) (rw marked-length h) (here false q)
 
 -- ---- the next word
 

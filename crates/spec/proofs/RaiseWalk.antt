@@ -15,7 +15,7 @@ use Rattle.spec.proofs.FirstFound.{eitherOf, firstSome}
 use Rattle.spec.proofs.FirstLaws.{first-least}
 use Rattle.spec.proofs.RaisePlaces.{raiseOf}
 use Rattle.spec.proofs.RefusalOutcomes.{fateClause, firstClause}
-use Rattle.spec.proofs.WalkLaws.{drop-step, back-step, passesAt}
+use Rattle.spec.proofs.WalkLaws.{drop-step, before-next, passesAt}
 use Rattle.spec.specs.Bytes.{ascii, isWord}
 use Rattle.spec.specs.Map.{Marked, live, byte, frontByte}
 use Rattle.spec.specs.Search.{Test, first, wordHere, keywordHere}
@@ -59,11 +59,6 @@ module _ (t : List Marked) where
   pub raises-end : (i : ℕ) → length t ≤ i → raisesAt t i ≡ []
   raises-end i h = rw (drop-of-length-le t h) (raises-none 0 _)
 
-  -- the byte before i + 1
-  before-next : (i : ℕ) → i < length t → byte (getD t i (live 0)) ≡ frontByte (reverse (take (i + 1) t))
-  unfolding frontByte
-  before-next i h = rw (back-step t i (live 0) h)
-
   -- k bytes to pass from i on
   raises-past : (k i : ℕ) → raisesFrom actionOf k (frontByte (reverse (take i t))) (drop i t) ≡ raisesAt t (i + k)
   raises-past zero i = let z : i ≡ i + 0 = omega arith in ap (raisesAt t) z
@@ -73,7 +68,7 @@ module _ (t : List Marked) where
       (λ q.
       let h = ltb-true i (length t) q in
       front-passed (frontByte (reverse (take i t))) (drop i t) (drop (i + 1) t) (getD t i (live 0)) (drop-step t i (live 0) h) k
-      ∙ (ap (λ (p : ℕ). raisesFrom actionOf k p (drop (i + 1) t)) (before-next i h) ∙ (raises-past k (i + 1) ∙ ap (raisesAt t) z)))
+      ∙ (ap (λ (p : ℕ). raisesFrom actionOf k p (drop (i + 1) t)) (before-next t i h) ∙ (raises-past k (i + 1) ∙ ap (raisesAt t) z)))
       (λ q.
       let h = ltb-false i (length t) q in
       rw (drop-of-length-le t h) (raises-none (suc k) _ ∙ sym (raises-end (i + suc k) (omega arith))))
@@ -83,7 +78,7 @@ module _ (t : List Marked) where
   unfolding keywordHere
   raise-kept i h e =
       front-stays (frontByte (reverse (take i t))) (drop i t) (drop (i + 1) t) (getD t i (live 0)) (drop-step t i (live 0) h) e
-      ∙ ap (λ (p : ℕ). kept (getD t i (live 0)) ∷ raisesFrom actionOf 0 p (drop (i + 1) t)) (before-next i h)
+      ∙ ap (λ (p : ℕ). kept (getD t i (live 0)) ∷ raisesFrom actionOf 0 p (drop (i + 1) t)) (before-next t i h)
 
   pub raise-goes : (i : ℕ) → i < length t → passesAt raiseHere t i ≡ true
       → raisesAt t i ≡ raised (raiseOf (drop i t)) ∷ raisesAt t (i + raiseOf (drop i t) .length)
@@ -94,7 +89,7 @@ module _ (t : List Marked) where
       omega (arith, raised-pos (levelIn levelWords (drop 6 (drop i t))) (drop i t)) in
       front-goes (frontByte (reverse (take i t))) (drop i t) (drop (i + 1) t) (getD t i (live 0)) (drop-step t i (live 0) h) e
       ∙ ap (λ (ps : List Token). raised r ∷ ps)
-      (ap (λ (p : ℕ). raisesFrom actionOf (r .length - 1) p (drop (i + 1) t)) (before-next i h)
+      (ap (λ (p : ℕ). raisesFrom actionOf (r .length - 1) p (drop (i + 1) t)) (before-next t i h)
       ∙ (raises-past (r .length - 1) (i + 1) ∙ ap (raisesAt t) z))
 
   -- ---- the first clause

@@ -39,6 +39,11 @@ module _ {A : Type 0} (t : List A) (i : ℕ) (d : A) (h : i < length t) where
   pub back-step : reverse (take (i + 1) t) ≡ getD t i d ∷ reverse (take i t)
   back-step = rw (add-one, take-suc t i d h, reverse-append) refl
 
+-- the byte before i + 1 is the one at i
+pub before-next : (t : List Marked) (i : ℕ) → i < length t → byte (getD t i (live 0)) ≡ frontByte (reverse (take (i + 1) t))
+unfolding frontByte
+before-next t i h = rw (back-step t i (live 0) h) refl
+
 -- before i stand i elements
 pub back-length : {A : Type 0} (t : List A) (i : ℕ) → i ≤ length t → length (reverse (take i t)) ≡ i
 back-length t i h = length-reverse (take i t) ∙ length-take-le i t h

@@ -15,8 +15,8 @@ put-four-requires c κs = search needs
 enum-known-f-2 : tie.Need-enum-known-f-2
 enum-known-f-2 c = search needs
 
-put-refusal-requires : tie.Need-put-refusal-requires
-put-refusal-requires c κs = search needs
+put-search-refusal-requires : tie.Need-put-search-refusal-requires
+put-search-refusal-requires c κs = search needs
 
 returns : tie.Need-returns
 unfolding narrow
@@ -24,9 +24,9 @@ returns c = c .put-four .ensures ∙ rw (c .before .before .before .f .given .1)
 
 returns-2 : tie.Need-returns-2
 unfolding narrow
-returns-2 c = c .put-refusal .ensures ∙ rw (c .before .before .before .f2 .given .1) refl
+returns-2 c = c .put-search-refusal .ensures ∙ rw (c .before .before .before .f2 .given .1) refl
 
 pub put-filled-spec : {M : Type 1} → statement M
 put-filled-spec =
     tie.close
-    (tie.spec enum-known-f put-four-requires enum-known-f-2 put-refusal-requires returns returns-2)
+    (tie.spec enum-known-f put-four-requires enum-known-f-2 put-search-refusal-requires returns returns-2)

@@ -21,8 +21,8 @@ put-four-requires-2 c κs = search needs
 enum-known-s-2 : tie.Need-enum-known-s-2
 enum-known-s-2 c = search needs
 
-put-refusal-requires : tie.Need-put-refusal-requires
-put-refusal-requires c κs = search needs
+put-search-refusal-requires : tie.Need-put-search-refusal-requires
+put-search-refusal-requires c κs = search needs
 
 returns : tie.Need-returns
 unfolding narrow
@@ -34,7 +34,7 @@ returns-2 c = c .put-four2 .ensures ∙ rw (c .before .before .enum-told .given 
 
 returns-3 : tie.Need-returns-3
 unfolding narrow
-returns-3 c = c .put-refusal .ensures ∙ rw (c .before .before .before .s2 .given .1) refl
+returns-3 c = c .put-search-refusal .ensures ∙ rw (c .before .before .before .s2 .given .1) refl
 
 pub put-found-spec : {M : Type 1} → statement M
 put-found-spec =
@@ -45,7 +45,7 @@ put-found-spec =
     enum-told
     put-four-requires-2
     enum-known-s-2
-    put-refusal-requires
+    put-search-refusal-requires
     returns
     returns-2
     returns-3)

@@ -1,12 +1,12 @@
--- `plpgsql_rewriter::put_refused` meets its contract: the numbers of a refused call are those of `refusal_numbers`, with no records. Assumes
+-- `plpgsql_rewriter::put_call_refusal` meets its contract: the numbers of a refused call are those of `refusal_numbers`, with no records. Assumes
 -- nothing.
 use mathlib.Core.Path.{ap, _∙_}
 use mathlib.Core.List.{[], _∷_}
 use borrow.Author.Needs.{needs}
 use Rattle.spec.specs.declared.RefusalNumbers.{RefusalNumbers}
 use Rattle.plpgsql_rewriter.specs.Four.{narrow}
-use Rattle.plpgsql_rewriter.proofs.put_refused.Statement.{statement}
-use Rattle.plpgsql_rewriter.proofs.put_refused.Tie as tie
+use Rattle.plpgsql_rewriter.proofs.put_call_refusal.Statement.{statement}
+use Rattle.plpgsql_rewriter.proofs.put_call_refusal.Tie as tie
 
 refusal-numbers-requires : tie.Need-refusal-numbers-requires
 refusal-numbers-requires c κs = search needs
@@ -20,5 +20,5 @@ returns c =
     let at-numbers = c .before .before in
     c .put-four .ensures ∙ ap (λ (n : RefusalNumbers). n .number ∷ narrow (n .place) ∷ narrow (n .length) ∷ narrow 0 ∷ []) (at-numbers .refusal-numbers .ensures)
 
-pub put-refused-spec : {M : Type 1} → statement M
-put-refused-spec = tie.close (tie.spec refusal-numbers-requires put-four-requires returns)
+pub put-call-refusal-spec : {M : Type 1} → statement M
+put-call-refusal-spec = tie.close (tie.spec refusal-numbers-requires put-four-requires returns)
