@@ -191,16 +191,23 @@ pub fn same_bytes(x: &[u8], y: &[u8]) -> bool
     }
 }
 
-// Whether x comes before y in byte order. The loop has one bound, the shorter length, and no second test of the index.
+// Whether x comes before y in byte order. Two bytes are compared in each round, since names often share a long front.
 pub fn comes_before(x: &[u8], y: &[u8]) -> bool
     ensures { λ r. ⌜ r ≡ isBefore (now (x .entry)) (now (y .entry)) ⌝ }
 {
     let n = if x.len() < y.len() { x.len() } else { y.len() };
     let mut i: usize = 0;
-    while i < n {
-        if x[i] == y[i] {
-            i += 1;
-        } else {
+    while i + 1 < n {
+        if x[i] != y[i] {
+            return x[i] < y[i];
+        }
+        if x[i + 1] != y[i + 1] {
+            return x[i + 1] < y[i + 1];
+        }
+        i += 2;
+    }
+    if i < n {
+        if x[i] != y[i] {
             return x[i] < y[i];
         }
     }
