@@ -1,8 +1,7 @@
 -- What a part declares, by the places that are read in its text. Assumes nothing.
 use mathlib.Core.Path.{_≡_, refl, sym, ap, _∙_}
-use mathlib.Core.Bool.{Bool, cond}
+use mathlib.Core.Bool.{Bool}
 use mathlib.Core.List.{List}
-use mathlib.Core.Option.{Option, none, some}
 use Prim.Native.Nat.{ℕ, _+_, _-_, _≤_}
 use native.Mathlib.Omega.{arith}
 use lib.Dec.{eqb}
@@ -18,7 +17,7 @@ use Rattle.spec.specs.Lists.{isEmpty, takeWhile, dropWhile, dropEnd}
 use Rattle.spec.specs.Map.{Marked, bytes, marked, ofByte}
 use Rattle.spec.specs.Search.{first, keywordHere}
 use Rattle.spec.specs.Parts.{trim, trimEnd, part}
-use Rattle.spec.specs.Declarations.{requotedDefault, words, declaredOf, partAt, declaration}
+use Rattle.spec.specs.Declarations.{words, declaredOf, partAt, declaration}
 use Rattle.spec.specs.declared.Found.{Found}
 use Rattle.spec.specs.declared.Found.the-variants.{At, Nothing}
 use Rattle.declared_parts.specs.DeclaredParts.{walrusHere, cutOf, cutIn, valueOf, defaultBy, declaredBy, partNumbers, readOf}

@@ -191,7 +191,8 @@ pub fn same_bytes(x: &[u8], y: &[u8]) -> bool
     }
 }
 
-// Whether x comes before y in byte order. Two bytes are compared in each round, since names often share a long front.
+// Whether x comes before y in byte order. Two bytes are compared in each round: a loop of one byte takes half as long again
+// where the linker lets it cross a line of the cache.
 pub fn comes_before(x: &[u8], y: &[u8]) -> bool
     ensures { λ r. ⌜ r ≡ isBefore (now (x .entry)) (now (y .entry)) ⌝ }
 {

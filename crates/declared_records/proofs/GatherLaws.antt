@@ -154,6 +154,7 @@ module _ (xs rs : List ℕ) (count : ℕ) (p : DeclarationPlaces) where
       past : drop 4104 stored ≡ drop 4104 rs
       past = sets-drop numbers rs (8 * (k + 1)) 4104 (omega (arith, eight))
 
+      -- the new record and those kept have their hashes
       all-hashed : (r : ℕ) → ((j : ℕ) → j ≤ r → (j ≡ k + 1 → ⊥) → j ≤ count) → Hashed xs stored r
       all-hashed r f j a b =
           by (eqb j (k + 1))

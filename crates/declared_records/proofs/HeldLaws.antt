@@ -1,4 +1,4 @@
--- The records that a list of numbers holds: what a store leaves of them. Assumes nothing.
+-- The records that a list of numbers holds: what a store leaves of them, and of their names' hashes. Assumes nothing.
 use mathlib.Core.Path.{_≡_, refl, sym, ap, _∙_}
 use mathlib.Core.List.{List, [], _∷_, _++_}
 use Prim.Native.Nat.{ℕ, zero, suc, _+_, _*_, _%_, _≤_, _<_}
@@ -6,10 +6,10 @@ use native.Mathlib.Nat.{le-of-suc-le-suc}
 use native.Mathlib.Omega.{arith}
 use borrow.Author.Tests.{ltb-true, ltb-false}
 use lib.Dec.{ltb}
-use Rattle.spec.proofs.Choice.{by}
-use Rattle.spec.proofs.WalkLaws.{drop-step}
 use lib.ListN.{length, getD, take, drop, set, drop-of-length-le}
 use lib.Seq.{sets, sets-eq, getD-set-other, getD-drop, length-take-le, drop-at, drop-set-lt}
+use Rattle.spec.proofs.AheadLaws.{drop-one}
+use Rattle.spec.proofs.Choice.{by}
 use Rattle.declared_parts.specs.DeclaredParts.{defaultBy, declaredBy, partNumbers}
 use Rattle.declared_parts.specs.declared.DeclarationPlaces.{DeclarationPlaces}
 use Rattle.spec.specs.Declarations.{Declared}
@@ -40,7 +40,7 @@ sets-there vs l i h =
     assoc [] b c = refl
     assoc (x ∷ a) b c = ap (λ t. x ∷ t) (assoc a b c)
 
--- numbers that agree in the eight places declare the same
+-- numbers that agree in all places but the first declare the same
 pub declared-same : (xs ns ms : List ℕ) → ((i : ℕ) → 0 < i → i < 8 → getD ns i 0 ≡ getD ms i 0) → declaredBy xs ns ≡ declaredBy xs ms
 unfolding declaredBy defaultBy
 declared-same xs ns ms h =
@@ -59,7 +59,7 @@ record-same xs rs rs′ k h =
     declared-same xs (drop (8 * k) rs) (drop (8 * k) rs′) (λ i a b. getD-drop (8 * k) rs i 0 ∙ (h i a b ∙ sym (getD-drop (8 * k) rs′ i 0)))
 
 -- stores as another record leave a record's numbers as they are, and the record
-pub number-other : (rs vs : List ℕ) (k j i : ℕ) → length vs ≡ 8 → (j ≡ k → ⊥) → i < 8 → getD (sets rs (8 * k) vs) (8 * j + i) 0 ≡ getD rs (8 * j + i) 0
+number-other : (rs vs : List ℕ) (k j i : ℕ) → length vs ≡ 8 → (j ≡ k → ⊥) → i < 8 → getD (sets rs (8 * k) vs) (8 * j + i) 0 ≡ getD rs (8 * j + i) 0
 number-other rs vs k j i l n b =
     by (ltb j k)
     (λ e. let h : j < k = ltb-true j k e in sets-ahead vs rs (8 * k) (8 * j + i) (omega arith))
@@ -75,9 +75,9 @@ record-put xs rs k h p m = rw (sets-there (heldNumbers h p) rs (8 * k) m) refl
 
 -- ---- hashes
 
-pub hash-step : (h : ℕ) (xs : List ℕ) (i : ℕ) → i < length xs → hashFrom h (drop i xs) ≡ hashFrom ((h * 257 + getD xs i 0) % 4294967296) (drop (i + 1) xs)
+pub hash-step : (h : ℕ) (xs : List ℕ) (i : ℕ) → i < length xs → hashFrom h (drop i xs) ≡ hashFrom ((h * 16777619 + getD xs i 0) % 4294967296) (drop (i + 1) xs)
 unfolding hashFrom
-hash-step h xs i m = rw (drop-step xs i 0 m) refl
+hash-step h xs i m = rw (drop-one xs i 0 m) refl
 
 pub hash-end : (h : ℕ) (xs : List ℕ) (i : ℕ) → length xs ≤ i → hashFrom h (drop i xs) ≡ h
 unfolding hashFrom

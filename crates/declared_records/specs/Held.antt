@@ -1,5 +1,5 @@
--- The records while they are read: eight numbers each, as of a record, but the places are in the text of the section.
--- Assumes nothing.
+-- The records while they are read: eight numbers each, as of a record, but the places are in the text of the section, and
+-- the first number is the name's hash. Assumes nothing.
 use mathlib.Core.Path.{_≡_}
 use Prim.Native.Nat.{ℕ, zero, suc, _+_, _*_, _%_, _≤_, _<_}
 use mathlib.Core.Bool.{cond}
@@ -27,11 +27,12 @@ placeOf n (d ∷ ds) =
     let more = suc (placeOf n ds) in
     cond (isSame n (d .name)) 0 more
 
--- a hash of a name
+-- the hash of bytes that stand behind others whose hash is h; no document asks for it
 unfoldable pub hashFrom : ℕ → List ℕ → ℕ
 hashFrom h [] = h
-hashFrom h (b ∷ bs) = hashFrom ((h * 257 + b) % 4294967296) bs
+hashFrom h (b ∷ bs) = hashFrom ((h * 16777619 + b) % 4294967296) bs
 
+-- a name's hash
 abbrev pub nameHash : List ℕ → ℕ
 nameHash xs = hashFrom 0 xs
 

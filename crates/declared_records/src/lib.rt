@@ -91,7 +91,8 @@ pub fn clear(records: &mut [u32], from: usize, to: usize)
     }
 }
 
-// A number made from a name's bytes. Two names with different numbers are different.
+// A hash of a name, with the multiplier of the FNV hashes; below 2 ^ 32, so that a record's number holds it. Names with
+// different hashes are different.
 fn hash_of(name: &[u8]) -> usize
     ensures { λ r. ⌜ r ≡ nameHash (now (name .entry)) ⌝ }
     ensures { λ r. ⌜ r < 2 ^ 32 ⌝ }
@@ -99,13 +100,13 @@ fn hash_of(name: &[u8]) -> usize
     let mut hash: usize = 0;
     let mut i: usize = 0;
     while i < name.len() {
-        hash = (hash * 257 + name[i] as usize) % 4294967296;
+        hash = (hash * 16777619 + name[i] as usize) % 4294967296;
         i += 1;
     }
     hash
 }
 
-// The places of a part as record k, and its name's hash where the next will stand.
+// The places of a part as record k, and a hash where the next will stand.
 fn put_part(records: &mut [u32], k: usize, hash: usize, p: DeclarationPlaces)
     requires { ⌜ k ≤ 512 ⌝ }
     requires { ⌜ 4104 ≤ length (now records) ⌝ }

@@ -10,13 +10,14 @@ use borrow.Author.Tests.{ltb-true, ltb-false}
 use lib.Dec.{ltb}
 use lib.ListN.{length, take, drop, getD, length-append, length-drop, drop-of-length-le}
 use lib.Seq.{sets}
+use Rattle.spec.proofs.AheadLaws.{drop-one}
 use Rattle.spec.proofs.Choice.{by}
 use Rattle.spec.proofs.CopyLaws.{copied, copied-all}
 use Rattle.spec.proofs.FirstLaws.{first-least}
 use Rattle.spec.proofs.LengthLaws.{word-in}
 use Rattle.spec.proofs.MapLaws.{map-append, marked-length}
 use Rattle.spec.proofs.PartLaws.{bytes-part}
-use Rattle.spec.proofs.WalkLaws.{starts-length, drop-step, before-next, bytes-drop, passesAt}
+use Rattle.spec.proofs.WalkLaws.{starts-length, before-next, bytes-drop, passesAt}
 use Rattle.spec.specs.Bytes.{ascii, isWord}
 use Rattle.spec.specs.Elsif.{elsifFrom, elsif}
 use Rattle.spec.specs.Map.{Marked, live, byte, marked, bytes, lives, frontByte}
@@ -60,7 +61,7 @@ module _ (t : List Marked) where
       (λ e.
       let h = ltb-true i (length t) e in
       rw n
-      (from-skip k (frontByte (reverse (take i t))) (drop i t) (drop (i + 1) t) (getD t i (live 0)) (drop-step t i (live 0) h)
+      (from-skip k (frontByte (reverse (take i t))) (drop i t) (drop (i + 1) t) (getD t i (live 0)) (drop-one t i (live 0) h)
       ∙ (ap (λ (b : ℕ). elsifFrom k b (drop (i + 1) t)) (before-next t i h) ∙ skipped k (i + 1))))
       (λ e.
       let h = ltb-false i (length t) e in
@@ -70,14 +71,14 @@ module _ (t : List Marked) where
   copies : (i : ℕ) → i < length t → passesAt keyword t i ≡ false → elsifAt t i ≡ (getD t i (live 0) ∷ []) ++ elsifAt t (i + 1)
   unfolding keywordHere
   copies i h e =
-      from-copy (frontByte (reverse (take i t))) (drop i t) (drop (i + 1) t) (getD t i (live 0)) (drop-step t i (live 0) h) e
+      from-copy (frontByte (reverse (take i t))) (drop i t) (drop (i + 1) t) (getD t i (live 0)) (drop-one t i (live 0) h) e
       ∙ ap (λ (b : ℕ). getD t i (live 0) ∷ elsifFrom 0 b (drop (i + 1) t)) (before-next t i h)
 
   puts : (i : ℕ) → i < length t → passesAt keyword t i ≡ true → elsifAt t i ≡ lives (ascii "ELSEIF") ++ elsifAt t (i + 5)
   unfolding keywordHere
   puts i h e =
       let n : i + 1 + 4 ≡ i + 5 = omega arith in
-      from-put (frontByte (reverse (take i t))) (drop i t) (drop (i + 1) t) (getD t i (live 0)) (drop-step t i (live 0) h) e
+      from-put (frontByte (reverse (take i t))) (drop i t) (drop (i + 1) t) (getD t i (live 0)) (drop-one t i (live 0) h) e
       ∙ (ap (λ (b : ℕ). lives (ascii "ELSEIF") ++ elsifFrom 4 b (drop (i + 1) t)) (before-next t i h)
       ∙ ap (λ (l : List Marked). lives (ascii "ELSEIF") ++ l) (skipped 4 (i + 1) ∙ ap (elsifAt t) n))
 

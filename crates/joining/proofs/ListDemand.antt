@@ -1,12 +1,12 @@
 -- Demand 3 for a list of closed bodies with any body behind them. Assumes nothing.
 use mathlib.Core.Path.{_≡_, refl, sym, ap, _∙_}
-use mathlib.Core.Bool.{true, false≢true}
+use mathlib.Core.Bool.{true}
 use mathlib.Core.List.{List, [], _∷_, _++_, append-assoc, map, List·Memᴰ, List·Memᴰ·head, List·Memᴰ·tail, List·Memᴰ·not-nil, List·Memᴰ·cases-cons}
 use mathlib.Core.Option.{none}
 use mathlib.Core.Logic.{_↔_, ⊎-elim}
 use Prim.Native.Nat.{ℕ, _≤_, _<_}
 use native.Mathlib.Omega.{arith}
-use borrow.Author.Tests.{eqb-true, eq-eqb}
+use borrow.Author.Tests.{eqb-true, eqb-false}
 use lib.Dec.{eqb}
 use lib.ListN.{length, length-append}
 use Rattle.spec.proofs.Apart.{apart}
@@ -140,7 +140,7 @@ module _ (act : Level → Action) (l : Lent) (c : List ℕ) where
           (λ h.
           let g = eqb-true (passNumber f) 6 h in
           six (n ∙ g) (record { fits = k .0; ascii = k .2; exceeds = q ∙ ap refused (told 6 f g) }))
-          (λ h. other (passNumber f) n (λ z. omega (arith, pass-number f .0)) (λ z. false≢true (sym h ∙ eq-eqb (passNumber f) 6 z)))
+          (λ h. other (passNumber f) n (λ z. omega (arith, pass-number f .0)) (eqb-false (passNumber f) 6 h))
 
       by-check : (k : Check) → checkBy l c ≡ k → P
       by-check Passed e = by-result e (rewriting act c) refl

@@ -11,12 +11,12 @@ use lib.ListN.{length, take, drop, getD, length-take, length-drop, drop-of-lengt
 use lib.Seq.{take-length, take-take, drop-drop, length-take-le}
 use Rattle.spec.proofs.EndLaws.{drop-end-take, drop-end-some}
 use Rattle.spec.proofs.BytesLaws.{while-length-bytes, end-length-bytes}
-use Rattle.spec.proofs.AheadLaws.{drop-take}
+use Rattle.spec.proofs.AheadLaws.{drop-one, drop-take}
 use Rattle.spec.proofs.Choice.{and-left, and-right}
 use Rattle.spec.proofs.FirstLaws.{first-least}
 use Rattle.spec.proofs.ListLaws.{drop-end-le}
 use Rattle.spec.proofs.MapLaws.{marked-length}
-use Rattle.spec.proofs.WalkLaws.{marked-drop, drop-step, back-step, while-drop, while-length, while-fails, passesAt, pieces-cut, pieces-last}
+use Rattle.spec.proofs.WalkLaws.{marked-drop, back-step, while-drop, while-length, while-fails, passesAt, pieces-cut, pieces-last}
 use Rattle.spec.proofs.PartLaws.{bytes-part}
 use Rattle.spec.specs.Parts.{trim, trimEnd}
 use Rattle.spec.specs.Bytes.{isW}
@@ -40,7 +40,7 @@ same-pieces b c (x ∷ u) e =
 comma-depth : (t : List Marked) (j : ℕ) → j < length t → passesAt commaHere t j ≡ true → depthOf (reverse (take (j + 1) t)) ≡ 0
 unfolding commaHere byteHere depthOf
 comma-depth t j h e =
-    let d = drop-step t j (live 0) h in
+    let d = drop-one t j (live 0) h in
     let p : (isLiveByte 44 (getD t j (live 0)) && eqb (depthOf (reverse (take j t))) 0) ≡ true = rw d at e in
     let a = and-left (isLiveByte 44 (getD t j (live 0))) (eqb (depthOf (reverse (take j t))) 0) p in
     let z = and-right (isLiveByte 44 (getD t j (live 0))) (eqb (depthOf (reverse (take j t))) 0) p in
@@ -128,7 +128,7 @@ module _ {A : Type 0} (f : A → Bool) (p : List A) (d : A) where
   -- some stay exactly if not all pass
   inner-some : lead < length p → 0 < length inner
   inner-some h =
-      let e = inner-drop ∙ (ap (dropEnd f) (drop-step p lead d h) ∙ drop-end-some f (getD p lead d) (drop (lead + 1) p) (while-fails f p d h)) in
+      let e = inner-drop ∙ (ap (dropEnd f) (drop-one p lead d h) ∙ drop-end-some f (getD p lead d) (drop (lead + 1) p) (while-fails f p d h)) in
       omega (arith, ap length e)
 
   inner-none : length p ≤ lead → inner ≡ []

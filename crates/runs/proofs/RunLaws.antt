@@ -8,12 +8,13 @@ use borrow.Author.Tests.{eqb-true, eqb-false, eq-eqb, ne-eqb}
 use lib.Dec.{eqb}
 use lib.ListN.{length, take, drop, getD, length-drop, drop-of-length-le}
 use lib.Seq.{length-take-le, take-length}
+use Rattle.spec.proofs.AheadLaws.{drop-one}
 use Rattle.spec.proofs.BytesLaws.{bytes-skip, bytes-end}
 use Rattle.spec.proofs.Choice.{by}
 use Rattle.spec.proofs.EndLaws.{drop-end-take, drop-end-hit, drop-end-miss, drop-end-zero}
 use Rattle.spec.proofs.ListLaws.{drop-end-le, drop-while-le}
 use Rattle.spec.proofs.RunPlaces.{endFrom, startFrom}
-use Rattle.spec.proofs.WalkLaws.{drop-step, while-drop, while-length, while-length-end, while-length-hit, while-length-miss}
+use Rattle.spec.proofs.WalkLaws.{while-drop, while-length, while-length-end, while-length-hit, while-length-miss}
 use Rattle.spec.specs.Parts.{trim, trimEnd}
 use Rattle.spec.specs.Bytes.{isW}
 use Rattle.spec.specs.Lists.{takeWhile, dropWhile, dropEnd, any}
@@ -66,11 +67,11 @@ module _ {A : Type 0} (f : A → Bool) (xs : List A) where
     module _ (d : A) (h : i < length xs) where
       pub any-here : f (getD xs i d) ≡ true → any f (drop i xs) ≡ true
       unfolding any
-      any-here e = rw (drop-step xs i d h, e) refl
+      any-here e = rw (drop-one xs i d h, e) refl
 
       pub any-step : f (getD xs i d) ≡ false → any f (drop i xs) ≡ any f (drop (i + 1) xs)
       unfolding any
-      any-step e = rw (drop-step xs i d h, e) refl
+      any-step e = rw (drop-one xs i d h, e) refl
 
 -- this byte somewhere
 pub any-byte : (c : ℕ) (xs : List ℕ) → any (λ b. eqb b c) xs ≡ any (eqb c) xs

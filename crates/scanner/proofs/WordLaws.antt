@@ -15,8 +15,8 @@ use Rattle.spec.specs.Map.{Marked, live, byte, mark, marked, bytes}
 use Rattle.spec.specs.Search.{isSkipped, isWordMark, nextWord, isWordText}
 use Rattle.spec.proofs.MapLaws.{marked-length}
 use Rattle.spec.proofs.RunPlaces as places
-use Rattle.runs.proofs.RunLaws as runs
 use Rattle.spec.proofs.WalkLaws.{map-take, marked-at, bytes-drop, starts-case, while-take, while-drop, while-length}
+use Rattle.runs.proofs.RunLaws as runs
 
 -- ---- where the bytes that pass a test end
 

@@ -6,11 +6,12 @@ use Prim.Native.Nat.{ℕ, suc, _+_, _-_, _≤_, _<_}
 use native.Mathlib.Omega.{arith}
 use lib.ListN.{length, take, drop, getD, length-drop}
 use lib.Seq.{take-suc, getD-drop}
+use Rattle.spec.proofs.AheadLaws.{drop-one}
 use Rattle.spec.proofs.BytesLaws.{bytes-append}
 use Rattle.spec.proofs.FirstLaws.{first-least}
 use Rattle.spec.proofs.JoinedPieces.{live-byte, pieces-cons}
 use Rattle.spec.proofs.MapLaws.{marked-length}
-use Rattle.spec.proofs.WalkLaws.{drop-step, bytes-drop, piecesAt, pieces-cut, pieces-last}
+use Rattle.spec.proofs.WalkLaws.{bytes-drop, piecesAt, pieces-cut, pieces-last}
 use Rattle.spec.proofs.PartLaws.{marked-part}
 use Rattle.spec.specs.Map.{Marked, live, marked, bytes}
 use Rattle.spec.specs.Search.{first, byteHere, pieces}
@@ -52,7 +53,7 @@ module _ (xs ms : List ℕ) where
         let r = first-least (byteHere 59) t i j e in
         let k : j + 1 - i ≡ suc (j - i) = omega (arith, r .from) in
         let m : i + (j - i) ≡ j = omega (arith, r .from) in
-        let l : getD t j (live 0) ≡ live 59 = front-live 59 (reverse (take j t)) (drop j t) (drop (j + 1) t) (getD t j (live 0)) (drop-step t j (live 0) (r .inside)) (r .passes) in
+        let l : getD t j (live 0) ≡ live 59 = front-live 59 (reverse (take j t)) (drop j t) (drop (j + 1) t) (getD t j (live 0)) (drop-one t j (live 0) (r .inside)) (r .passes) in
         let g : getD (drop i t) (j - i) (live 0) ≡ live 59 = getD-drop i t (j - i) (live 0) ∙ (ap (λ (n : ℕ). getD t n (live 0)) m ∙ l) in
         let h : j - i < length (drop i t) = omega (arith, length-drop i t, r .inside, r .from) in
         sym (ap (λ (n : ℕ). take n (drop i t)) k ∙ (take-suc (drop i t) (j - i) (live 0) h ∙ ap (λ (x : Marked). take (j - i) (drop i t) ++ (x ∷ [])) g))

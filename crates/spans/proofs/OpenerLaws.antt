@@ -1,9 +1,9 @@
 -- A byte that opens no span is a live byte. Assumes nothing.
-use mathlib.Core.Path.{_≡_, refl, sym, _∙_}
-use mathlib.Core.Bool.{Bool, true, false, _||_, false≢true}
+use mathlib.Core.Path.{_≡_, refl}
+use mathlib.Core.Bool.{false}
 use mathlib.Core.List.{List}
 use Prim.Native.Nat.{ℕ}
-use borrow.Author.Tests.{eq-eqb}
+use borrow.Author.Tests.{eqb-false}
 use lib.Dec.{eqb}
 use lib.ListN.{getD}
 use Rattle.spec.proofs.Choice.{or-left, or-right}
@@ -12,10 +12,6 @@ use Rattle.spec.specs.Bytes.{isPair}
 use Rattle.spec.specs.Spans.{spanAt}
 use Rattle.spec.specs.declared.Span.the-variants.{Code}
 use Rattle.spans.specs.Openers.{opensSpan}
-
--- where the test fails the two numbers differ
-differ : (m n : ℕ) → eqb m n ≡ false → m ≡ n → ⊥
-differ m n e q = false≢true (sym e ∙ eq-eqb m n q)
 
 -- no pair starts with another byte
 pair-off : (x y c d : ℕ) → eqb c x ≡ false → isPair x y c d ≡ false
@@ -31,5 +27,5 @@ at-plain xs c h e =
     let behind-slash = or-right (eqb c 47) _ behind-dash in
     let single = or-left (eqb c 39) _ behind-slash in
     let quotes = or-right (eqb c 39) _ behind-slash in
-    at-code xs c (getD xs 1 0) h refl (pair-off 45 45 c _ dash) (pair-off 47 42 c _ slash) (differ c 39 single)
-    (differ c 34 (or-left (eqb c 34) (eqb c 36) quotes)) (differ c 36 (or-right (eqb c 34) (eqb c 36) quotes))
+    at-code xs c (getD xs 1 0) h refl (pair-off 45 45 c _ dash) (pair-off 47 42 c _ slash) (eqb-false c 39 single)
+    (eqb-false c 34 (or-left (eqb c 34) (eqb c 36) quotes)) (eqb-false c 36 (or-right (eqb c 34) (eqb c 36) quotes))

@@ -193,7 +193,7 @@ pub fn next_span(rest: &[u8]) -> Span
     if c == b'"' {
         return Span::Verbatim(quoted_len(rest, b'"', false));
     }
-    // A tag is read only behind a `$`: at any other byte that would cost the length of a word.
+    // What is left is a `$`, or a `-` or `/` that starts no comment.
     if c == b'$' {
         return dollar_quoted(rest);
     }

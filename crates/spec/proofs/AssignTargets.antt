@@ -10,6 +10,7 @@ use native.Mathlib.Omega.{arith}
 use borrow.Author.Tests.{eqb-true, eqb-false, eq-eqb, ne-eqb, not-true}
 use lib.Dec.{eqb}
 use lib.ListN.{length, take, drop, getD, drop-of-length-le}
+use Rattle.spec.proofs.AheadLaws.{drop-one}
 use Rattle.spec.proofs.Apart.{apart}
 use Rattle.spec.proofs.Choice.{by, cond-case, and-left, and-right, and-both}
 use Rattle.spec.proofs.FirstTarget.{Exactly, choice-exactly, walk-exactly, walk-none}
@@ -20,7 +21,7 @@ use Rattle.spec.proofs.ByteSets.{sign-not-ident, ident-not-w, w-not-ide
 use Rattle.spec.proofs.MatchLaws.{prefix-at, at-prefix}
 use Rattle.spec.proofs.TargetPlaces.{flags, byteAt, IsRun, IsAssignAt, IsNameBefore, IsAssignTarget, FirstFrom, NoPlace}
 use Rattle.spec.specs.Parts.{part}
-use Rattle.spec.proofs.WalkLaws.{drop-step, back-step, live-inside, needle-at}
+use Rattle.spec.proofs.WalkLaws.{back-step, live-inside, needle-at}
 use Rattle.spec.specs.Bytes.{ascii, isIdent, isW, prefixBy}
 use Rattle.spec.specs.Lists.{takeWhile}
 use Rattle.spec.specs.Map.{Marked, live, bytes, frontByte, ofByte}
@@ -204,7 +205,7 @@ module _ (t : List Marked) where
   step : (i : ℕ) → i < length t → walk i ≡ orElse (assignedAt t i) (walk (i + 1))
   unfolding walk
   step i h =
-      walk-front (reverse (take i t)) (drop i t) (drop (i + 1) t) (getD t i (live 0)) (drop-step t i (live 0) h)
+      walk-front (reverse (take i t)) (drop i t) (drop (i + 1) t) (getD t i (live 0)) (drop-one t i (live 0) h)
       ∙ ap (λ (b : List Marked). orElse (assignedAt t i) (assignTarget b (drop (i + 1) t))) (sym (back-step t i (live 0) h))
 
   inside : (i : ℕ) (r : Target) → IsAssignTarget t i r → i < length t

@@ -7,7 +7,7 @@ use Prim.Native.Nat.{ℕ, _+_, _-_, _≤_, _<_}
 use native.Mathlib.Omega.{arith}
 use borrow.Author.Tests.{leb-true, le-leb, lt-ltb, le-ltb, eqb-true, not-true, not-false}
 use lib.Dec.{eqb, leb}
-use Rattle.spec.proofs.Choice.{by, and-left, and-right, or-left, or-cases}
+use Rattle.spec.proofs.Choice.{by, and-left, and-right, or-left, or-second, or-cases}
 use Rattle.spec.specs.Bytes.{within, isDigit, isLower, isUpper, isIdent, isWord, isW, isN, isHigh, upper}
 
 -- ---- the bytes that the definitions name
@@ -64,7 +64,7 @@ gap-w c h = not-false (isW c) (none-of (λ (n : ℕ). not (isW n)) gaps c refl h
 pub letter-ident : (c : ℕ) → isLetter c ≡ true → isIdent c ≡ true
 unfolding isIdent isLower isUpper isDigit within
 letter-ident c h =
-    or-cases (leb 97 c && leb c 122) (leb 65 c && leb c 90) h
+    or-cases (leb 97 c && leb c 122) (isCapital c) h
     (λ e. rw e refl)
     (λ e. rw e (by (leb 97 c && leb c 122) (λ f. rw f refl) (λ f. rw f refl)))
 
@@ -148,5 +148,5 @@ capital-ident c n h e =
     let least = leb-true 65 n (and-left (leb 65 n) (leb n 90) h) in
     let most = leb-true n 90 (and-right (leb 65 n) (leb n 90) h) in
     let small : isLetter (n + 32) ≡ true = rw (le-leb 97 (n + 32) (omega arith), le-leb (n + 32) 122 (omega arith)) refl in
-    let large : isLetter n ≡ true = rw h (by (leb 97 n && leb n 122) (λ f. rw f refl) (λ f. rw f refl)) in
+    let large : isLetter n ≡ true = or-second (leb 97 n && leb n 122) (isCapital n) h in
     upper-cases (λ (m : ℕ). isIdent m ≡ true) c n e (letter-ident n large) (letter-ident (n + 32) small)

@@ -6,9 +6,10 @@ use mathlib.Core.List.{List, [], _∷_}
 use Prim.Native.Nat.{ℕ, suc, _+_, _-_, _≤_, _<_}
 use native.Mathlib.Omega.{arith}
 use lib.ListN.{length, take, drop, getD, drop-of-length-le}
+use Rattle.spec.proofs.AheadLaws.{drop-one}
 use Rattle.spec.proofs.Choice.{by}
 use Rattle.spec.proofs.FirstLaws.{apart}
-use Rattle.spec.proofs.WalkLaws.{climb, drop-step, passesAt, first-end, first-hit, first-miss, first-within}
+use Rattle.spec.proofs.WalkLaws.{climb, passesAt, first-end, first-hit, first-miss, first-within}
 use Rattle.spec.specs.Map.{Marked, live}
 use Rattle.spec.specs.Search.{Test, first}
 use Rattle.spec.specs.declared.Found.the-variants.{At, Nothing}
@@ -34,7 +35,7 @@ module _ {B : Type 0} (put : List Marked → B → B)
         let r : first p (k + 1) t ≡ At j = sym (first-miss p t k h q) ∙ e in
         let b = first-within p t (k + 1) j r in
         let one : j - k ≡ suc (j - (k + 1)) = omega arith in
-        rw (one, drop-step t k (live 0) h)
+        rw (one, drop-one t k (live 0) h)
         (copies k h q ∙ (ap (put (getD t k (live 0) ∷ [])) (rest r) ∙ sym (more _ _ _)))))
         i
 
@@ -47,6 +48,6 @@ module _ {B : Type 0} (put : List Marked → B → B)
         by (passesAt p t k)
         (λ q. apart (first p k t) k (first-hit p t k h q) e)
         (λ q.
-        rw (drop-step t k (live 0) h)
+        rw (drop-one t k (live 0) h)
         (copies k h q ∙ (ap (put (getD t k (live 0) ∷ [])) (rest (sym (first-miss p t k h q) ∙ e)) ∙ sym (more _ _ _)))))
         i

@@ -1,15 +1,15 @@
 -- The two yes/no searches in document 01's words: a handler stands somewhere, a dollar literal is left open. Assumes nothing.
 use mathlib.Core.Path.{_≡_, refl, sym, ap, _∙_}
-use mathlib.Core.Bool.{Bool, true, false, _&&_, _||_, false≢true}
+use mathlib.Core.Bool.{Bool, true, false, _&&_, false≢true}
 use mathlib.Core.List.{List, [], _∷_, map}
-use Prim.Native.Nat.{ℕ, zero, suc, _+_, _-_, _<_, zero-le, suc-le-suc}
+use Prim.Native.Nat.{ℕ, zero, suc, _+_, _<_, zero-le, suc-le-suc}
 use native.Mathlib.Nat.{le-of-suc-le-suc}
 use native.Mathlib.Omega.{arith}
 use borrow.Author.Tests.{eqb-true, eq-eqb, not-true}
 use lib.Dec.{eqb}
 use lib.ListN.{length, drop, getD, length-map}
 use lib.Seq.{drop-drop}
-use Rattle.spec.proofs.Choice.{and-left, and-right, and-both, or-cases}
+use Rattle.spec.proofs.Choice.{and-left, and-right, and-both, or-cases, or-second}
 use Rattle.spec.proofs.WalkLaws.{starts-case, passesAt}
 use Rattle.spec.proofs.FirstLaws.{Says, found-least, found-none}
 use Rattle.spec.specs.Bytes.{ascii, upper, prefixBy}
@@ -105,11 +105,7 @@ pub found-any : {A : Type 0} (f : A → Bool) (d : A) (l : List A) (k : ℕ) →
 unfolding any
 found-any f d [] k h e = absurd (omega arith)
 found-any f d (x ∷ l) zero h e = rw e refl
-found-any f d (x ∷ l) (suc k) h e = or-right (f x) (any f l) (found-any f d l k (le-of-suc-le-suc h) e)
-  where
-    or-right : (a b : Bool) → b ≡ true → (a || b) ≡ true
-    or-right true b h = refl
-    or-right false b h = h
+found-any f d (x ∷ l) (suc k) h e = or-second (f x) (any f l) (found-any f d l k (le-of-suc-le-suc h) e)
 
 -- yes exactly if a span of the text is a dollar literal that is not closed
 pub unterminated-found : (xs : List ℕ) (d : Lexeme) → hasUnterminatedDollarQuote xs ≡ true → (k : ℕ) × (k < length (lexemes xs)) × (isUnclosed (getD (lexemes xs) k d .span) ≡ true)

@@ -11,6 +11,7 @@ use borrow.Author.Tests.{eqb-true, eqb-false}
 use lib.Dec.{eqb}
 use lib.ListN.{length, take, drop, getD, drop-of-length-le}
 use lib.Seq.{drop-drop}
+use Rattle.spec.proofs.AheadLaws.{drop-one}
 use Rattle.spec.proofs.Apart.{apart}
 use Rattle.spec.proofs.Choice.{by}
 use Rattle.spec.proofs.EqualsTargets.{NoRunOver, equals-target-exactly}
@@ -21,7 +22,7 @@ use Rattle.spec.proofs.RefusalBounds.{bytes-length}
 use Rattle.spec.proofs.ByteSets.{not-word}
 use Rattle.spec.proofs.RunPlaces.{flags-length}
 use Rattle.spec.proofs.TargetPlaces.{flags, byteAt, StandsAt, OpensStatement, IsMarkedTarget, FirstFrom, NoPlace}
-use Rattle.spec.proofs.WalkLaws.{drop-step, back-step, live-inside}
+use Rattle.spec.proofs.WalkLaws.{back-step, live-inside}
 use Rattle.spec.specs.Map.{Marked, live, byte, frontByte}
 use Rattle.spec.specs.Assignments.{Target, orElse, opensStatement, Marking, markings, markingHere}
 use Rattle.spec.specs.Assignments.{casesBehind, targetPast, targetBehind, markedTarget}
@@ -103,7 +104,7 @@ module _ (t : List Marked) where
   unfolding walk met cases frontByte
   walk-step k h =
       let x = getD t k (live 0) in
-      walk-front (cases t k) (frontByte (reverse (take k t))) (drop k t) (drop (k + 1) t) x (drop-step t k (live 0) h)
+      walk-front (cases t k) (frontByte (reverse (take k t))) (drop k t) (drop (k + 1) t) x (drop-one t k (live 0) h)
       ∙ rw (back-step t k (live 0) h, add-one k) refl
 
   inside : (k : ℕ) (r : Target) → IsMarkedTarget t k r → k < length t

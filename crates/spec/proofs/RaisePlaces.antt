@@ -11,6 +11,7 @@ use borrow.Author.Tests.{ltb-true, ltb-false, not-true, not-false}
 use lib.Dec.{ltb}
 use lib.ListN.{length, take, drop, getD, length-drop}
 use lib.Seq.{drop-drop, getD-drop, length-take-le}
+use Rattle.spec.proofs.AheadLaws.{drop-one}
 use Rattle.spec.proofs.Apart.{apart}
 use Rattle.spec.proofs.BytesLaws.{bytes-take, bytes-drop, while-length-bytes}
 use Rattle.spec.proofs.Choice.{by}
@@ -19,7 +20,7 @@ use Rattle.spec.proofs.MapLaws.{text-bytes, text-length}
 use Rattle.spec.proofs.SearchLaws.{IsByteAt, byte-says}
 use Rattle.spec.proofs.TrimLaws.{IsTrimmed, trimmed-some, trimmed-part, part-of-front}
 use Rattle.spec.proofs.UsingPlaces.{MatchesAt, IsRefusedContent, starts-matches, matches-starts, abort-refused-exactly}
-use Rattle.spec.proofs.WalkLaws.{drop-step, passesAt, while-take, while-length, while-passes, while-fails, while-passes-at, while-fails-at, while-exactly}
+use Rattle.spec.proofs.WalkLaws.{passesAt, while-take, while-length, while-passes, while-fails, while-passes-at, while-fails-at, while-exactly}
 use Rattle.spec.specs.Bytes.{ascii, upper, isLower, within}
 use Rattle.spec.specs.Lists.{takeWhile}
 use Rattle.spec.specs.Map.{Marked, live, bytes, markedText, ofByte, isLiveByte}
@@ -86,7 +87,7 @@ module _ (ys : List ℕ) where
   semicolon-at : (k : ℕ) → k < length ys
       → isLiveByte 59 (getD (markedText ys) k (live 0)) ≡ passesAt (byteHere 59) (markedText ys) k
   unfolding byteHere
-  semicolon-at k h = rw (drop-step (markedText ys) k (live 0) (omega (arith, text-length ys)))
+  semicolon-at k h = rw (drop-one (markedText ys) k (live 0) (omega (arith, text-length ys)))
 
   module _ (k : ℕ) (h : k < length ys) where
     goes-not : IsByteAt ys 59 k → goes (getD (markedText ys) k (live 0)) ≡ false

@@ -9,13 +9,14 @@ use native.Mathlib.Omega.{arith}
 use borrow.Author.Tests.{ltb-true, ltb-false}
 use lib.Dec.{ltb}
 use lib.ListN.{length, take, drop, getD, drop-of-length-le}
+use Rattle.spec.proofs.AheadLaws.{drop-one}
 use Rattle.spec.proofs.Choice.{by}
 use Rattle.spec.proofs.CopyLaws.{copied, copied-all}
 use Rattle.spec.proofs.FirstFound.{eitherOf, firstSome}
 use Rattle.spec.proofs.FirstLaws.{first-least}
 use Rattle.spec.proofs.RaisePlaces.{raiseOf}
 use Rattle.spec.proofs.RefusalOutcomes.{fateClause, firstClause}
-use Rattle.spec.proofs.WalkLaws.{drop-step, before-next, passesAt}
+use Rattle.spec.proofs.WalkLaws.{before-next, passesAt}
 use Rattle.spec.specs.Bytes.{ascii, isWord}
 use Rattle.spec.specs.Map.{Marked, live, byte, frontByte}
 use Rattle.spec.specs.Search.{Test, first, wordHere, keywordHere}
@@ -67,7 +68,7 @@ module _ (t : List Marked) where
       by (ltb i (length t))
       (λ q.
       let h = ltb-true i (length t) q in
-      front-passed (frontByte (reverse (take i t))) (drop i t) (drop (i + 1) t) (getD t i (live 0)) (drop-step t i (live 0) h) k
+      front-passed (frontByte (reverse (take i t))) (drop i t) (drop (i + 1) t) (getD t i (live 0)) (drop-one t i (live 0) h) k
       ∙ (ap (λ (p : ℕ). raisesFrom actionOf k p (drop (i + 1) t)) (before-next t i h) ∙ (raises-past k (i + 1) ∙ ap (raisesAt t) z)))
       (λ q.
       let h = ltb-false i (length t) q in
@@ -77,7 +78,7 @@ module _ (t : List Marked) where
       → raisesAt t i ≡ kept (getD t i (live 0)) ∷ raisesAt t (i + 1)
   unfolding keywordHere
   raise-kept i h e =
-      front-stays (frontByte (reverse (take i t))) (drop i t) (drop (i + 1) t) (getD t i (live 0)) (drop-step t i (live 0) h) e
+      front-stays (frontByte (reverse (take i t))) (drop i t) (drop (i + 1) t) (getD t i (live 0)) (drop-one t i (live 0) h) e
       ∙ ap (λ (p : ℕ). kept (getD t i (live 0)) ∷ raisesFrom actionOf 0 p (drop (i + 1) t)) (before-next t i h)
 
   pub raise-goes : (i : ℕ) → i < length t → passesAt raiseHere t i ≡ true
@@ -87,7 +88,7 @@ module _ (t : List Marked) where
       let r = raiseOf (drop i t) in
       let z : i + 1 + (r .length - 1) ≡ i + r .length =
       omega (arith, raised-pos (levelIn levelWords (drop 6 (drop i t))) (drop i t)) in
-      front-goes (frontByte (reverse (take i t))) (drop i t) (drop (i + 1) t) (getD t i (live 0)) (drop-step t i (live 0) h) e
+      front-goes (frontByte (reverse (take i t))) (drop i t) (drop (i + 1) t) (getD t i (live 0)) (drop-one t i (live 0) h) e
       ∙ ap (λ (ps : List Token). raised r ∷ ps)
       (ap (λ (p : ℕ). raisesFrom actionOf (r .length - 1) p (drop (i + 1) t)) (before-next t i h)
       ∙ (raises-past (r .length - 1) (i + 1) ∙ ap (raisesAt t) z))

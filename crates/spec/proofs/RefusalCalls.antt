@@ -46,6 +46,7 @@ FromFour (suc zero) f = (c : List ℕ) × (f ≡ usingClause c)
 FromFour (suc (suc zero)) f = f ≡ resultTooLong
 FromFour (suc (suc (suc n))) f = ⊥
 
+-- the same for a number
 abbrev NumberTells : ℕ → PassRefusal → Type 0
 NumberTells n f = FromFour (n - 4) f
 
@@ -54,6 +55,7 @@ number-tells (qualifiedTarget q n) = (q, n, refl)
 number-tells (usingClause c) = (c, refl)
 number-tells resultTooLong = refl
 
+-- so a refusal is told by its number
 pub told : (n : ℕ) (f : PassRefusal) → passNumber f ≡ n → NumberTells n f
 told n f e = subst (λ (k : ℕ). NumberTells k f) e (number-tells f)
 

@@ -10,7 +10,8 @@ use native.Mathlib.Omega.{arith}
 use borrow.Author.Tests.{ltb-true, ltb-false, eqb-true, eq-eqb, ne-eqb}
 use lib.Dec.{eqb, ltb, eqb·suc-zero}
 use lib.ListN.{length, take, drop, getD, length-reverse, length-drop, drop-of-length-le, List·getD-eq-default}
-use lib.Seq.{length-take-le, take-suc, drop-cons, drop-nil, getD-drop, drop-drop}
+use lib.Seq.{length-take-le, take-suc, drop-nil, getD-drop, drop-drop}
+use Rattle.spec.proofs.AheadLaws.{drop-one}
 use Rattle.spec.proofs.Choice.{by, neither-less, and-left, and-right}
 use Rattle.spec.proofs.MapLaws.{mark-byte, map-length, marked-length, marked-bytes}
 use Rattle.spec.specs.Bytes.{isPrefix, upper, isWord, isN, prefixBy}
@@ -31,10 +32,6 @@ climb P n end step i = go (n - i) i (omega arith)
     go (suc k) i h = by (ltb i n) (λ e. step i (ltb-true i n e) (go k (i + 1) (omega arith))) (λ e. end i (ltb-false i n e))
 
 module _ {A : Type 0} (t : List A) (i : ℕ) (d : A) (h : i < length t) where
-  -- what stands from i on is the element at i, then what stands behind it
-  pub drop-step : drop i t ≡ getD t i d ∷ drop (i + 1) t
-  drop-step = rw add-one (drop-cons t i d h)
-
   -- what stands before i + 1, read backwards, is the element at i, then what stands before i
   pub back-step : reverse (take (i + 1) t) ≡ getD t i d ∷ reverse (take i t)
   back-step = rw (add-one, take-suc t i d h, reverse-append) refl
@@ -114,7 +111,7 @@ module _ (xs ms : List ℕ) (i : ℕ) (h : i < length xs) where
   -- what stands from i on, and what stands before i + 1 read backwards, by the byte at i
   pub marked-step : drop i (marked xs ms) ≡ mark (getD ms i 0) (getD xs i 0) ∷ drop (i + 1) (marked xs ms)
   marked-step =
-      drop-step (marked xs ms) i (live 0) within-marked
+      drop-one (marked xs ms) i (live 0) within-marked
       ∙ ap (λ (x : Marked). x ∷ drop (i + 1) (marked xs ms)) (marked-at xs ms i (live 0) h)
 
   pub marked-back : reverse (take (i + 1) (marked xs ms)) ≡ mark (getD ms i 0) (getD xs i 0) ∷ reverse (take i (marked xs ms))
@@ -215,11 +212,11 @@ module _ (f : ℕ → ℕ) (w xs : List ℕ) (k i : ℕ) where
   module _ (h : k < length w) where
     pub prefix-short : length xs ≤ i → prefixBy f (drop k w) (drop i xs) ≡ false
     unfolding prefixBy
-    prefix-short m = rw (drop-of-length-le xs m, drop-step w k 0 h) refl
+    prefix-short m = rw (drop-of-length-le xs m, drop-one w k 0 h) refl
 
     pub prefix-step : i < length xs → prefixBy f (drop k w) (drop i xs) ≡ (eqb (f (getD xs i 0)) (f (getD w k 0)) && prefixBy f (drop (k + 1) w) (drop (i + 1) xs))
     unfolding prefixBy
-    prefix-step m = rw (drop-step w k 0 h, drop-step xs i 0 m) refl
+    prefix-step m = rw (drop-one w k 0 h, drop-one xs i 0 m) refl
 
     pub prefix-hit : i < length xs → f (getD xs i 0) ≡ f (getD w k 0) → prefixBy f (drop k w) (drop i xs) ≡ prefixBy f (drop (k + 1) w) (drop (i + 1) xs)
     prefix-hit m e = prefix-step m ∙ rw (eq-eqb (f (getD xs i 0)) (f (getD w k 0)) e) refl
@@ -311,7 +308,7 @@ module _ (p : Test) (t : List Marked) (i : ℕ) where
     pub first-miss : passesAt p t i ≡ false → first p i t ≡ first p (i + 1) t
     unfolding first
     first-miss e =
-        let d = drop-step t i (live 0) h in
+        let d = drop-one t i (live 0) h in
         front-miss p (reverse (take i t)) (drop i t) (drop (i + 1) t) (getD t i (live 0)) d e
         ∙ ap (λ (b : List Marked). firstFrom p b (drop (i + 1) t)) (sym (back-step t i (live 0) h))
 
@@ -398,10 +395,10 @@ module _ {A : Type 0} (f : A → Bool) where
 
     module _ (d : A) (h : i < length t) where
       pub while-hit : f (getD t i d) ≡ true → takeWhile f (drop i t) ≡ getD t i d ∷ takeWhile f (drop (i + 1) t)
-      while-hit e = ap (λ (l : List A). takeWhile f l) (drop-step t i d h) ∙ take-front (getD t i d) (drop (i + 1) t) e
+      while-hit e = ap (λ (l : List A). takeWhile f l) (drop-one t i d h) ∙ take-front (getD t i d) (drop (i + 1) t) e
 
       pub while-miss : f (getD t i d) ≡ false → takeWhile f (drop i t) ≡ []
-      while-miss e = ap (λ (l : List A). takeWhile f l) (drop-step t i d h) ∙ take-stop (getD t i d) (drop (i + 1) t) e
+      while-miss e = ap (λ (l : List A). takeWhile f l) (drop-one t i d h) ∙ take-stop (getD t i d) (drop (i + 1) t) e
 
       pub while-length-hit : f (getD t i d) ≡ true → length (takeWhile f (drop i t)) ≡ suc (length (takeWhile f (drop (i + 1) t)))
       while-length-hit e = ap length (while-hit e)
@@ -455,12 +452,12 @@ module _ (p : Test) (t : List Marked) (i : ℕ) where
   module _ (h : i < length t) where
     pub pieces-hit : passesAt p t i ≡ true → piecesAt p t i ≡ [] ∷ piecesAt p t (i + 1)
     pieces-hit e =
-        cut-front p (reverse (take i t)) (drop i t) (drop (i + 1) t) (getD t i (live 0)) (drop-step t i (live 0) h) e
+        cut-front p (reverse (take i t)) (drop i t) (drop (i + 1) t) (getD t i (live 0)) (drop-one t i (live 0) h) e
         ∙ ap (λ (b : List Marked). [] ∷ piecesFrom p b (drop (i + 1) t)) (sym (back-step t i (live 0) h))
 
     pub pieces-miss : passesAt p t i ≡ false → piecesAt p t i ≡ ontoFirst (getD t i (live 0)) (piecesAt p t (i + 1))
     pieces-miss e =
-        onto-front p (reverse (take i t)) (drop i t) (drop (i + 1) t) (getD t i (live 0)) (drop-step t i (live 0) h) e
+        onto-front p (reverse (take i t)) (drop i t) (drop (i + 1) t) (getD t i (live 0)) (drop-one t i (live 0) h) e
         ∙ ap (λ (b : List Marked). ontoFirst (getD t i (live 0)) (piecesFrom p b (drop (i + 1) t))) (sym (back-step t i (live 0) h))
 
 -- up to the first place at or behind i that passes, there is one piece, and behind that place the pieces go on
@@ -483,7 +480,7 @@ pieces-cut p t i j =
     rw one
     (pieces-miss p t k h q
     ∙ (ap (λ (ps : List (List Marked)). ontoFirst (getD t k (live 0)) ps) (more r)
-    ∙ ap (λ (l : List Marked). take (suc (j - (k + 1))) l ∷ piecesAt p t (j + 1)) (sym (drop-step t k (live 0) h))))))
+    ∙ ap (λ (l : List Marked). take (suc (j - (k + 1))) l ∷ piecesAt p t (j + 1)) (sym (drop-one t k (live 0) h))))))
     i
 
 -- where none passes, there is one piece
@@ -498,7 +495,7 @@ pieces-last p t i =
     (λ q.
     pieces-miss p t k h q
     ∙ (ap (λ (ps : List (List Marked)). ontoFirst (getD t k (live 0)) ps) (more (sym (first-miss p t k h q) ∙ e))
-    ∙ ap (λ (l : List Marked). l ∷ []) (sym (drop-step t k (live 0) h)))))
+    ∙ ap (λ (l : List Marked). l ∷ []) (sym (drop-one t k (live 0) h)))))
     i
 
 -- ---- where the pieces start, at an index
@@ -554,11 +551,11 @@ module _ (p : Test) (t : List Marked) (i : ℕ) where
     pub cuts-hit : passesAt p t i ≡ true → cutsAt p t i ≡ (i + 1) ∷ cutsAt p t (i + 1)
     cuts-hit e =
         let n : suc (length (reverse (take i t))) ≡ i + 1 = omega (arith, back-length t i (omega arith)) in
-        cuts-front p (reverse (take i t)) (drop i t) (drop (i + 1) t) (getD t i (live 0)) (drop-step t i (live 0) h) e
+        cuts-front p (reverse (take i t)) (drop i t) (drop (i + 1) t) (getD t i (live 0)) (drop-one t i (live 0) h) e
         ∙ (ap (λ (b : List Marked). suc (length (reverse (take i t))) ∷ cutsFrom p b (drop (i + 1) t)) (sym (back-step t i (live 0) h))
         ∙ ap (λ (k : ℕ). k ∷ cutsAt p t (i + 1)) n)
 
     pub cuts-miss : passesAt p t i ≡ false → cutsAt p t i ≡ cutsAt p t (i + 1)
     cuts-miss e =
-        cuts-past p (reverse (take i t)) (drop i t) (drop (i + 1) t) (getD t i (live 0)) (drop-step t i (live 0) h) e
+        cuts-past p (reverse (take i t)) (drop i t) (drop (i + 1) t) (getD t i (live 0)) (drop-one t i (live 0) h) e
         ∙ ap (λ (b : List Marked). cutsFrom p b (drop (i + 1) t)) (sym (back-step t i (live 0) h))

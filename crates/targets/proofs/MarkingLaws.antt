@@ -3,7 +3,7 @@ use mathlib.Core.Path.{_≡_, refl, sym, ap, _∙_}
 use mathlib.Core.Bool.{Bool, true, false, not, _&&_, and-false, false≢true}
 use mathlib.Core.List.{List, [], _∷_}
 use mathlib.Core.Option.{Option, none, some}
-use Prim.Native.Nat.{ℕ, zero, suc, _+_, _-_, _≤_, _<_}
+use Prim.Native.Nat.{ℕ, zero, suc, _+_, _≤_, _<_}
 use native.Mathlib.Numerals.{add-one}
 use native.Mathlib.Omega.{arith}
 use borrow.Author.Tests.{eq-eqb, ne-eqb}
@@ -15,9 +15,10 @@ use Rattle.spec.specs.Map.{Marked, marked, byte}
 use Rattle.spec.specs.Search.{wordHere}
 use Rattle.spec.specs.Assignments as spec
 use Rattle.spec.specs.Assignments.{Target, orElse, markings, markingHere, casesBehind, targetBehind, markedTarget}
+use Rattle.spec.proofs.AheadLaws.{drop-one}
 use Rattle.spec.proofs.ByteSets.{isCapital, capital-ident, not-word}
 use Rattle.spec.proofs.MapLaws.{mark-byte, marked-length}
-use Rattle.spec.proofs.WalkLaws.{drop-step, marked-step, front-live, front-byte, starts-case-at, prefix-miss}
+use Rattle.spec.proofs.WalkLaws.{marked-step, front-live, front-byte, starts-case-at, prefix-miss}
 use Rattle.targets.specs.Words.{entries, blank, markOf, metOf, casesAfter, casesMet, targetPast, targetMet}
 use Rattle.targets.specs.declared.Mark.{Mark}
 use Rattle.targets.specs.declared.Met.{Met}
@@ -115,11 +116,11 @@ module _ (xs ms : List ℕ) (p i : ℕ) (h : i < length xs) where
 
       pub met-hit : isEntryAt xs i k ≡ true → metFrom xs ms p i k ≡ Word (getD entries k blank .mark) (getD entries k blank .len)
       unfolding markingHere
-      met-hit q = rw (drop-step markings k noMarking (omega (arith, table-long)), stands true q) (entry-met k e)
+      met-hit q = rw (drop-one markings k noMarking (omega (arith, table-long)), stands true q) (entry-met k e)
 
       pub met-miss : isEntryAt xs i k ≡ false → metFrom xs ms p i k ≡ metFrom xs ms p i (k + 1)
       unfolding markingHere
-      met-miss q = rw (drop-step markings k noMarking (omega (arith, table-long)), stands false q) refl
+      met-miss q = rw (drop-one markings k noMarking (omega (arith, table-long)), stands false q) refl
 
   -- a byte that is no word byte starts no word
   pub met-other : getD ms i 0 ≡ 0 → isWord p ≡ false → isWord (getD xs i 0) ≡ false → metFrom xs ms p i 0 ≡ Nothing

@@ -9,9 +9,10 @@ use Rattle.spec.specs.Map.{Marked, live}
 use Rattle.spec.specs.Search.{first}
 use Rattle.spec.specs.Assignments.{Target, orElse, assignHere, targetBefore, assignTarget}
 use Rattle.spec.specs.declared.Found.the-variants.{At, Nothing}
+use Rattle.spec.proofs.AheadLaws.{drop-one}
 use Rattle.spec.proofs.Choice.{by}
 use Rattle.spec.proofs.FirstLaws.{apart}
-use Rattle.spec.proofs.WalkLaws.{climb, drop-step, back-step, passesAt, first-end, first-hit, first-miss}
+use Rattle.spec.proofs.WalkLaws.{climb, back-step, passesAt, first-end, first-hit, first-miss}
 
 step-hit : (back u v : List Marked) (x : Marked) → u ≡ x ∷ v → assignHere back u ≡ true → assignTarget back u ≡ orElse (targetBefore back) (assignTarget (x ∷ back) v)
 unfolding assignTarget
@@ -34,12 +35,12 @@ module _ (t : List Marked) where
     module _ (h : i < length t) where
       assign-hit : passesAt assignHere t i ≡ true → assignFrom t i ≡ orElse (targetBefore (reverse (take i t))) (assignFrom t (i + 1))
       assign-hit e =
-          step-hit (reverse (take i t)) (drop i t) (drop (i + 1) t) (getD t i (live 0)) (drop-step t i (live 0) h) e
+          step-hit (reverse (take i t)) (drop i t) (drop (i + 1) t) (getD t i (live 0)) (drop-one t i (live 0) h) e
           ∙ ap (λ (b : List Marked). orElse (targetBefore (reverse (take i t))) (assignTarget b (drop (i + 1) t))) (sym (back-step t i (live 0) h))
 
       assign-miss : passesAt assignHere t i ≡ false → assignFrom t i ≡ assignFrom t (i + 1)
       assign-miss e =
-          step-miss (reverse (take i t)) (drop i t) (drop (i + 1) t) (getD t i (live 0)) (drop-step t i (live 0) h) e
+          step-miss (reverse (take i t)) (drop i t) (drop (i + 1) t) (getD t i (live 0)) (drop-one t i (live 0) h) e
           ∙ ap (λ (b : List Marked). assignTarget b (drop (i + 1) t)) (sym (back-step t i (live 0) h))
 
   -- no `:=`, no target

@@ -3,7 +3,6 @@
 -- it. Assumes nothing.
 use native.Mathlib.Omega.{arith}
 use mathlib.Core.Path.{_≡_, refl, _∙_}
-use Prim.Native.Nat.{_-_}
 use lib.ListN.{take, drop}
 use Rattle.declared_records.specs.Held.{recordsFrom, placeOf, nameHash}
 use Rattle.declared_records.proofs.GatherLaws.{add-none, add-full, add-replaced, add-new}

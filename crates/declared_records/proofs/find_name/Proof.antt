@@ -1,5 +1,5 @@
 -- `declared_records::find_name` meets its contract. The loop's invariant says that the name's place among all records
--- is k and its place among those behind the first k; every record has its name's hash. Assumes nothing.
+-- is k and its place among those behind the first k. That every record has its name's hash is asked for. Assumes nothing.
 use native.Mathlib.Omega.{arith}
 use borrow.Author.Needs.{needs}
 use mathlib.Core.Path.{_≡_, sym, _∙_}

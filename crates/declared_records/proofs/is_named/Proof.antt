@@ -1,6 +1,6 @@
 -- `declared_records::is_named` meets its contract. Another hash tells the names apart (`other-hash`); else they are
 -- compared. Assumes nothing.
-use mathlib.Core.Path.{_≡_, refl, sym, _∙_}
+use mathlib.Core.Path.{refl, sym, _∙_}
 use borrow.Author.Needs.{needs}
 use Rattle.declared_records.proofs.GatherLaws.{other-hash}
 use Rattle.declared_records.proofs.is_named.Statement.{statement}

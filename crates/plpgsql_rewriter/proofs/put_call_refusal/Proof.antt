@@ -1,5 +1,5 @@
--- `plpgsql_rewriter::put_call_refusal` meets its contract: the numbers of a refused call are those of `refusal_numbers`, with no records. Assumes
--- nothing.
+-- `plpgsql_rewriter::put_call_refusal` meets its contract: the numbers of a refused call are those of `refusal_numbers`, with no records.
+-- Assumes nothing.
 use mathlib.Core.Path.{ap, _∙_}
 use mathlib.Core.List.{[], _∷_}
 use borrow.Author.Needs.{needs}

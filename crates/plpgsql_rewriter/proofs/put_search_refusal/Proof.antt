@@ -1,5 +1,5 @@
--- `plpgsql_rewriter::put_search_refusal` meets its contract: the numbers of a refused search are those of `refusal_numbers`, with nothing found. Assumes
--- nothing.
+-- `plpgsql_rewriter::put_search_refusal` meets its contract: the numbers of a refused search are those of `refusal_numbers`, with nothing found.
+-- Assumes nothing.
 use mathlib.Core.Path.{ap, _∙_}
 use mathlib.Core.List.{[], _∷_}
 use borrow.Author.Needs.{needs}

@@ -1,5 +1,5 @@
 -- `scanner::find_keyword_in` meets its contract. The outer loop's invariant says that the first place from `from` on is
--- the first from i on, and a place whose first byte differs is none; the inner one's, that the word stands at the place
+-- the first from i on; a place whose first byte differs is none. The inner one's says that the word stands at the place
 -- exactly if its rest from j on stands j bytes behind it, in any letter case. Assumes nothing.
 use native.Mathlib.Omega.{arith}
 use borrow.Author.Needs.{needs}

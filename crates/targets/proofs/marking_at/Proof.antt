@@ -1,6 +1,6 @@
 -- `targets::marking_at` meets its contract. The loop's invariant says that the first word of the table that stands here
 -- is the first from place k on. Before the loop a quoted byte, a word byte before i (`is-live`, `is-edge`) and a byte at i
--- that is no word byte are sorted out. Assumes nothing.
+-- that is no word byte (`other`) are sorted out. Assumes nothing.
 use native.Mathlib.Omega.{arith}
 use borrow.Author.Needs.{needs}
 use borrow.Author.Tests.{not-true}
@@ -30,7 +30,7 @@ is-live c = sym (c .before .before .before .byte-at .ensures) ∙ c .before .bef
 is-edge : (c : tie.Else2 Inv-loop μ-loop) → isWord (c .before .before .before .before .before .before .args .before) ≡ false
 is-edge c = sym (c .before .is-word-byte .ensures) ∙ c .if2 .left
 
--- the byte at i is tested next
+-- the byte at i is no word byte
 other : (c : tie.Then3 Inv-loop μ-loop) →
     let at-else2 = c .before .before .before in
     let a = at-else2 .before .before .before .before .before .before .args in
