@@ -1,5 +1,7 @@
 // Refusals: the checks that come before anything is written (1 the text's length, 3 the lent buffers, 2 bytes over 127), and
 // the numbers of every refusal.
+use runs::Set;
+use runs::run_end;
 use spec::Check;
 use spec::Found;
 use spec::Refusal;
@@ -12,14 +14,12 @@ ghost use Rattle.spec.specs.declared.Check.the-variants.{Passed};
 fn first_high(text: &[u8]) -> Found
     ensures { λ r. ⌜ r ≡ firstHigh (now (text .entry)) ⌝ }
 {
-    let mut i: usize = 0;
-    while i < text.len() {
-        if 127 < text[i] {
-            return Found::At(i);
-        }
-        i += 1;
+    let n = run_end(text, Set::Ascii, 0);
+    if n < text.len() {
+        Found::At(n)
+    } else {
+        Found::Nothing
     }
-    Found::Nothing
 }
 
 // Whether a call may begin: `enough` says that every lent buffer is long enough. The text's bytes come before the needle's.

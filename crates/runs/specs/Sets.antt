@@ -3,10 +3,10 @@ use Prim.Native.Nat.{ℕ}
 use mathlib.Core.Bool.{Bool, not, _||_}
 use mathlib.Core.List.{List}
 use lib.Dec.{eqb}
-use Rattle.spec.specs.Bytes.{isIdent, isW, isN}
+use Rattle.spec.specs.Bytes.{isIdent, isW, isN, isHigh}
 use Rattle.spec.specs.Lists.{dropWhile, dropEnd}
 use Rattle.runs.specs.declared.Set.{Set}
-use Rattle.runs.specs.declared.Set.the-variants.{W, N, Ident, NotW, NotWNor, Only, Except}
+use Rattle.runs.specs.declared.Set.the-variants.{W, N, Ident, NotW, NotWNor, Only, Except, Ascii}
 
 abbrev pub inSet : Set → ℕ → Bool
 inSet W b = isW b
@@ -16,6 +16,7 @@ inSet NotW b = not (isW b)
 inSet (NotWNor c) b = not (isW b || eqb b c)
 inSet (Only c) b = eqb b c
 inSet (Except c) b = not (eqb b c)
+inSet Ascii b = not (isHigh b)
 
 unfoldable pub trimmed : List ℕ → List ℕ
 trimmed xs = dropEnd isW (dropWhile isW xs)

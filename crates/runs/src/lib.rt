@@ -22,6 +22,8 @@ pub enum Set {
     Only(u8),
     // All but this byte.
     Except(u8),
+    // Bytes up to 127.
+    Ascii,
 }
 
 // Whether b is in the set.
@@ -36,6 +38,7 @@ fn is_in(set: Set, b: u8) -> bool
         Set::NotWNor(c) => { if is_w(b) { false } else { b != c } }
         Set::Only(c) => b == c,
         Set::Except(c) => b != c,
+        Set::Ascii => b <= 127,
     }
 }
 

@@ -1,9 +1,19 @@
 -- `runs::is_in` meets its contract, set by set. Assumes nothing.
-use mathlib.Core.Path.{refl, sym, ap, _∙_}
+use mathlib.Core.Path.{_≡_, refl, sym, ap, _∙_}
 use mathlib.Core.Bool.{not}
+use Prim.Native.Nat.{ℕ}
 use borrow.Author.Needs.{needs}
+use borrow.Author.Tests.{leb-true, leb-false}
+use lib.Dec.{leb}
+use Rattle.spec.proofs.ByteSets.{high, low}
+use Rattle.spec.proofs.Choice.{by}
+use Rattle.spec.specs.Bytes.{isHigh}
 use Rattle.runs.proofs.is_in.Statement.{statement}
 use Rattle.runs.proofs.is_in.Tie as tie
+
+-- bytes up to 127 are those that are not over it
+up-to-127 : (b : ℕ) → leb b 127 ≡ not (isHigh b)
+up-to-127 b = by (leb b 127) (λ e. e ∙ sym (ap not (low b (leb-true b 127 e)))) (λ e. e ∙ sym (ap not (high b (leb-false b 127 e))))
 
 enum-told : tie.Need-enum-told
 enum-told c = search needs
@@ -41,6 +51,9 @@ enum-known-set-2 c = search needs
 enum-known-set-3 : tie.Need-enum-known-set-3
 enum-known-set-3 c = search needs
 
+enum-told-5 : tie.Need-enum-told-5
+enum-told-5 c = search needs
+
 returns : tie.Need-returns
 returns c = rw (c .before .enum-told .given .1) (c .is-w .ensures)
 
@@ -65,6 +78,9 @@ returns-7 c = rw (c .before .set2 .given .1) refl
 returns-8 : tie.Need-returns-8
 returns-8 c = rw (c .before .set3 .given .1) refl
 
+returns-9 : tie.Need-returns-9
+returns-9 c = rw (c .enum-told5 .given .1) (up-to-127 _)
+
 pub is-in-spec : {M : Type 1} → statement M
 is-in-spec =
     tie.close
@@ -81,6 +97,7 @@ is-in-spec =
     is-w-requires-3
     enum-known-set-2
     enum-known-set-3
+    enum-told-5
     returns
     returns-2
     returns-3
@@ -88,4 +105,5 @@ is-in-spec =
     returns-5
     returns-6
     returns-7
-    returns-8)
+    returns-8
+    returns-9)
