@@ -172,27 +172,27 @@ module _ (k : Check) (a : Rewritten)
 
 -- ---- the body call
 
-pub body-number : (xs out a b : List ℕ) (n : ℕ) → (n ≡ 1 → ⊥) → (n ≡ 2 → ⊥) → (n ≡ 3 → ⊥)
-    → (callNumbers (bodyAnswer xs out a b) .number ≡ n)
-    ↔ ((bodyCheck xs out a b ≡ check.Passed) × (callNumbers (resultOf [] (rewriting actionOf xs) .answer) .number ≡ n))
+pub body-number : (xs out work spare : List ℕ) (n : ℕ) → (n ≡ 1 → ⊥) → (n ≡ 2 → ⊥) → (n ≡ 3 → ⊥)
+    → (callNumbers (bodyAnswer xs out work spare) .number ≡ n)
+    ↔ ((bodyCheck xs out work spare ≡ check.Passed) × (callNumbers (resultOf [] (rewriting actionOf xs) .answer) .number ≡ n))
 unfolding bodyAnswer bodyResult bodyCheck
-body-number xs out a b =
-    called-number (bodyCheck xs out a b) (resultOf [] (rewriting actionOf xs) .answer) (check-number textLimit _ xs [])
+body-number xs out work spare =
+    called-number (bodyCheck xs out work spare) (resultOf [] (rewriting actionOf xs) .answer) (check-number textLimit _ xs [])
 
 -- "never gives 7, and its count is 0": of the numbers that the body call hands back, its checks included
-pub body-no-seven : (xs out a b : List ℕ) → callNumbers (bodyAnswer xs out a b) .number ≡ 7 → ⊥
+pub body-no-seven : (xs out work spare : List ℕ) → callNumbers (bodyAnswer xs out work spare) .number ≡ 7 → ⊥
 unfolding resultOf
-body-no-seven xs out a b h =
-    let w = body-number xs out a b 7 (λ e. omega arith) (λ e. omega arith) (λ e. omega arith) .0 h in
+body-no-seven xs out work spare h =
+    let w = body-number xs out work spare 7 (λ e. omega arith) (λ e. omega arith) (λ e. omega arith) .0 h in
     go (rewriting actionOf xs) (w .1)
   where
     go : (r : Rewriting) → callNumbers (resultOf [] r .answer) .number ≡ 7 → ⊥
     go (accepted zs) h = omega arith
     go (refused f) h = pass-number f .1 h
 
-pub body-no-records : (xs out a b : List ℕ) → callNumbers (bodyAnswer xs out a b) .records ≡ 0
+pub body-no-records : (xs out work spare : List ℕ) → callNumbers (bodyAnswer xs out work spare) .records ≡ 0
 unfolding bodyAnswer bodyResult resultOf
-body-no-records xs out a b = go (bodyCheck xs out a b) (rewriting actionOf xs)
+body-no-records xs out work spare = go (bodyCheck xs out work spare) (rewriting actionOf xs)
   where
     go : (k : Check) (r : Rewriting) → callNumbers (callAnswer k (resultOf [] r .answer)) .records ≡ 0
     go check.Passed (accepted zs) = refl
@@ -200,11 +200,11 @@ body-no-records xs out a b = go (bodyCheck xs out a b) (rewriting actionOf xs)
     go (check.Refused f) r = refl
 
 -- 1, 3 and 2
-pub body-refused : (xs out a b : List ℕ) (f : Refusal) → refusalNumbers f .number < 4
-    → (bodyAnswer xs out a b ≡ rewritten.Refused f) ↔ (bodyCheck xs out a b ≡ check.Refused f)
+pub body-refused : (xs out work spare : List ℕ) (f : Refusal) → refusalNumbers f .number < 4
+    → (bodyAnswer xs out work spare ≡ rewritten.Refused f) ↔ (bodyCheck xs out work spare ≡ check.Refused f)
 unfolding bodyAnswer bodyResult bodyCheck
-body-refused xs out a b =
-    called-refused (bodyCheck xs out a b) (bodyResult xs .answer) (check-number textLimit _ xs [])
+body-refused xs out work spare =
+    called-refused (bodyCheck xs out work spare) (bodyResult xs .answer) (check-number textLimit _ xs [])
     (λ g h. result-number [] (rewriting actionOf xs) g h .0)
 
 -- ---- the function call
@@ -227,19 +227,19 @@ unfolding functionResult
 function-passes xs h = rw (le-ltb recordLimit (length (recordsOf xs)) h)
 
 -- the answer of the function call behind its checks is `functionResult`: see `too-many-names` and `function-passes`
-pub function-number : (xs out a b text numbers : List ℕ) (n : ℕ) → (n ≡ 1 → ⊥) → (n ≡ 2 → ⊥) → (n ≡ 3 → ⊥)
-    → (callNumbers (functionAnswer xs out a b text numbers) .number ≡ n)
-    ↔ ((functionCheck xs out a b text numbers ≡ check.Passed) × (callNumbers (functionResult xs .answer) .number ≡ n))
+pub function-number : (xs out work spare text numbers : List ℕ) (n : ℕ) → (n ≡ 1 → ⊥) → (n ≡ 2 → ⊥) → (n ≡ 3 → ⊥)
+    → (callNumbers (functionAnswer xs out work spare text numbers) .number ≡ n)
+    ↔ ((functionCheck xs out work spare text numbers ≡ check.Passed) × (callNumbers (functionResult xs .answer) .number ≡ n))
 unfolding functionAnswer functionCheck
-function-number xs out a b text numbers =
-    called-number (functionCheck xs out a b text numbers) (functionResult xs .answer) (check-number textLimit _ xs [])
+function-number xs out work spare text numbers =
+    called-number (functionCheck xs out work spare text numbers) (functionResult xs .answer) (check-number textLimit _ xs [])
 
 -- 1, 3 and 2
-pub function-refused : (xs out a b text numbers : List ℕ) (f : Refusal) → refusalNumbers f .number < 4
-    → (functionAnswer xs out a b text numbers ≡ rewritten.Refused f) ↔ (functionCheck xs out a b text numbers ≡ check.Refused f)
+pub function-refused : (xs out work spare text numbers : List ℕ) (f : Refusal) → refusalNumbers f .number < 4
+    → (functionAnswer xs out work spare text numbers ≡ rewritten.Refused f) ↔ (functionCheck xs out work spare text numbers ≡ check.Refused f)
 unfolding functionAnswer functionCheck functionResult
-function-refused xs out a b text numbers =
-    called-refused (functionCheck xs out a b text numbers) (functionResult xs .answer) (check-number textLimit _ xs []) later
+function-refused xs out work spare text numbers =
+    called-refused (functionCheck xs out work spare text numbers) (functionResult xs .answer) (check-number textLimit _ xs []) later
   where
     later : (g : Refusal) → functionResult xs .answer ≡ rewritten.Refused g → 4 ≤ refusalNumbers g .number
     later g h =

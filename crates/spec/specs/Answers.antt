@@ -224,16 +224,16 @@ callAnswer (check.Refused r) a = rewritten.Refused r
 
 -- output and work buffers of 65,536 bytes or more
 unfoldable pub areLent : List ℕ → List ℕ → List ℕ → Bool
-areLent out a b = leb bufferSize (length out) && (leb bufferSize (length a) && leb bufferSize (length b))
+areLent out work spare = leb bufferSize (length out) && (leb bufferSize (length work) && leb bufferSize (length spare))
 
 unfoldable pub bodyCheck : List ℕ → List ℕ → List ℕ → List ℕ → Check
-bodyCheck xs out a b = checkOf textLimit (areLent out a b) xs []
+bodyCheck xs out work spare = checkOf textLimit (areLent out work spare) xs []
 
 unfoldable pub bodyAnswer : List ℕ → List ℕ → List ℕ → List ℕ → Rewritten
-bodyAnswer xs out a b = callAnswer (bodyCheck xs out a b) (bodyResult xs .answer)
+bodyAnswer xs out work spare = callAnswer (bodyCheck xs out work spare) (bodyResult xs .answer)
 
 unfoldable pub bodyOutput : List ℕ → List ℕ → List ℕ → List ℕ → List ℕ
-bodyOutput xs out a b = exitOf (bodyCheck xs out a b) (zeroedTo bufferSize (bodyResult xs .output) out) out
+bodyOutput xs out work spare = exitOf (bodyCheck xs out work spare) (zeroedTo bufferSize (bodyResult xs .output) out) out
 
 -- a work buffer at exit, of any call whose checks gave this: all zeros
 unfoldable pub workExit : Check → List ℕ → List ℕ
@@ -241,24 +241,24 @@ workExit c lent = exitOf c (zeroedTo bufferSize [] lent) lent
 
 -- the function call lends declaration text of 65,536 bytes and 4,104 record numbers or more besides
 unfoldable pub functionCheck : List ℕ → List ℕ → List ℕ → List ℕ → List ℕ → List ℕ → Check
-functionCheck xs out a b text numbers =
+functionCheck xs out work spare text numbers =
     checkOf
     textLimit
-    (areLent out a b && (leb bufferSize (length text) && leb recordNumbers (length numbers)))
+    (areLent out work spare && (leb bufferSize (length text) && leb recordNumbers (length numbers)))
     xs
     []
 
 unfoldable pub functionAnswer : List ℕ → List ℕ → List ℕ → List ℕ → List ℕ → List ℕ → Rewritten
-functionAnswer xs out a b text numbers = callAnswer (functionCheck xs out a b text numbers) (functionResult xs .answer)
+functionAnswer xs out work spare text numbers = callAnswer (functionCheck xs out work spare text numbers) (functionResult xs .answer)
 
 unfoldable pub functionOutput : List ℕ → List ℕ → List ℕ → List ℕ → List ℕ → List ℕ → List ℕ
-functionOutput xs out a b text numbers =
-    exitOf (functionCheck xs out a b text numbers) (zeroedTo bufferSize (functionResult xs .output) out) out
+functionOutput xs out work spare text numbers =
+    exitOf (functionCheck xs out work spare text numbers) (zeroedTo bufferSize (functionResult xs .output) out) out
 
 unfoldable pub functionText : List ℕ → List ℕ → List ℕ → List ℕ → List ℕ → List ℕ → List ℕ
-functionText xs out a b text numbers =
-    exitOf (functionCheck xs out a b text numbers) (zeroedTo bufferSize (functionResult xs .declared) text) text
+functionText xs out work spare text numbers =
+    exitOf (functionCheck xs out work spare text numbers) (zeroedTo bufferSize (functionResult xs .declared) text) text
 
 unfoldable pub functionRecords : List ℕ → List ℕ → List ℕ → List ℕ → List ℕ → List ℕ → List ℕ
-functionRecords xs out a b text numbers =
-    exitOf (functionCheck xs out a b text numbers) (zeroedTo recordNumbers (functionResult xs .records) numbers) numbers
+functionRecords xs out work spare text numbers =
+    exitOf (functionCheck xs out work spare text numbers) (zeroedTo recordNumbers (functionResult xs .records) numbers) numbers
