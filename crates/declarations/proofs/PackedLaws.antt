@@ -10,7 +10,7 @@ use lib.Seq.{sets}
 use Rattle.output.proofs.StoreLaws.{sets-append}
 use Rattle.spec.proofs.Choice.{by}
 use Rattle.spec.proofs.LengthLaws.{pieces-length}
-use Rattle.spec.proofs.ListLaws.{total}
+use Rattle.spec.specs.Lists.{total}
 use Rattle.spec.proofs.RecordLaws.{numbers-length}
 use Rattle.spec.specs.Bytes.{isSame}
 use Rattle.spec.specs.Map.{Marked}

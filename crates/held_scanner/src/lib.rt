@@ -4,7 +4,7 @@ use spec::Filled;
 use spec::Search;
 ghost use mathlib.Core.Path.{_≡_};
 ghost use mathlib.Core.List.{[]};
-ghost use Rattle.spec.specs.Answers.{mapExit, regionsAnswer, keywordAnswer, wordAnswer, wordPart, searchNumbers, searchList, unterminatedAnswer, byteAnswer, needleAnswer, handlerAnswer, splitAnswer, splitMapExit, splitExit, requoteAnswer, requoteExit};
+ghost use Rattle.spec.specs.Answers.{mapExit, regionsAnswer, keywordAnswer, wordAnswer, wordPart, searchNumbers, searchList, unterminatedAnswer, byteAnswer, needleAnswer, handlerAnswer, splitAnswer, splitMapExit, splitExit, lengthAnswer, requoteAnswer, requoteExit};
 
 pub struct Scanner<'a> {
     pub text: &'a [u8],
@@ -84,7 +84,14 @@ impl<'a> Scanner<'a> {
         searches::split_in_code(self.text, map, starts, separator)
     }
 
-    // Each dollar literal as a single-quoted one; the answer is the result's length.
+    // The length of the requoted text, before anything is written.
+    pub fn requoted_length(self) -> Filled
+        ensures { λ r. ⌜ r ≡ lengthAnswer (now (self .entry .text)) ⌝ }
+    {
+        searches::requoted_length(self.text)
+    }
+
+    // Each dollar literal as a single-quoted one, in a buffer of the requoted length or more; the answer is that length.
     pub fn requote_dollar_literals(self, output: &mut [u8]) -> Filled
         ensures { λ r. ⌜ r ≡ requoteAnswer (now (self .entry .text)) (now (output .entry)) ⌝ }
         ensures { λ _. ⌜ now (output .exit) ≡ requoteExit (now (self .entry .text)) (now (output .entry)) ⌝ }

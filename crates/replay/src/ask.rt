@@ -7,7 +7,7 @@ use crate::numbers::wide;
 use classes::byte_at;
 
 // The letters of the searches, in the order of the report's rows.
-pub const KINDS: [u8; 9] = *b"mkbswpquh";
+pub const KINDS: [u8; 10] = *b"mkbswpqnuh";
 
 // The number of a line that asks for no search.
 const NO_ANSWER: usize = 9;
@@ -56,6 +56,9 @@ pub fn ask(
     }
     if kind == b'q' {
         return of_filled(searches::requote_dollar_literals(text, bytes));
+    }
+    if kind == b'n' {
+        return of_filled(searches::requoted_length(text));
     }
     if kind == b'u' {
         return of_search(searches::has_unterminated_dollar_quote(text));

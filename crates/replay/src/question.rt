@@ -103,6 +103,9 @@ fn written(kind: u8, got: Numbers, n: usize) -> usize {
     if kind == b'q' {
         return got.length;
     }
+    if kind == b'n' {
+        return 0;
+    }
     if kind == b'u' {
         return 0;
     }

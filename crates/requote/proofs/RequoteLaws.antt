@@ -1,17 +1,25 @@
 -- Requoting from span to span: a turn of the walk, and its end. Assumes nothing.
-use mathlib.Core.Path.{_≡_, ap}
+use mathlib.Core.Path.{_≡_, refl, sym, ap}
+use mathlib.Core.Bool.{false}
 use mathlib.Core.List.{List, [], _∷_, _++_, map}
-use Prim.Native.Nat.{ℕ, _+_, _-_, _≤_, zero-le}
+use Prim.Native.Nat.{ℕ, _+_, _-_, _≤_, _<_, zero-le}
+use native.Mathlib.Nat.{add-zero}
 use native.Mathlib.Omega.{arith}
-use lib.ListN.{length, take, drop, length-append, length-drop, drop-of-length-le}
-use lib.Seq.{sets}
+use lib.ListN.{length, take, drop, getD, length-append, length-drop, drop-of-length-le}
+use lib.Seq.{sets, getD-drop, length-take-le}
+use borrow.Author.Tests.{eq-eqb, ne-eqb}
+use Rattle.spec.proofs.AheadLaws.{drop-one}
 use Rattle.spec.proofs.SpanLaws.{by-kind, lexemes-step}
-use Rattle.spec.specs.Lists.{concat}
-use Rattle.spec.specs.Requote.{requoteSpan, requoteLexeme, requoted}
+use Rattle.spec.specs.Lists.{keep, concat}
+use Rattle.spec.proofs.RequotedLength.{span-length, requoted-exactly}
+use Rattle.spec.specs.Requote.{requoteSpan, requoteLexeme, requoted, quotesIn, requotedSpanLength, requotedLength}
 use Rattle.spec.specs.Spans.{dollarOf, spanOf, spanAt, spanLen, Lexeme, lexemeAt, lexemesFrom, lexemes}
 use Rattle.spec.specs.declared.Span.{Span}
+use Rattle.spec.specs.declared.Span.the-variants.{Code}
 use Rattle.output.proofs.StoreLaws.{sets-more}
-use Rattle.spans.proofs.StepLaws.{by-front, Stepped}
+use Rattle.spans.specs.Openers.{opensSpan}
+use Rattle.spans.proofs.OpenerLaws.{at-plain}
+use Rattle.spans.proofs.StepLaws.{by-front, Stepped, stepped}
 use Rattle.requote.specs.Inside.{insideEnd}
 
 -- a span's inside ends within the span
@@ -58,7 +66,46 @@ module _ (xs : List ℕ) (at : ℕ) (s : Span) (to : ℕ) (t : Stepped xs at s t
         stored = sets-more d d′ _ u v n n′ requoted-ahead q p;
       }
 
+  -- the length by the span in front and what is behind it
+  pub length-turn : requotedLength (drop at xs) ≡ requotedSpanLength s (take (to - at) (drop at xs)) + requotedLength (drop to xs)
+  length-turn =
+      let u = take (to - at) (drop at xs) in
+      omega (
+        arith,
+        requoted-exactly (drop at xs),
+        requoted-exactly (drop to xs),
+        ap length requoted-ahead,
+        length-append (requoteSpan s u) (requoted (drop to xs)),
+        span-length s u,
+      )
+
+-- a byte that opens nothing stays
+pub length-plain : (xs : List ℕ) (at : ℕ) → at < length xs → opensSpan (getD xs at 0) ≡ false
+    → requotedLength (drop at xs) ≡ 1 + requotedLength (drop (at + 1) xs)
+unfolding requotedSpanLength
+length-plain xs at h e =
+    let front : getD xs at 0 ≡ getD (drop at xs) 0 0 = rw add-zero at (sym (getD-drop at xs 0 0)) in
+    let t = stepped xs at (Code 1) (at + 1) h (sym (at-plain (drop at xs) (getD xs at 0) front e)) refl in
+    omega (arith, length-turn xs at (Code 1) (at + 1) t, length-take-le (at + 1 - at) (drop at xs) (omega (arith, length-drop at xs)))
+
 -- nothing is left to requote
 pub requoted-over : (xs : List ℕ) (at : ℕ) → length xs ≤ at → requoted (drop at xs) ≡ []
 unfolding requoted concat lexemes lexemesFrom
 requoted-over xs at h = rw (drop-of-length-le xs h)
+
+-- the quotes from an offset on, by the byte there
+module _ (xs : List ℕ) (i : ℕ) (h : i < length xs) where
+  pub quote-here : getD xs i 0 ≡ 39 → quotesIn (drop i xs) ≡ 1 + quotesIn (drop (i + 1) xs)
+  unfolding quotesIn keep
+  quote-here e = rw (drop-one xs i 0 h, eq-eqb (getD xs i 0) 39 e) (omega arith)
+
+  pub other-here : (getD xs i 0 ≡ 39 → ⊥) → quotesIn (drop i xs) ≡ quotesIn (drop (i + 1) xs)
+  unfolding quotesIn keep
+  other-here e = rw (drop-one xs i 0 h, ne-eqb (getD xs i 0) 39 e) refl
+
+pub quotes-over : (xs : List ℕ) (i : ℕ) → length xs ≤ i → quotesIn (drop i xs) ≡ 0
+unfolding quotesIn keep
+quotes-over xs i h = rw (drop-of-length-le xs h) refl
+
+pub length-over : (xs : List ℕ) (at : ℕ) → length xs ≤ at → requotedLength (drop at xs) ≡ 0
+length-over xs at h = omega (arith, requoted-exactly (drop at xs), ap length (requoted-over xs at h))

@@ -3,6 +3,7 @@
 use checks::check_texts;
 use checks::refusal_numbers;
 use requote::requote;
+use requote::requoted_len;
 use scanner::find_byte_in;
 use scanner::find_keyword_in;
 use scanner::find_str_in;
@@ -20,7 +21,7 @@ use spec::Search;
 ghost use mathlib.Core.Path.{_≡_};
 ghost use mathlib.Core.List.{[], _∷_};
 ghost use Prim.Native.Nat.{_≤_};
-ghost use Rattle.spec.specs.Answers.{mapCheck, mapExit, searchAnswer, filledAnswer, yesNo, regionsAnswer, keywordAnswer, byteAnswer, needleAnswer, wordAnswer, wordPart, searchNumbers, searchList, refusalNumbers, handlerAnswer, unterminatedAnswer, splitAnswer, splitMapExit, splitExit, requoteAnswer, requoteExit};
+ghost use Rattle.spec.specs.Answers.{mapCheck, mapExit, searchAnswer, filledAnswer, yesNo, regionsAnswer, keywordAnswer, byteAnswer, needleAnswer, wordAnswer, wordPart, searchNumbers, searchList, refusalNumbers, handlerAnswer, unterminatedAnswer, splitAnswer, splitMapExit, splitExit, lengthAnswer, requoteAnswer, requoteExit};
 ghost use Rattle.spec.specs.declared.Check.the-variants.{Passed};
 
 // The most bytes that a search's text may have.
@@ -204,20 +205,28 @@ pub fn split_in_code(text: &[u8], map: &mut [u8], starts: &mut [u32], separator:
     Filled::Refused(r)
 }
 
-// Each dollar literal as a single-quoted one; the answer is the result's length.
+// The length of the requoted text, before anything is written.
+pub fn requoted_length(text: &[u8]) -> Filled
+    ensures { λ r. ⌜ r ≡ lengthAnswer (now (text .entry)) ⌝ }
+{
+    let check = check_texts(SEARCH_LIMIT, true, text, &text[..0]);
+    let Check::Refused(r) = check else {
+        return Filled::Count(requoted_len(text));
+    };
+    Filled::Refused(r)
+}
+
+// Each dollar literal as a single-quoted one, in a buffer of the requoted length or more; the answer is that length.
 pub fn requote_dollar_literals(text: &[u8], output: &mut [u8]) -> Filled
     ensures { λ r. ⌜ r ≡ requoteAnswer (now (text .entry)) (now (output .entry)) ⌝ }
     ensures { λ _. ⌜ now (output .exit) ≡ requoteExit (now (text .entry)) (now (output .entry)) ⌝ }
 {
-    if SEARCH_LIMIT < text.len() {
-        return Filled::Refused(Refusal::TextTooLong);
-    }
-    if output.len() < 2 * text.len() {
+    let length = requoted_length(text);
+    let Filled::Count(n) = length else {
+        return length;
+    };
+    if output.len() < n {
         return Filled::Refused(Refusal::BufferTooShort);
     }
-    let check = check_texts(SEARCH_LIMIT, true, text, &text[..0]);
-    let Check::Refused(r) = check else {
-        return Filled::Count(requote(text, output));
-    };
-    Filled::Refused(r)
+    Filled::Count(requote(text, output))
 }

@@ -31,7 +31,8 @@ pub record Stepped (xs : List ℕ) (at : ℕ) (s : Span) (to : ℕ) : Type 0 whe
   pub behind : drop (spanLen (spanAt (drop at xs))) (drop at xs) ≡ drop to xs
 
 module _ (xs : List ℕ) (at : ℕ) where
-  stepped : (s : Span) (to : ℕ) → at < length xs → s ≡ spanAt (drop at xs) → to ≡ at + spanLen s → Stepped xs at s to
+  -- a step from the span at the offset
+  pub stepped : (s : Span) (to : ℕ) → at < length xs → s ≡ spanAt (drop at xs) → to ≡ at + spanLen s → Stepped xs at s to
   stepped s to h e f =
       let ys = drop at xs in
       let n : 0 < length ys = omega (arith, length-drop at xs) in

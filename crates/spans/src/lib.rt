@@ -9,7 +9,7 @@ use spec::DollarQuoted;
 use spec::Span;
 ghost use mathlib.Core.Path.{_≡_};
 ghost use mathlib.Core.Bool.{cond};
-ghost use Prim.Native.Nat.{_+_, _≤_};
+ghost use Prim.Native.Nat.{_+_, _≤_, _<_};
 ghost use lib.ListN.{length, drop};
 ghost use Rattle.spec.specs.Spans.{escapes, quotedLen, blockLen, lineLen, tagLen, seekLen, opensDollar, dollarOf, spanAt, spanLen};
 ghost use Rattle.spec.specs.declared.Span.the-variants.{Dollar, Code};
@@ -86,16 +86,23 @@ fn line_len(rest: &[u8]) -> usize
     if n < rest.len() { n + 1 } else { n }
 }
 
-// Where `pat` stands first in `text`, or the length of `text`.
+// Where `pat`, which is not empty, stands first in `text`, or the length of `text`.
 fn seek(text: &[u8], pat: &[u8]) -> usize
+    requires { ⌜ 0 < length (now pat) ⌝ }
     ensures { λ r. ⌜ r ≡ seekLen (now (pat .entry)) (now (text .entry)) ⌝ }
 {
+    let first = pat[0];
     let mut i: usize = 0;
     while i < text.len() {
-        if starts_with(&text[i..], pat) {
-            return i;
+        // Most places fail at the first byte.
+        if text[i] == first {
+            if starts_with(&text[i..], pat) {
+                return i;
+            }
+            i += 1;
+        } else {
+            i += 1;
         }
-        i += 1;
     }
     i
 }
@@ -119,13 +126,14 @@ fn opens_here(rest: &[u8], t: usize) -> bool
 
 // The literal at the front of `rest` whose opening delimiter has n bytes.
 fn dollar_of(rest: &[u8], n: usize) -> DollarQuoted
+    requires { ⌜ 0 < n ⌝ }
     requires { ⌜ n ≤ length (now rest) ⌝ }
     ensures { λ r. ⌜ r ≡ dollarOf n (now (rest .entry)) ⌝ }
 {
     let mark = &rest[..n];
     let body = &rest[n..];
     let k = seek(body, mark);
-    if starts_with(&body[k..], mark) {
+    if k < body.len() {
         DollarQuoted {
             span: n + k + n,
             inner_start: n,
@@ -155,7 +163,7 @@ fn dollar_quoted(rest: &[u8]) -> Span
 }
 
 // Whether b is the first byte of a comment, of a quote or of a dollar literal's delimiter.
-fn opens_span(b: u8) -> bool
+pub fn opens_span(b: u8) -> bool
     ensures { λ r. ⌜ r ≡ opensSpan b ⌝ }
 {
     if b == b'-' {

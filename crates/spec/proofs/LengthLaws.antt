@@ -13,13 +13,13 @@ use lib.ListN.{length, take, drop, length-append, length-map, length-reverse}
 use lib.Seq.{length-take-le, drop-drop}
 use Rattle.spec.proofs.ByteSets.{sign-not-ident}
 use Rattle.spec.proofs.Choice.{by, cond-case, cond-le, and-left, and-right, and-both, or-left, or-right}
-use Rattle.spec.proofs.ListLaws.{while-all, total, total-append, total-reverse, total-cut, total-while, total-le, total-map, total-const, drop-end-le, drop-while-le}
+use Rattle.spec.proofs.ListLaws.{while-all, total-append, total-reverse, total-cut, total-while, total-le, total-map, total-const, drop-end-le, drop-while-le}
 use Rattle.spec.proofs.SpanLaws.{by-kind, span-pos, dollar-le, opens-in}
 use Rattle.spec.proofs.MapLaws.{text-bytes, text-length}
 use Rattle.spec.proofs.Apart.{apart}
 use Rattle.spec.proofs.RefusalLaws.{targetIn, assign-done, assign-refused}
 use Rattle.spec.specs.Bytes.{ascii, within, upper, isIdent, isWord, isW, isDigit, isLower}
-use Rattle.spec.specs.Lists.{isEmpty, takeWhile, dropWhile, dropEnd, any, all, keep, concat}
+use Rattle.spec.specs.Lists.{isEmpty, takeWhile, dropWhile, dropEnd, any, all, keep, concat, total}
 use Rattle.spec.specs.Spans.{tagLen, dollarOf, Kind, line, block, single, double, code, spanOf, spanAt, spanLen, lexemeAt, lexemesFrom, lexemes}
 use Rattle.spec.specs.Map.{Marked, live, quoted, byte, bytes, lives, markedText, frontByte, frontLive, ofByte, isLiveByte}
 use Rattle.spec.specs.Search.{Test, firstFrom, first, startsIgnoringCase, starts, wordHere, needleHere, byteHere, ontoFirst, piecesFrom, pieces, startsFrom, splitInCode}

@@ -1,6 +1,7 @@
 pub mod RowForms
 pub mod Rows
 pub mod ClosedRows
+pub mod RequoteRows
 pub mod Choice
 pub mod ByteSets
 pub mod SpanLaws
@@ -8,6 +9,7 @@ pub mod MapLaws
 pub mod AheadLaws
 pub mod ListLaws
 pub mod LengthLaws
+pub mod RequotedLength
 pub mod NameOrder
 pub mod RecordLaws
 pub mod ChainLaws

@@ -8,7 +8,7 @@ use native.Mathlib.Omega.{arith}
 use lib.Dec.{eqb, eqb·suc-zero}
 use lib.ListN.{length, take, drop, length-append, take-append-drop}
 use Rattle.spec.proofs.Choice.{by, cond-case}
-use Rattle.spec.specs.Lists.{isEmpty, takeWhile, dropWhile, dropEnd, all, concat}
+use Rattle.spec.specs.Lists.{isEmpty, takeWhile, dropWhile, dropEnd, all, concat, total}
 
 module _ {A : Type 0} where
   pub empty-length : (l : List A) → isEmpty l ≡ eqb (length l) 0
@@ -41,11 +41,6 @@ module _ {A : Type 0} where
   unfolding concat
   concat-append [] t = refl
   concat-append (x ∷ s) t = ap (λ l. x ++ l) (concat-append s t) ∙ sym (append-assoc x (concat s) (concat t))
-
-  -- the sum of f over a list
-  unfoldable pub total : (A → ℕ) → List A → ℕ
-  total f [] = 0
-  total f (x ∷ t) = f x + total f t
 
   pub total-append : (f : A → ℕ) (s t : List A) → total f (s ++ t) ≡ total f s + total f t
   unfolding total

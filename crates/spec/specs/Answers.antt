@@ -1,6 +1,6 @@
--- Document 01, "Numbers handed back, and the limits": what each call answers, and what each lent buffer holds at exit,
--- for every text and every length of the lent buffers. Assumes nothing.
-use Prim.Native.Nat.{ℕ, _+_, _-_, _*_}
+-- Document 01, "Numbers handed back, and the limits", and Note 1 for requoting: what each call answers, and what each lent
+-- buffer holds at exit, for every text and every length of the lent buffers. Assumes nothing.
+use Prim.Native.Nat.{ℕ, _+_, _-_}
 use mathlib.Core.Bool.{Bool, true, false, cond, not, _&&_}
 use mathlib.Core.List.{List, [], _∷_, _++_}
 use lib.Dec.{ltb, leb}
@@ -9,7 +9,7 @@ use Rattle.spec.specs.Bytes.{isHigh}
 use Rattle.spec.specs.Lists.{takeWhile}
 use Rattle.spec.specs.Map.{mapOf}
 use Rattle.spec.specs.Search.{findKeyword, findInCode, findStrInCode, wordPlace, wordText, splitInCode, hasUnterminatedDollarQuote, hasExceptionHandler}
-use Rattle.spec.specs.Requote.{requoted}
+use Rattle.spec.specs.Requote.{requoted, requotedLength}
 use Rattle.spec.specs.Outcome.{handedBack, accepted, refused, Rewriting}
 use Rattle.spec.specs.Raise.{actionOf}
 use Rattle.spec.specs.Body.{bufferSize, rewriting}
@@ -117,9 +117,12 @@ wordPart xs lent from = partOf (mapCheck xs lent []) (wordText xs from)
 unfoldable pub handlerAnswer : List ℕ → List ℕ → Search
 handlerAnswer xs lent = searchAnswer (mapCheck xs lent []) (yesNo (hasExceptionHandler xs))
 
--- it walks spans and needs no map
+-- a search that walks spans is lent no map: 1 and 2 only
+abbrev pub textCheck : List ℕ → Check
+textCheck xs = checkOf searchLimit true xs []
+
 unfoldable pub unterminatedAnswer : List ℕ → Search
-unterminatedAnswer xs = searchAnswer (checkOf searchLimit true xs []) (yesNo (hasUnterminatedDollarQuote xs))
+unterminatedAnswer xs = searchAnswer (textCheck xs) (yesNo (hasUnterminatedDollarQuote xs))
 
 -- the split list needs the text's length plus 1
 unfoldable pub splitCheck : List ℕ → List ℕ → List ℕ → Check
@@ -136,12 +139,22 @@ unfoldable pub splitExit : List ℕ → List ℕ → List ℕ → ℕ → List �
 splitExit xs lentMap lentStarts b =
     exitOf (splitCheck xs lentMap lentStarts) (keptBehind (splitInCode xs b) lentStarts) lentStarts
 
--- requoting needs twice the length
-unfoldable pub requoteCheck : List ℕ → List ℕ → Check
-requoteCheck xs lent = checkOf searchLimit (leb (2 * length xs) (length lent)) xs []
+-- Note 1, the call that tells the requoted length
+unfoldable pub lengthAnswer : List ℕ → Filled
+lengthAnswer xs = filledAnswer (textCheck xs) (requotedLength xs)
 
+-- refusal 3 behind the checks that come first
+abbrev pub shortLast : Check → Bool → Check
+shortLast check.Passed enough = cond enough check.Passed (check.Refused BufferTooShort)
+shortLast (check.Refused r) enough = check.Refused r
+
+-- Note 1: the output needs just that length, and 2 comes before 3 here
+unfoldable pub requoteCheck : List ℕ → List ℕ → Check
+requoteCheck xs lent = shortLast (textCheck xs) (leb (requotedLength xs) (length lent))
+
+-- Note 1: the answer is exactly that number
 unfoldable pub requoteAnswer : List ℕ → List ℕ → Filled
-requoteAnswer xs lent = filledAnswer (requoteCheck xs lent) (length (requoted xs))
+requoteAnswer xs lent = filledAnswer (requoteCheck xs lent) (requotedLength xs)
 
 unfoldable pub requoteExit : List ℕ → List ℕ → List ℕ
 requoteExit xs lent = exitOf (requoteCheck xs lent) (keptBehind (requoted xs) lent) lent

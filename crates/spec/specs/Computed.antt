@@ -18,7 +18,7 @@ use Rattle.spec.specs.Closed as closed
 use Rattle.spec.specs.Answers as answers
 
 unfoldable inLists : Unit {0}
-unfolding lists.isEmpty lists.takeWhile lists.dropWhile lists.dropEnd lists.any lists.all lists.keep lists.concat
+unfolding lists.isEmpty lists.takeWhile lists.dropWhile lists.dropEnd lists.any lists.all lists.keep lists.concat lists.total
 inLists = tt
 
 unfoldable inBytes : Unit {0}
@@ -38,7 +38,7 @@ unfolding search.firstFrom search.first search.startsIgnoringCase search.starts 
 inSearch = tt
 
 unfoldable inRequote : Unit {0}
-unfolding requote.doubled requote.singleQuoted requote.requoteSpan requote.requoteLexeme requote.requoted
+unfolding requote.doubled requote.singleQuoted requote.requoteSpan requote.requoteLexeme requote.requoted requote.quotesIn requote.requotedSpanLength requote.requotedLexemeLength requote.requotedLength
 inRequote = tt
 
 unfoldable inElsif : Unit {0}
@@ -78,7 +78,7 @@ unfolding closed.endsLive closed.isPlainSpan closed.endsWord closed.isFollowed c
 inClosed = tt
 
 unfoldable inAnswers : Unit {0}
-unfolding answers.textLimit answers.searchLimit answers.firstHigh answers.checkOf answers.keptBehind answers.zeroedTo answers.mapCheck answers.mapExit answers.regionsAnswer answers.keywordAnswer answers.byteAnswer answers.needleAnswer answers.wordAnswer answers.wordPart answers.handlerAnswer answers.unterminatedAnswer answers.splitCheck answers.splitAnswer answers.splitMapExit answers.splitExit answers.requoteCheck answers.requoteAnswer answers.requoteExit answers.resultOf answers.bodyResult answers.functionResult answers.areLent answers.bodyCheck answers.bodyAnswer answers.bodyOutput answers.workExit answers.functionCheck answers.functionAnswer answers.functionOutput answers.functionText answers.functionRecords
+unfolding answers.textLimit answers.searchLimit answers.firstHigh answers.checkOf answers.keptBehind answers.zeroedTo answers.mapCheck answers.mapExit answers.regionsAnswer answers.keywordAnswer answers.byteAnswer answers.needleAnswer answers.wordAnswer answers.wordPart answers.handlerAnswer answers.unterminatedAnswer answers.splitCheck answers.splitAnswer answers.splitMapExit answers.splitExit answers.lengthAnswer answers.requoteCheck answers.requoteAnswer answers.requoteExit answers.resultOf answers.bodyResult answers.functionResult answers.areLent answers.bodyCheck answers.bodyAnswer answers.bodyOutput answers.workExit answers.functionCheck answers.functionAnswer answers.functionOutput answers.functionText answers.functionRecords
 inAnswers = tt
 
 unfoldable pub computed : Unit {0}

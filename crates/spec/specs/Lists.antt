@@ -1,4 +1,5 @@
--- Lists by a test on their elements. Assumes nothing.
+-- Lists by a test on their elements, and sums over them. Assumes nothing.
+use Prim.Native.Nat.{ℕ, _+_}
 use mathlib.Core.Bool.{Bool, true, false, cond, _&&_, _||_}
 use mathlib.Core.List.{List, [], _∷_, _++_}
 
@@ -55,3 +56,8 @@ module _ {A : Type 0} where
   unfoldable pub concat : List (List A) → List A
   concat [] = []
   concat (l ∷ ls) = l ++ concat ls
+
+  -- the sum of a number for each element
+  unfoldable pub total : (A → ℕ) → List A → ℕ
+  total f [] = 0
+  total f (x ∷ t) = f x + total f t

@@ -30,7 +30,7 @@ add-dollar-of : tie.Need-add-dollar-of
 add-dollar-of c = omega (arith, tag (c .before .before), opens-in (c .before .before .before .before .args .rest .now) (sym (c .before .opens-here .ensures) ∙ c .if1 .taken))
 
 dollar-of-requires : tie.Need-dollar-of-requires
-dollar-of-requires c κs = omega (arith, tag (c .before .before), opens-in (c .before .before .before .before .args .rest .now) (sym (c .before .opens-here .ensures) ∙ c .if1 .taken))
+dollar-of-requires c κs = (omega (arith, tag (c .before .before)), omega (arith, tag (c .before .before), opens-in (c .before .before .before .before .args .rest .now) (sym (c .before .opens-here .ensures) ∙ c .if1 .taken)))
 
 returns : tie.Need-returns
 returns c = simp (sym (c .before .before .opens-here .ensures) ∙ c .before .if1 .taken, c .dollar-of .ensures, tag (c .before .before .before))
