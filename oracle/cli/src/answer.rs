@@ -30,6 +30,9 @@ pub fn answer(question: &Question) -> Result<String, String> {
         Question::Requote(text) => {
             hex::encode(Scanner::new(text).requote_dollar_literals().as_bytes())
         }
+        Question::RequotedLength(text) => {
+            Scanner::new(text).requote_dollar_literals().len().to_string()
+        }
         Question::Unterminated(text) => flag(Scanner::new(text).has_unterminated_dollar_quote()),
         Question::Handler(text) => flag(PlPgSqlPreprocessor::has_exception_handler(text)),
     })

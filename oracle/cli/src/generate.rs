@@ -17,7 +17,7 @@ const CALLS: [(&str, Maker); 2] = [
 ];
 
 /// The searches, which the kind `searches` mixes.
-const SEARCHES: [(&str, Maker); 9] = [
+const SEARCHES: [(&str, Maker); 10] = [
     ("regions", |random| Question::Regions(texts::quoted(random))),
     ("find_keyword", find_keyword),
     ("find_in_code", find_in_code),
@@ -25,6 +25,7 @@ const SEARCHES: [(&str, Maker); 9] = [
     ("next_word_in_code", next_word_in_code),
     ("split_in_code", split_in_code),
     ("requote", |random| Question::Requote(texts::quoted(random))),
+    ("requoted_length", |random| Question::RequotedLength(texts::quoted(random))),
     ("unterminated", |random| Question::Unterminated(texts::quoted(random))),
     ("handler", |random| Question::Handler(texts::handler(random))),
 ];

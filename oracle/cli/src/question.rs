@@ -15,6 +15,7 @@ pub enum Question {
     NextWordInCode(String, usize),
     SplitInCode(String, u8),
     Requote(String),
+    RequotedLength(String),
     Unterminated(String),
     Handler(String),
 }
@@ -35,6 +36,7 @@ impl Question {
             ["next_word_in_code", t, from] => Self::NextWordInCode(text(t)?, number(from)?),
             ["split_in_code", t, byte] => Self::SplitInCode(text(t)?, one_byte(byte)?),
             ["requote", t] => Self::Requote(text(t)?),
+            ["requoted_length", t] => Self::RequotedLength(text(t)?),
             ["unterminated", t] => Self::Unterminated(text(t)?),
             ["handler", t] => Self::Handler(text(t)?),
             _ => return Err("no known question with this number of fields".to_string()),
@@ -71,6 +73,7 @@ impl fmt::Display for Question {
             Self::NextWordInCode(t, from) => write!(out, "next_word_in_code {} {from}", coded(t)),
             Self::SplitInCode(t, byte) => write!(out, "split_in_code {} {byte:02x}", coded(t)),
             Self::Requote(t) => write!(out, "requote {}", coded(t)),
+            Self::RequotedLength(t) => write!(out, "requoted_length {}", coded(t)),
             Self::Unterminated(t) => write!(out, "unterminated {}", coded(t)),
             Self::Handler(t) => write!(out, "handler {}", coded(t)),
         }

@@ -59,6 +59,9 @@ fn maps_and_requoting() {
     check("regions", "--\na", "", "01010100");
     check("regions", "$1$a$1$", "", "00000101010101");
     check("requote", "$1$a$1$", "", &hex::encode(b"$1'1$'"));
+    check("requoted_length", "$1$a$1$", "", "6");
+    check("requoted_length", "$$'", "", "4");
+    check("requoted_length", "", "", "0");
     check("unterminated", "$$a", "", "1");
     check("unterminated", "$$a$$", "", "0");
     check("handler", "EXCEPTION /* c */ when others", "", "1");
@@ -111,7 +114,7 @@ fn a_stored_text_has_a_line_of_every_search() {
     assert!(stored::run("200", "7", &mut out).is_ok());
     let list = String::from_utf8(out).unwrap();
     let kinds: String = list.lines().filter_map(|line| line.chars().next()).collect();
-    assert!(kinds.starts_with(&"tmkbswpquh".repeat(200)), "{kinds}");
+    assert!(kinds.starts_with(&"tmkbswpqnuh".repeat(200)), "{kinds}");
     assert!(!list.contains("panic"));
 }
 

@@ -29,7 +29,8 @@ fn lent(length: usize) -> (usize, usize) {
     (2 * length + 5, length + 7)
 }
 
-/// The first place behind the map, the starts or the requoted text, and the last lent place.
+/// The first place behind the map, the starts or the requoted text, and the last lent place. The
+/// requoted length writes nothing, so the first byte lies behind its result.
 fn accepted() -> Result<Vec<Change>, String> {
     let own = || TEXT.to_string();
     let (bytes, starts) = lent(TEXT.len());
@@ -43,6 +44,7 @@ fn accepted() -> Result<Vec<Change>, String> {
         (split.clone(), STARTS, pieces),
         (split, STARTS, starts - 1),
         (requoted, BYTES, length),
+        (line(&Question::RequotedLength(own()))?, BYTES, 0),
     ])
 }
 
@@ -76,6 +78,6 @@ mod tests {
     fn the_places_lie_behind_the_results() {
         let places: Vec<(usize, usize)> =
             accepted().unwrap().into_iter().map(|(_, buffer, place)| (buffer, place)).collect();
-        assert_eq!(places, [(0, 20), (0, 44), (1, 3), (1, 26), (0, 17)]);
+        assert_eq!(places, [(0, 20), (0, 44), (1, 3), (1, 26), (0, 17), (0, 0)]);
     }
 }

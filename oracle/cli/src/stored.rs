@@ -41,6 +41,7 @@ fn questions(text: &str, random: &mut Random) -> Vec<Question> {
         Question::NextWordInCode(own(), parts::start(text, random)),
         Question::SplitInCode(own(), parts::byte_for(text, random)),
         Question::Requote(own()),
+        Question::RequotedLength(own()),
         Question::Unterminated(own()),
         Question::Handler(own()),
     ]
@@ -66,6 +67,7 @@ pub fn line(question: &Question) -> Result<String, String> {
             let length = hex::decode(&reply)?.len();
             format!("q - 0 0 0 0 {length} {reply}")
         }
+        Question::RequotedLength(_) => format!("n - 0 0 0 0 {reply}"),
         Question::Unterminated(_) => format!("u - 0 0 {reply} 0 0"),
         Question::Handler(_) => format!("h - 0 0 {reply} 0 0"),
         _ => return Err("the rewriting calls are not stored yet".to_string()),

@@ -1,12 +1,14 @@
 //! The limits and refusals in the stored list. The reference has none, so the scope paper's table
-//! says what must come: 1 text too long, 3 a buffer too short, 2 a byte over 127, in this order.
+//! says what must come: 1 text too long, 3 a buffer too short, 2 a byte over 127, in this order, but
+//! for requoting, where 2 comes before 3.
 
 use std::io::{self, Write};
 
-use crate::runs::Runs;
+use crate::hex;
+use crate::runs::{Run, Runs, LONGEST};
 
 /// The letters of the searches.
-pub const KINDS: &str = "mkbswpquh";
+pub const KINDS: &str = "mkbswpqnuh";
 
 /// The most bytes of a search's text.
 const LIMIT: usize = 65_536;
@@ -16,6 +18,19 @@ const HIGH: u8 = 200;
 
 /// A needle whose second byte is over 127.
 const HIGH_NEEDLE: &str = "61c8";
+
+/// Texts with dollar literals, and what they are requoted to: shorter and longer, closed and open, up
+/// to the limit.
+const REQUOTED: [[&[Run]; 2]; 8] = [
+    [&[(1, b"$tag$a$tag$")], &[(1, b"'a'")]],
+    [&[(1, b"a$$it's$$'b''' $t$$$'$t$")], &[(1, b"a'it''s''b''' '$$'''")]],
+    [&[(1, b"$$''''$$")], &[(10, b"'")]],
+    [&[(1, b"$$a")], &[(1, b"'a'")]],
+    [&[(1, b"$$'")], &[(4, b"'")]],
+    [&[(1, b"$$"), (LIMIT - 2, b"'")], &[(2 * LIMIT - 2, b"'")]],
+    [&[(1, b"$$"), (LIMIT - 2, b"a")], &[(1, b"'"), (LIMIT - 2, b"a"), (1, b"'")]],
+    [&[(LIMIT / 8, b"$t$'$t$ ")], &[(LIMIT / 8, b"'''' ")]],
+];
 
 /// The lent lengths: bytes for a map or an output, and numbers for the starts of pieces.
 type Lent = (usize, usize);
@@ -29,6 +44,9 @@ pub fn write(out: &mut impl Write) -> io::Result<()> {
         rows.high_in_text()?;
         rows.high_in_needle()?;
         rows.starts()?;
+        if matches!(kind, 'q' | 'n') {
+            rows.requoted()?;
+        }
     }
     Ok(())
 }
@@ -65,13 +83,15 @@ impl<W: Write> Rows<'_, W> {
         Ok(())
     }
 
-    /// Refusal 3 comes before 2.
+    /// Refusal 3 comes before 2, but for requoting.
     fn too_short(&mut self) -> io::Result<()> {
         for length in [0, 1, LIMIT] {
             for high in [None, Some(0)] {
                 self.text(length, high)?;
+                let is_high_first = self.kind == 'q' && high.is_some();
+                let answer = if is_high_first { "2 0 0 0" } else { "3 0 0 0" };
                 for short in self.one_short(length) {
-                    self.ask(short, HIGH_NEEDLE, 0, "3 0 0 0")?;
+                    self.ask(short, HIGH_NEEDLE, 0, answer)?;
                 }
             }
         }
@@ -115,6 +135,29 @@ impl<W: Write> Rows<'_, W> {
         Ok(())
     }
 
+    /// Requoting takes as many bytes as the requoted text has; its length takes none.
+    fn requoted(&mut self) -> io::Result<()> {
+        for [text, requoted] in REQUOTED.map(|pair| pair.map(Runs::new)) {
+            let length = requoted.len();
+            writeln!(self.out, "t {text}")?;
+            if self.kind == 'n' {
+                self.ask((0, 0), "-", 0, &format!("0 0 0 {length}"))?;
+                continue;
+            }
+            let result = match length <= LONGEST {
+                true => hex::encode(&requoted.bytes()),
+                false => "*".to_string(),
+            };
+            for lent in [length, length + 3] {
+                self.ask((lent, 0), "-", 0, &format!("0 0 0 {length} {result}"))?;
+            }
+            self.ask((length - 1, 0), "-", 0, "3 0 0 0")?;
+        }
+        // The byte over 127 stands in the literal, and no buffer is lent.
+        writeln!(self.out, "t {}", Runs::new(&[(1, b"$$'"), (1, &[HIGH])]))?;
+        self.ask((0, 0), "-", 0, "2 0 3 0")
+    }
+
     /// The line of a text of letters `a`, with a byte over 127 at a place.
     fn text(&mut self, length: usize, high: Option<usize>) -> io::Result<()> {
         let text = match high {
@@ -138,16 +181,16 @@ impl<W: Write> Rows<'_, W> {
             'm' => "0 0 0 0 *".to_string(),
             'p' => "0 0 0 1 0".to_string(),
             'q' => format!("0 0 0 {length} *"),
+            'n' => format!("0 0 0 {length}"),
             'w' if length > 0 => format!("0 1 0 {length}"),
             _ => "0 0 0 0".to_string(),
         }
     }
 
-    /// The least lengths that a search takes for a text of this length.
+    /// The least lengths that a search takes for this many letters, which requoting leaves as they are.
     fn enough(&self, length: usize) -> Lent {
         match self.kind {
-            'u' => (0, 0),
-            'q' => (2 * length, 0),
+            'n' | 'u' => (0, 0),
             'p' => (length, length + 1),
             _ => (length, 0),
         }
@@ -159,5 +202,22 @@ impl<W: Write> Rows<'_, W> {
         let fewer_bytes = (bytes > 0).then(|| (bytes - 1, starts));
         let fewer_starts = (starts > 0).then(|| (bytes, starts - 1));
         fewer_bytes.into_iter().chain(fewer_starts).collect()
+    }
+}
+
+#[cfg(test)]
+mod tests {
+    use super::*;
+    use crate::answer::answer;
+    use crate::question::Question;
+
+    /// The reference has no limits, but it gives the requoted texts.
+    #[test]
+    fn the_requoted_texts_are_the_references() {
+        for [text, requoted] in REQUOTED.map(|pair| pair.map(Runs::new)) {
+            assert!(text.len() <= LIMIT, "{text}");
+            let question = Question::Requote(String::from_utf8(text.bytes()).unwrap());
+            assert_eq!(answer(&question), Ok(hex::encode(&requoted.bytes())), "{text}");
+        }
     }
 }

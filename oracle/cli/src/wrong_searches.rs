@@ -42,7 +42,7 @@ fn write_wrong(text: &Runs, lines: &[String], out: &mut impl Write) -> Result<()
     Ok(())
 }
 
-fn questions(text: &str) -> [Question; 9] {
+fn questions(text: &str) -> [Question; 10] {
     let own = || text.to_string();
     [
         Question::Regions(own()),
@@ -52,6 +52,7 @@ fn questions(text: &str) -> [Question; 9] {
         Question::NextWordInCode(own(), 2),
         Question::SplitInCode(own(), b';'),
         Question::Requote(own()),
+        Question::RequotedLength(own()),
         Question::Unterminated(own()),
         Question::Handler(own()),
     ]
@@ -122,6 +123,8 @@ mod tests {
         assert_eq!(results("m - 0 0 0 0 0 01"), maps);
         assert_eq!(results("m - 0 0 0 0 0 -"), ["m - 0 0 0 0 0 0"]);
         assert_eq!(results("q - 0 0 0 0 0 -"), ["q - 0 0 0 0 0 61"]);
+        let lengths = ["n - 0 0 0 0 6", "n - 0 0 0 0 8"];
+        assert_eq!(wrong("n - 0 0 0 0 7").split_off(3), lengths);
     }
 
     /// The flags of the searches that find a place or a fact, in the order of their letters.
@@ -129,7 +132,7 @@ mod tests {
     fn the_searches_find_something() {
         let found = |text| -> String {
             let lines = questions(text).map(|question| line(&question).unwrap());
-            let seeking = lines.iter().filter(|line| !line.starts_with(['m', 'p', 'q']));
+            let seeking = lines.iter().filter(|line| !line.starts_with(['m', 'p', 'q', 'n']));
             seeking.map(|line| line.split(' ').nth(4).unwrap()).collect()
         };
         assert_eq!(TEXTS.map(found), ["111101", "000010", "000000"]);

@@ -1,6 +1,7 @@
 //! What the limits ask of each call: its text's limit, the buffers it needs, and how it is made.
 
 use library::Answer;
+use reference::scanner::Scanner;
 
 use crate::lent::Lent;
 
@@ -16,17 +17,31 @@ pub const BUFFER_SIZE: usize = 65_536;
 /// The record numbers that are lent: eight for each of 512 records, and the head's.
 pub const RECORD_NUMBERS: usize = 4_104;
 
+/// What is checked first behind the text's length.
+#[derive(PartialEq)]
+pub enum Order {
+    /// Refusal 3, then 2.
+    BuffersFirst,
+    /// Refusal 2, then 3: only an ASCII text says how long the buffer must be.
+    TextFirst,
+}
+
 pub struct Call {
     pub name: &'static str,
     /// The most bytes of its text.
     pub limit: usize,
-    /// The least lengths of its buffers, for a text of this many bytes.
-    pub enough: fn(usize) -> Vec<usize>,
+    /// The least lengths of its buffers for this text.
+    pub enough: fn(&[u8]) -> Vec<usize>,
+    pub order: Order,
     pub has_needle: bool,
     /// Which of the four numbers is the place.
     pub place_at: usize,
-    run: fn(&[u8], &mut Buffers, &[u8]) -> Answer,
+    /// The length that it answers besides zeros, if it seeks nothing and the text alone decides.
+    pub length: Option<fn(&[u8]) -> usize>,
+    run: Run,
 }
+
+type Run = fn(&[u8], &mut Buffers, &[u8]) -> Answer;
 
 impl Call {
     /// Makes the call on new buffers of these lengths.
@@ -62,84 +77,98 @@ impl Buffers {
     }
 }
 
-/// A search that needs a map and no other buffer.
-const fn with_map(
-    name: &'static str,
-    has_needle: bool,
-    run: fn(&[u8], &mut Buffers, &[u8]) -> Answer,
-) -> Call {
-    Call { name, limit: SEARCH_LIMIT, enough: |n| vec![n], has_needle, place_at: 2, run }
+/// The reference's requoted length. A byte over 127, which is refused, counts as a letter.
+fn requoted_length(text: &[u8]) -> usize {
+    let letter = |byte: &u8| if byte.is_ascii() { char::from(*byte) } else { 'a' };
+    let text: String = text.iter().map(letter).collect();
+    Scanner::new(&text).requote_dollar_literals().len()
 }
 
-pub const TRANSFORM_BODY: Call = Call {
-    name: "transform_body",
-    limit: TEXT_LIMIT,
-    enough: |_| vec![BUFFER_SIZE; 3],
-    has_needle: false,
-    place_at: 1,
-    run: |text, lent, _| {
+/// A search that needs a map and no other buffer.
+const fn search(name: &'static str, run: Run) -> Call {
+    Call {
+        name,
+        limit: SEARCH_LIMIT,
+        enough: |text| vec![text.len()],
+        order: Order::BuffersFirst,
+        has_needle: false,
+        place_at: 2,
+        length: None,
+        run,
+    }
+}
+
+/// A rewriting call.
+const fn rewriting(name: &'static str, enough: fn(&[u8]) -> Vec<usize>, run: Run) -> Call {
+    Call { limit: TEXT_LIMIT, enough, place_at: 1, ..search(name, run) }
+}
+
+pub const TRANSFORM_BODY: Call = rewriting(
+    "transform_body",
+    |_| vec![BUFFER_SIZE; 3],
+    |text, lent, _| {
         let [output, work, spare] = &mut lent.bytes[..] else { unreachable!() };
         library::transform_body(text, output.lend(), work.lend(), spare.lend())
     },
-};
+);
 
-pub const PREPROCESS: Call = Call {
-    name: "preprocess",
-    limit: TEXT_LIMIT,
-    enough: |_| vec![BUFFER_SIZE, BUFFER_SIZE, BUFFER_SIZE, BUFFER_SIZE, RECORD_NUMBERS],
-    has_needle: false,
-    place_at: 1,
-    run: |text, lent, _| {
+pub const PREPROCESS: Call = rewriting(
+    "preprocess",
+    |_| vec![BUFFER_SIZE, BUFFER_SIZE, BUFFER_SIZE, BUFFER_SIZE, RECORD_NUMBERS],
+    |text, lent, _| {
         let [output, work, spare, declared, _] = &mut lent.bytes[..] else { unreachable!() };
         let (o, w, s, d) = (output.lend(), work.lend(), spare.lend(), declared.lend());
         library::preprocess(text, o, w, s, d, lent.numbers[4].lend())
     },
-};
+);
 
-pub const CALLS: [Call; 12] = [
-    with_map("regions", false, |text, lent, _| library::regions(text, lent.bytes[0].lend())),
-    with_map("find_keyword", true, |text, lent, keyword| {
-        library::find_keyword(text, lent.bytes[0].lend(), keyword, 0)
-    }),
-    with_map("find_in_code", false, |text, lent, _| {
-        library::find_in_code(text, lent.bytes[0].lend(), b';')
-    }),
-    with_map("find_str_in_code", true, |text, lent, needle| {
-        library::find_str_in_code(text, lent.bytes[0].lend(), needle)
-    }),
-    with_map("next_word_in_code", false, |text, lent, _| {
+pub const CALLS: [Call; 13] = [
+    search("regions", |text, lent, _| library::regions(text, lent.bytes[0].lend())),
+    Call {
+        has_needle: true,
+        ..search("find_keyword", |text, lent, keyword| {
+            library::find_keyword(text, lent.bytes[0].lend(), keyword, 0)
+        })
+    },
+    search("find_in_code", |text, lent, _| library::find_in_code(text, lent.bytes[0].lend(), b';')),
+    Call {
+        has_needle: true,
+        ..search("find_str_in_code", |text, lent, needle| {
+            library::find_str_in_code(text, lent.bytes[0].lend(), needle)
+        })
+    },
+    search("next_word_in_code", |text, lent, _| {
         library::next_word_in_code(text, lent.bytes[0].lend(), 0)
     }),
     Call {
-        name: "split_in_code",
-        limit: SEARCH_LIMIT,
-        enough: |n| vec![n, n + 1],
-        has_needle: false,
-        place_at: 2,
-        run: |text, lent, _| {
+        enough: |text| vec![text.len(), text.len() + 1],
+        ..search("split_in_code", |text, lent, _| {
             library::split_in_code(text, lent.bytes[0].lend(), lent.numbers[1].lend(), b';')
-        },
+        })
     },
     Call {
-        name: "requote_dollar_literals",
-        limit: SEARCH_LIMIT,
-        enough: |n| vec![2 * n],
-        has_needle: false,
-        place_at: 2,
-        run: |text, lent, _| library::requote_dollar_literals(text, lent.bytes[0].lend()),
+        enough: |text| vec![requoted_length(text)],
+        order: Order::TextFirst,
+        length: Some(requoted_length),
+        ..search("requote_dollar_literals", |text, lent, _| {
+            library::requote_dollar_literals(text, lent.bytes[0].lend())
+        })
     },
     Call {
-        name: "has_unterminated_dollar_quote",
-        limit: SEARCH_LIMIT,
         enough: |_| vec![],
-        has_needle: false,
-        place_at: 2,
-        run: |text, _, _| library::has_unterminated_dollar_quote(text),
+        length: Some(requoted_length),
+        ..search("requoted_length", |text, _, _| library::requoted_length(text))
     },
-    with_map("has_exception_handler", false, |text, lent, _| {
+    Call {
+        enough: |_| vec![],
+        ..search("has_unterminated_dollar_quote", |text, _, _| {
+            library::has_unterminated_dollar_quote(text)
+        })
+    },
+    search("has_exception_handler", |text, lent, _| {
         library::has_exception_handler(text, lent.bytes[0].lend())
     }),
-    with_map("is_closed", false, |text, lent, _| library::is_closed(text, lent.bytes[0].lend())),
+    search("is_closed", |text, lent, _| library::is_closed(text, lent.bytes[0].lend())),
     TRANSFORM_BODY,
     PREPROCESS,
 ];

@@ -19,6 +19,7 @@ pub const SEARCHES: &[Comparison] = &[
     ("next_word_in_code", searches::next_word_in_code),
     ("split_in_code", searches::split_in_code),
     ("requote_dollar_literals", searches::requote),
+    ("requoted_length", searches::requoted_length),
     ("has_unterminated_dollar_quote", searches::unterminated),
     ("has_exception_handler", searches::handler),
 ];

@@ -1,7 +1,8 @@
 //! The limits and refusals of each call. The reference has none, so the scope paper's table says
-//! what must come: 1 text too long, 3 a buffer too short, 2 a byte over 127, checked in this order.
+//! what must come: 1 text too long, 3 a buffer too short, 2 a byte over 127, checked in this order,
+//! but for requoting, which checks 2 before 3.
 
-use crate::calls::{Call, Made, CALLS};
+use crate::calls::{Call, Made, Order, CALLS};
 use crate::report::{Report, Row};
 
 /// A byte over 127.
@@ -34,25 +35,29 @@ struct Limits<'a> {
 impl Limits<'_> {
     /// Texts up to the limit pass, with buffers that are just long enough and with longer ones.
     fn accepted(&mut self) {
-        for length in [0, 1, 2, self.call.limit - 1, self.call.limit] {
-            let text = plain(length);
+        for text in texts(self.call.limit) {
             for more in [0, 1, 100] {
-                let lengths = self.enough(length, more);
+                let lengths = self.enough(&text, more);
                 let made = self.call.make(&text, &lengths, b"");
-                let passes = made.answer[0] == 0 && made.answer[self.call.place_at] == 0;
+                let passes = match self.call.length {
+                    Some(length) => made.answer == [0, 0, 0, length(&text) as u32],
+                    None => made.answer[0] == 0 && made.answer[self.call.place_at] == 0,
+                };
                 self.row.note(passes, || described(&text, &lengths, b"", 0, &made));
             }
         }
     }
 
-    /// Refusal 1 comes before 3 and 2.
+    /// Refusal 1 comes before 3 and 2, and is about the text and not the result.
     fn too_long(&mut self) {
         for length in [self.call.limit + 1, self.call.limit + 2, 3 * self.call.limit] {
-            for text in [plain(length), high_at(length, 0), high_at(length, length - 1)] {
+            let letters = plain(length);
+            let high = [0, length - 1].map(|place| high_at(&letters, place));
+            for text in [letters].into_iter().chain(high).chain([shrinking(length)]) {
                 for needle in [&b"a"[..], &[HIGH]] {
-                    self.refused(&text, &self.enough(length, 0), needle, [TOO_LONG, 0, 0, 0]);
-                    self.refused(&text, &self.enough(length, 9), needle, [TOO_LONG, 0, 0, 0]);
-                    for lengths in self.one_short(length) {
+                    self.refused(&text, &self.enough(&text, 0), needle, [TOO_LONG, 0, 0, 0]);
+                    self.refused(&text, &self.enough(&text, 9), needle, [TOO_LONG, 0, 0, 0]);
+                    for lengths in self.one_short(&text) {
                         self.refused(&text, &lengths, needle, [TOO_LONG, 0, 0, 0]);
                     }
                 }
@@ -60,14 +65,19 @@ impl Limits<'_> {
         }
     }
 
-    /// Refusal 3 comes before 2.
+    /// Refusal 3 comes before 2, unless the call checks its text first.
     fn too_short(&mut self) {
-        for length in [0, 1, 2, 10, self.call.limit - 1, self.call.limit] {
-            let last = length.saturating_sub(1);
-            for text in [plain(length), high_at(length, 0), high_at(length, last)] {
+        for passing in texts(self.call.limit) {
+            let last = passing.len().saturating_sub(1);
+            let high = [0, last].map(|place| high_at(&passing, place));
+            for text in [passing].into_iter().chain(high) {
+                let expected = match high_in(&text) {
+                    Some(place) if self.call.order == Order::TextFirst => self.not_ascii(place),
+                    _ => [TOO_SHORT, 0, 0, 0],
+                };
                 for needle in [&b"a"[..], &[HIGH]] {
-                    for lengths in self.one_short(length) {
-                        self.refused(&text, &lengths, needle, [TOO_SHORT, 0, 0, 0]);
+                    for lengths in self.one_short(&text) {
+                        self.refused(&text, &lengths, needle, expected);
                     }
                 }
             }
@@ -77,24 +87,24 @@ impl Limits<'_> {
     /// Refusal 2 names the first byte over 127; the text's comes before the needle's.
     fn high_in_text(&mut self) {
         for length in [1, 2, 10, self.call.limit - 1, self.call.limit] {
-            let lengths = self.enough(length, 0);
+            let lengths = self.enough(&plain(length), 0);
             for place in [0, length / 2, length - 1] {
                 for needle in [&b""[..], b"a", &[b'a', HIGH]] {
                     let expected = self.not_ascii(place);
-                    self.refused(&high_at(length, place), &lengths, needle, expected);
+                    self.refused(&high_at(&plain(length), place), &lengths, needle, expected);
                     self.refused(&high_from(length, place), &lengths, needle, expected);
                 }
             }
         }
         for byte in HIGH..=u8::MAX {
-            self.refused(&[byte], &self.enough(1, 0), b"", [NOT_ASCII, 0, 0, 0]);
+            self.refused(&[byte], &self.enough(&[byte], 0), b"", [NOT_ASCII, 0, 0, 0]);
         }
     }
 
     /// A needle has no limit on its length, so one that is longer than the text is looked through.
     fn high_in_needle(&mut self) {
         for length in [0, 1, 10, self.call.limit] {
-            let lengths = self.enough(length, 0);
+            let lengths = self.enough(&plain(length), 0);
             for needle_length in [1, 2, 10, self.call.limit + 10] {
                 for place in [0, needle_length / 2, needle_length - 1] {
                     let needle = high_from(needle_length, place);
@@ -120,13 +130,13 @@ impl Limits<'_> {
     }
 
     /// Buffers that are `more` longer than they must be.
-    fn enough(&self, length: usize, more: usize) -> Vec<usize> {
-        (self.call.enough)(length).iter().map(|enough| enough + more).collect()
+    fn enough(&self, text: &[u8], more: usize) -> Vec<usize> {
+        (self.call.enough)(text).iter().map(|enough| enough + more).collect()
     }
 
     /// For each buffer the lengths where it is one too short, or empty, and the others are enough.
-    fn one_short(&self, length: usize) -> Vec<Vec<usize>> {
-        let enough = self.enough(length, 0);
+    fn one_short(&self, text: &[u8]) -> Vec<Vec<usize>> {
+        let enough = self.enough(text, 0);
         let mut list = Vec::new();
         for (index, needed) in enough.iter().enumerate().filter(|(_, needed)| **needed > 0) {
             for short in [needed - 1, 0] {
@@ -139,17 +149,39 @@ impl Limits<'_> {
     }
 }
 
+/// Texts that pass: letters, and dollar literals whose requoted form is shorter or longer than they
+/// are, closed and open; of each some that are as long as can be.
+fn texts(limit: usize) -> Vec<Vec<u8>> {
+    let short = ["$tag$a$tag$", "$$''''$$", "$$a", "$$'", "$$", "$$$$"];
+    let inside = "$$'".repeat((limit - 6) / 3);
+    let mut list = [0, 1, 2, 10, limit - 1, limit].map(plain).to_vec();
+    list.extend(short.map(|text| text.as_bytes().to_vec()));
+    list.extend([limit - 1, limit].map(|length| [b"$$", &vec![b'\''; length - 2][..]].concat()));
+    list.extend([shrinking(limit), format!("$t${inside}$t$").into_bytes()]);
+    list
+}
+
 fn plain(length: usize) -> Vec<u8> {
     vec![b'a'; length]
 }
 
-/// A text with one byte over 127, if it has any byte.
-fn high_at(length: usize, place: usize) -> Vec<u8> {
-    let mut text = plain(length);
+/// A text whose requoted form is much shorter.
+fn shrinking(length: usize) -> Vec<u8> {
+    b"$tag$a$tag$".iter().cycle().take(length).copied().collect()
+}
+
+/// The same text with a byte over 127, if it has any byte.
+fn high_at(text: &[u8], place: usize) -> Vec<u8> {
+    let mut text = text.to_vec();
     if let Some(byte) = text.get_mut(place) {
         *byte = HIGH;
     }
     text
+}
+
+/// The place of the first byte over 127.
+fn high_in(bytes: &[u8]) -> Option<usize> {
+    bytes.iter().position(|byte| !byte.is_ascii())
 }
 
 /// A text with bytes over 127 from a place on.
@@ -160,14 +192,13 @@ fn high_from(length: usize, place: usize) -> Vec<u8> {
 }
 
 fn described(text: &[u8], lengths: &[usize], needle: &[u8], number: u32, made: &Made) -> String {
-    let places = |bytes: &[u8]| bytes.iter().position(|byte| !byte.is_ascii());
     format!(
         "text of {} bytes, over 127 at {:?}, buffers of {lengths:?}, needle of {}, over 127 at {:?}: \
          number {number} expected, {:?} got, buffers {}",
         text.len(),
-        places(text),
+        high_in(text),
         needle.len(),
-        places(needle),
+        high_in(needle),
         made.answer,
         if made.is_untouched { "untouched" } else { "written" },
     )

@@ -26,9 +26,19 @@ pub const SEARCH_TEXTS: Long = Long {
     back: "",
     patterns: &[
         "a", " ", ";", "$", "'", "\"", "/*", "*/", "--", "\\", "''", "$$'", "$a$ ", "$1",
-        "v := 1;\n", "EXCEPTION x WHEN ", "-- c\n", "$t$'$t$",
+        "v := 1;\n", "EXCEPTION x WHEN ", "-- c\n", "$t$'$t$", "$tag$a$tag$",
     ],
     mixed: 12,
+    piece: texts::any,
+};
+
+/// One open dollar literal; of quotes, its requoted form has nearly twice as many bytes.
+pub const OPEN_TEXTS: Long = Long {
+    limit: SEARCH_LIMIT,
+    front: "$$",
+    back: "",
+    patterns: &["'", "a", "a'"],
+    mixed: 0,
     piece: texts::any,
 };
 

@@ -46,6 +46,7 @@ fn run_limits(run: &mut Run) {
 
 fn run_searches(run: &mut Run) {
     run.long(SEARCHES, &long::SEARCH_TEXTS);
+    run.long(SEARCHES, &long::OPEN_TEXTS);
     run.every(SEARCHES);
     run.random(SEARCHES, texts::any);
 }

@@ -1,9 +1,10 @@
-//! The nine searches: each is asked several questions about a text, and so is the reference.
+//! The ten searches: each is asked several questions about a text, and so is the reference.
 
 use library::Answer;
 use reference::preprocessor::PlPgSqlPreprocessor;
 use reference::scanner::Scanner;
 
+use crate::lent::Lent;
 use crate::questions;
 use crate::report::Row;
 use crate::subject::{Outcome, Subject};
@@ -73,12 +74,28 @@ pub fn split_in_code(subject: &mut Subject, row: &mut Row) {
     }
 }
 
+/// The output is lent to the byte, a little longer, and one byte too short.
 pub fn requote(subject: &mut Subject, row: &mut Row) {
     let text = Scanner::new(subject.text).requote_dollar_literals();
-    let mut output = subject.lend(2 * subject.text.len());
-    let got = library::requote_dollar_literals(subject.bytes(), output.lend());
-    let expected = [0, 0, 0, text.len() as u32];
-    let outcome = Outcome { expected, got, buffers: output.holds(text.as_bytes()) };
+    let length = text.len();
+    let accepted = ([0, 0, 0, length as u32], text.as_bytes());
+    let refused = ([3, 0, 0, 0], &b""[..]);
+    let longer = length + 1 + subject.random.below(4);
+    let short = length.checked_sub(1).map(|short| (short, refused));
+    for (lent, (expected, result)) in
+        [(length, accepted), (longer, accepted)].into_iter().chain(short)
+    {
+        let mut output = Lent::new(lent);
+        let got = library::requote_dollar_literals(subject.bytes(), output.lend());
+        let outcome = Outcome { expected, got, buffers: output.holds(result) };
+        subject.judge(row, format_args!("lent {lent} bytes"), outcome);
+    }
+}
+
+pub fn requoted_length(subject: &mut Subject, row: &mut Row) {
+    let text = Scanner::new(subject.text).requote_dollar_literals();
+    let got = library::requoted_length(subject.bytes());
+    let outcome = Outcome { expected: [0, 0, 0, text.len() as u32], got, buffers: true };
     subject.judge(row, format_args!(""), outcome);
 }
 

@@ -37,6 +37,7 @@ extern "C" {
         text: *const u8, text_length: usize, output: *mut u8, output_length: usize,
         answer: *mut Answer,
     );
+    fn plpgsql_requoted_length(text: *const u8, text_length: usize, answer: *mut Answer);
     fn plpgsql_has_unterminated_dollar_quote(
         text: *const u8, text_length: usize, answer: *mut Answer,
     );
@@ -106,6 +107,11 @@ pub fn split_in_code(text: &[u8], map: &mut [u8], starts: &mut [u32], separator:
 pub fn requote_dollar_literals(text: &[u8], output: &mut [u8]) -> Answer {
     let (t, o, o_length) = (text.as_ptr(), output.as_mut_ptr(), output.len());
     answer(|out| unsafe { plpgsql_requote_dollar_literals(t, text.len(), o, o_length, out) })
+}
+
+pub fn requoted_length(text: &[u8]) -> Answer {
+    let t = text.as_ptr();
+    answer(|out| unsafe { plpgsql_requoted_length(t, text.len(), out) })
 }
 
 pub fn has_unterminated_dollar_quote(text: &[u8]) -> Answer {

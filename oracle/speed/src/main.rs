@@ -3,6 +3,7 @@
 
 mod clock;
 mod measure;
+mod requoting;
 mod texts;
 
 use std::process::ExitCode;
@@ -26,6 +27,7 @@ fn main() -> ExitCode {
     let usual = realistic_bodies(&mut missed);
     families(usual, &mut missed);
     functions(usual, &mut missed);
+    requoting::table(&mut missed);
     println!();
     for line in &missed {
         println!("Missed: {line}");

@@ -6,6 +6,7 @@ use std::time::Duration;
 use library::Answer;
 use reference::context::PlPgSqlContext;
 use reference::preprocessor::PlPgSqlPreprocessor;
+use reference::scanner::Scanner;
 
 use crate::clock;
 
@@ -45,6 +46,21 @@ pub fn our_function(text: &str) -> f64 {
 
 pub fn reference_function(text: &str) -> f64 {
     best(|| PlPgSqlPreprocessor::preprocess(black_box(text)))
+}
+
+/// Requoting into an output of just its result's length.
+pub fn our_requoting(text: &str) -> f64 {
+    let mut output = vec![0; library::requoted_length(text.as_bytes())[3] as usize];
+    best(|| library::requote_dollar_literals(black_box(text).as_bytes(), &mut output))
+}
+
+/// The call that tells this length, alone.
+pub fn requoted_length(text: &str) -> f64 {
+    best(|| library::requoted_length(black_box(text).as_bytes()))
+}
+
+pub fn reference_requoting(text: &str) -> f64 {
+    best(|| Scanner::new(black_box(text)).requote_dollar_literals())
 }
 
 fn best<T>(mut call: impl FnMut() -> T) -> f64 {
