@@ -152,7 +152,8 @@ void plpgsql_preprocess(
  *      and length 0. A keyword or needle may have any length: an offset of 2^32 or more is given as
  *      2^32 - 1.
  *
- * The checks come in the order 1, 3, 2, and each of these numbers leaves all buffers as they were.
+ * The checks come in the order 1, 3, 2, but in plpgsql_requote_dollar_literals in the order 1, 2, 3.
+ * Each of these numbers leaves all buffers as they were.
  * After 0 a map holds a byte for each byte of the text, 0 for a live one and 1 for a quoted one, also
  * where nothing is found. It needs the text's length; what lies behind is not written.
  */
@@ -216,9 +217,18 @@ void plpgsql_split_in_code(
     uint32_t answer[PLPGSQL_ANSWER_SIZE]);
 
 /*
+ * Tells the requoted length: how many bytes plpgsql_requote_dollar_literals writes for this text. Length
+ * is that number, found 0 and place 0. It is at most twice the text's length, and may be less than it.
+ * The call is lent no buffer and gives 0, 1 and 2 only.
+ */
+void plpgsql_requoted_length(
+    const uint8_t *text, size_t text_length,
+    uint32_t answer[PLPGSQL_ANSWER_SIZE]);
+
+/*
  * Writes the text with each dollar literal as one in single quotes. Length is the number of bytes
- * written, found 0 and place 0. The output needs twice the text's length; what lies behind the result is not
- * written.
+ * written, which is the requoted length; found 0 and place 0. The output needs just that length, and one
+ * byte less gives 3. What lies behind the result is not written.
  */
 void plpgsql_requote_dollar_literals(
     const uint8_t *text, size_t text_length,

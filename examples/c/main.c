@@ -1,8 +1,9 @@
 /*
  * Rewrites three bodies and a function, and prints what comes back: the four numbers, the output, and the
- * declarations.
+ * declarations. Then requotes a text into a buffer of just the length that is needed.
  */
 #include <stdio.h>
+#include <stdlib.h>
 #include <string.h>
 
 #include "plpgsql_rewriter.h"
@@ -74,10 +75,32 @@ static void print_function(const char *text) {
     print_declarations();
 }
 
+/* Asks for the requoted length, allots just that, and requotes. */
+static void print_requoted(const char *text) {
+    uint32_t answer[PLPGSQL_ANSWER_SIZE];
+    plpgsql_requoted_length((const uint8_t *)text, strlen(text), answer);
+    size_t length = answer[PLPGSQL_SEARCH_LENGTH];
+    if (answer[PLPGSQL_SEARCH_NUMBER] != PLPGSQL_ACCEPTED) {
+        printf("not requoted: %u\n", (unsigned)answer[PLPGSQL_SEARCH_NUMBER]);
+        return;
+    }
+    /* No pointer may be null, and for no bytes malloc may give that. */
+    uint8_t *requoted = malloc(length == 0 ? 1 : length);
+    if (requoted == NULL) {
+        return;
+    }
+    plpgsql_requote_dollar_literals((const uint8_t *)text, strlen(text), requoted, length, answer);
+    printf("%u of %u bytes: ", (unsigned)length, (unsigned)strlen(text));
+    fwrite(requoted, 1, answer[PLPGSQL_SEARCH_LENGTH], stdout);
+    printf("\n");
+    free(requoted);
+}
+
 int main(void) {
     for (size_t i = 0; i < sizeof BODIES / sizeof *BODIES; i++) {
         print_body(BODIES[i]);
     }
     print_function(FUNCTION);
+    print_requoted("v := $$it's new$$;");
     return 0;
 }
