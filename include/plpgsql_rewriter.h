@@ -53,7 +53,7 @@ enum plpgsql_search_answer {
     PLPGSQL_SEARCH_NUMBER = 0,
     PLPGSQL_SEARCH_FOUND = 1,
     PLPGSQL_SEARCH_PLACE = 2,
-    PLPGSQL_SEARCH_LENGTH = 3 /* of what was found or written */
+    PLPGSQL_SEARCH_LENGTH = 3 /* of what was found or written, or would be written */
 };
 
 /* The places in a record; record k begins at the number k * PLPGSQL_RECORD_SIZE of records. */

@@ -84,13 +84,14 @@ static void print_requoted(const char *text) {
         printf("not requoted: %u\n", (unsigned)answer[PLPGSQL_SEARCH_NUMBER]);
         return;
     }
-    /* No pointer may be null, and for no bytes malloc may give that. */
+    /* No pointer may be null, and malloc may return null for 0 bytes. */
     uint8_t *requoted = malloc(length == 0 ? 1 : length);
     if (requoted == NULL) {
         return;
     }
     plpgsql_requote_dollar_literals((const uint8_t *)text, strlen(text), requoted, length, answer);
-    printf("%u of %u bytes: ", (unsigned)length, (unsigned)strlen(text));
+    printf("%u: %u bytes, requoted %u: ", (unsigned)answer[PLPGSQL_SEARCH_NUMBER], (unsigned)strlen(text),
+           (unsigned)answer[PLPGSQL_SEARCH_LENGTH]);
     fwrite(requoted, 1, answer[PLPGSQL_SEARCH_LENGTH], stdout);
     printf("\n");
     free(requoted);

@@ -9,7 +9,7 @@ use lib.Dec.{eqb}
 use lib.ListN.{length, take, drop, length-append, length-drop}
 use lib.Seq.{length-take-le}
 use Rattle.spec.proofs.RefusalBounds.{bytes-length}
-use Rattle.output.proofs.StoreLaws.{long-quoted, doubled-le}
+use Rattle.spec.proofs.RequotedLength.{long-quoted, doubled-le}
 use Rattle.spec.proofs.Apart.{apart}
 use Rattle.spec.proofs.Choice.{by, cond-case}
 use Rattle.spec.proofs.LengthLaws.{trim-le}

@@ -4,7 +4,7 @@ use spec::Filled;
 use spec::Search;
 ghost use mathlib.Core.Path.{_≡_};
 ghost use mathlib.Core.List.{[]};
-ghost use Rattle.spec.specs.Answers.{mapExit, regionsAnswer, keywordAnswer, wordAnswer, wordPart, searchNumbers, searchList, unterminatedAnswer, byteAnswer, needleAnswer, handlerAnswer, splitAnswer, splitMapExit, splitExit, lengthAnswer, requoteAnswer, requoteExit};
+ghost use Rattle.spec.specs.Answers.{mapExit, regionsAnswer, keywordAnswer, wordAnswer, wordPart, searchNumbers, searchList, unterminatedAnswer, byteAnswer, needleAnswer, handlerAnswer, splitAnswer, splitMapExit, splitExit, requotedLengthAnswer, requoteAnswer, requoteExit};
 
 pub struct Scanner<'a> {
     pub text: &'a [u8],
@@ -86,7 +86,7 @@ impl<'a> Scanner<'a> {
 
     // The length of the requoted text, before anything is written.
     pub fn requoted_length(self) -> Filled
-        ensures { λ r. ⌜ r ≡ lengthAnswer (now (self .entry .text)) ⌝ }
+        ensures { λ r. ⌜ r ≡ requotedLengthAnswer (now (self .entry .text)) ⌝ }
     {
         searches::requoted_length(self.text)
     }

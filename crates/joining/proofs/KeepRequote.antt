@@ -8,12 +8,11 @@ use borrow.Author.Tests.{eqb-true, eq-eqb, ltb-true, ltb-false}
 use lib.Dec.{eqb, ltb}
 use lib.ListN.{length, take, drop, getD, length-drop, drop-of-length-le}
 use lib.Seq.{take-suc, take-add, drop-drop, length-take-le}
-use Rattle.joining.proofs.SpanJoin.{seek-miss}
 use Rattle.spec.proofs.WalkLaws.{prefix-take}
 use Rattle.spec.proofs.ByteSets.{sign-not-ident}
 use Rattle.spec.proofs.BytesLaws.{bytes-append}
 use Rattle.spec.proofs.Choice.{by, and-left, and-right, or-left, or-right}
-use Rattle.spec.proofs.SpanLaws.{by-kind, lexemes-step, opens-in, seen}
+use Rattle.spec.proofs.SpanLaws.{by-kind, lexemes-step, opens-in, seen, seek-miss}
 use Rattle.spec.proofs.MapLaws.{mark-byte, text-length}
 use Rattle.spec.specs.Bytes.{within, isDigit, isLower, isUpper, isIdent, isQuote, isPair, isPrefix, isW, upper}
 use Rattle.spec.specs.Lists.{isEmpty, any, all, concat}

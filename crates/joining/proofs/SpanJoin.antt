@@ -1,7 +1,7 @@
 -- A text whose last byte is a live `;` is read the same with any text behind it, and that text is read as from its start:
 -- spans, map and marks of the joined text are those of the two, joined. Assumes nothing.
 use mathlib.Core.Path.{_≡_, refl, sym, ap, _∙_}
-use mathlib.Core.Bool.{Bool, true, false, cond, _&&_, false≢true, true≢false}
+use mathlib.Core.Bool.{Bool, true, false, cond, _&&_, false≢true}
 use mathlib.Core.List.{List, [], _∷_, _++_, append-assoc}
 use Prim.Native.Nat.{ℕ, zero, suc, _+_, _-_, _≤_, _<_, zero-le, suc-le-suc}
 use native.Mathlib.Nat.{le-of-suc-le-suc, not-suc-le-zero}
@@ -12,7 +12,7 @@ use lib.ListN.{length, take, drop, replicate, length-drop, List·getD-append}
 use lib.Seq.{length-take-le, take-append-le, drop-append-le}
 use Rattle.spec.proofs.ByteSets.{sign-not-ident}
 use Rattle.spec.proofs.Choice.{cond-case}
-use Rattle.spec.proofs.SpanLaws.{seek-le, prefix-len, opens-in, by-kind, span-pos, span-le}
+use Rattle.spec.proofs.SpanLaws.{seek-le, seek-miss, prefix-len, opens-in, by-kind, span-pos, span-le}
 use Rattle.spec.proofs.MapLaws.{map-append, map-length, map-step}
 use Rattle.spec.specs.Bytes.{isIdent, isPair, isPrefix}
 use Rattle.spec.specs.Spans.{lineLen, commentLen, blockLen, escapes, quoteLen, quotedLen, tagLen, seekLen, opensDollar, dollarOf, code, kindAt, spanOf, spanAt, spanLen, Lexeme, lexemeAt, lexemesFrom, lexemes}
@@ -94,17 +94,6 @@ module _ (ys : List ℕ) where
   unfolding quotedLen
   quoted-keep e q [] h = absurd (not-suc-le-zero h)
   quoted-keep e q (c ∷ cs) h = up (quote-keep e q cs (down h))
-
--- where p is not in front of what it stops at, the search ran to the end
-pub seek-miss : (p xs : List ℕ) → isPrefix p (drop (seekLen p xs) xs) ≡ false → seekLen p xs ≡ length xs
-unfolding seekLen
-seek-miss p [] h = refl
-seek-miss p (x ∷ xs) h = go (λ k. seek-miss p xs k) (isPrefix p (x ∷ xs)) refl h
-  where
-    go : (isPrefix p (drop (seekLen p xs) xs) ≡ false → seekLen p xs ≡ length xs) → (b : Bool) → isPrefix p (x ∷ xs) ≡ b
-        → isPrefix p (drop (cond b 0 (suc (seekLen p xs))) (x ∷ xs)) ≡ false → cond b 0 (suc (seekLen p xs)) ≡ suc (length xs)
-    go ih true e k = absurd (true≢false (sym e ∙ k))
-    go ih false e k = up (ih k)
 
 -- a dollar literal that ends before the text does
 dollar-keep : (xs ys : List ℕ) (n : ℕ) → 2 ≤ n → n ≤ length xs → dollarOf n xs .span < length xs → dollarOf n (xs ++ ys) ≡ dollarOf n xs

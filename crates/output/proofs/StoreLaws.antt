@@ -1,16 +1,14 @@
 -- Stores one after the other, as a loop makes them. Assumes nothing.
 use mathlib.Core.Path.{_≡_, refl, sym, ap, _∙_}
 use mathlib.Core.List.{List, [], _∷_, _++_}
-use Prim.Native.Nat.{ℕ, suc, _+_, _-_, _*_, _≤_, _<_}
+use Prim.Native.Nat.{ℕ, suc, _+_, _-_, _≤_, _<_}
 use native.Mathlib.Nat.{add-zero}
 use native.Mathlib.Numerals.{add-one}
 use native.Mathlib.Omega.{arith}
 use borrow.Author.Tests.{eq-eqb, ne-eqb}
-use lib.Dec.{eqb}
-use lib.ListN.{length, length-append, take, drop, getD, set, replicate, drop-of-length-le}
+use lib.ListN.{length, take, drop, getD, set, replicate, drop-of-length-le}
 use lib.Seq.{sets, set-out, sets-eq, take-at}
 use Rattle.spec.proofs.AheadLaws.{drop-one}
-use Rattle.spec.proofs.Choice.{cond-case}
 use Rattle.spec.specs.Requote.{doubled, singleQuoted}
 
 -- u and then v
@@ -85,16 +83,6 @@ pub stored-quoted : (d d₁ d₂ d₃ xs : List ℕ) (n p q : ℕ) → d₁ ≡ 
 unfolding singleQuoted
 stored-quoted d d₁ d₂ d₃ xs n p q a b c e f =
     f ∙ rw (c, e, a, b, add-one n) (sym (sets-append (doubled xs) (39 ∷ []) (set d n 39) (suc n)))
-
-pub long-quoted : (xs : List ℕ) → length (singleQuoted xs) ≡ length (doubled xs) + 2
-unfolding singleQuoted
-long-quoted xs = omega (arith, length-append (doubled xs) (39 ∷ []))
-
-pub doubled-le : (xs : List ℕ) → length (doubled xs) ≤ 2 * length xs
-unfolding doubled
-doubled-le [] = omega arith
-doubled-le (c ∷ cs) =
-    cond-case (λ (l : List ℕ). length l ≤ 2 * suc (length cs)) (eqb c 39) _ _ (λ _. omega (arith, doubled-le cs)) (λ _. omega (arith, doubled-le cs))
 
 -- what is stored at the front of a buffer that is long enough stands there
 pub front-stored : (d d′ c : List ℕ) (n : ℕ) → length c ≡ n → n ≤ length d → d′ ≡ sets d 0 c → take n d′ ≡ c

@@ -9,7 +9,7 @@ use spec::Search;
 ghost use mathlib.Core.Path.{_≡_};
 ghost use mathlib.Core.List.{[], _∷_};
 ghost use lib.ListN.{length, getD};
-ghost use Rattle.spec.specs.Answers.{mapExit, regionsAnswer, keywordAnswer, byteAnswer, needleAnswer, wordAnswer, wordPart, searchNumbers, handlerAnswer, unterminatedAnswer, splitAnswer, splitMapExit, splitExit, lengthAnswer, requoteAnswer, requoteExit, refusalNumbers, bodyCheck, bodyAnswer, bodyOutput, workExit, functionCheck, functionAnswer, functionOutput, functionText, functionRecords};
+ghost use Rattle.spec.specs.Answers.{mapExit, regionsAnswer, keywordAnswer, byteAnswer, needleAnswer, wordAnswer, wordPart, searchNumbers, handlerAnswer, unterminatedAnswer, splitAnswer, splitMapExit, splitExit, requotedLengthAnswer, requoteAnswer, requoteExit, refusalNumbers, bodyCheck, bodyAnswer, bodyOutput, workExit, functionCheck, functionAnswer, functionOutput, functionText, functionRecords};
 ghost use Rattle.closed.specs.Answer.{closedAnswer};
 ghost use Rattle.plpgsql_rewriter.specs.Four.{narrow, four, fourFound, fourFilled, fourCalled};
 
@@ -173,7 +173,7 @@ pub extern "C" fn plpgsql_split_in_code(
 // `requoted_length`; the fourth number is that length.
 #[no_mangle]
 pub extern "C" fn plpgsql_requoted_length(text: &[u8], answer: &mut [u32; 4])
-    ensures { λ _. ⌜ now (answer .exit) ≡ fourFilled (lengthAnswer (now (text .entry))) ⌝ }
+    ensures { λ _. ⌜ now (answer .exit) ≡ fourFilled (requotedLengthAnswer (now (text .entry))) ⌝ }
 {
     let f = searches::requoted_length(text);
     put_filled(answer, f);

@@ -62,7 +62,6 @@ pub fn requote(text: &[u8], out: &mut [u8]) -> usize
 // How many `'` stand in `text`.
 fn quotes_in(text: &[u8]) -> usize
     ensures { λ r. ⌜ r ≡ quotesIn (now (text .entry)) ⌝ }
-    ensures { λ r. ⌜ r ≤ length (now (text .entry)) ⌝ }
 {
     let mut n: usize = 0;
     let mut i: usize = 0;
@@ -77,7 +76,7 @@ fn quotes_in(text: &[u8]) -> usize
     n
 }
 
-// The length of the k bytes of `span` from a on, in single quotes.
+// How many bytes the k bytes of `span` from a on make in single quotes.
 fn inside_len(span: &[u8], a: usize, k: usize) -> usize
     requires { ⌜ length (now span) ≤ 65536 ⌝ }
     requires { ⌜ a + k ≤ length (now span) ⌝ }

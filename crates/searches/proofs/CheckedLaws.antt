@@ -1,5 +1,5 @@
 -- The checks of a search and what the lent map holds behind them. Assumes nothing.
-use mathlib.Core.Path.{_≡_, refl, sym, ap, _∙_}
+use mathlib.Core.Path.{_≡_, refl, ap, _∙_}
 use mathlib.Core.Bool.{Bool, true, false}
 use mathlib.Core.List.{List, []}
 use Prim.Native.Nat.{ℕ, _+_, _≤_, _<_}
@@ -13,15 +13,11 @@ use lib.Seq.{sets, sets-eq}
 use Rattle.spec.proofs.Choice.{by}
 use Rattle.spec.proofs.WalkLaws.{marked-kept}
 use Rattle.spec.proofs.CheckLaws.{CheckRefuses, too-long, too-short, not-ascii, check-only}
-use Rattle.spec.specs.Requote.{requotedLength}
 use Rattle.spec.specs.Map.{mapOf, marked, markedText}
-use Rattle.spec.specs.Answers.{searchLimit, checkOf, exitOf, keptBehind, filledAnswer, mapCheck, mapExit, splitCheck, textCheck, lengthAnswer, requoteCheck, refusalNumbers}
+use Rattle.spec.specs.Answers.{searchLimit, checkOf, exitOf, keptBehind, filledAnswer, mapCheck, mapExit, splitCheck, textCheck, refusalNumbers}
 use Rattle.spec.specs.declared.Check.{Check}
 use Rattle.spec.specs.declared.Check.the-variants.{Passed, Refused}
-use Rattle.spec.specs.declared.Filled.the-variants as filled
-use Rattle.spec.specs.declared.Filled.the-variants.{Count}
 use Rattle.spec.specs.declared.Refusal.{Refusal}
-use Rattle.spec.specs.declared.Refusal.the-variants.{BufferTooShort}
 
 -- the check by the length of the lent map
 pub map-fits : (xs lent needle : List ℕ) → length xs ≤ length lent → mapCheck xs lent needle ≡ checkOf 65536 true xs needle
@@ -81,43 +77,10 @@ pub refused-count : (limit : ℕ) (xs : List ℕ) (m n : ℕ) → filledAnswer (
 unfolding checkOf
 refused-count limit xs m n = by (ltb limit (length xs)) (λ e. rw e refl) (λ e. rw e refl)
 
--- what the call that tells the length says of the checks
-module _ (xs : List ℕ) where
-  counted-check : (c : Check) (n : ℕ) → filledAnswer c (requotedLength xs) ≡ Count n → (c ≡ Passed) × (n ≡ requotedLength xs)
-  counted-check Passed n e = let same : requotedLength xs ≡ n = cc in (refl, sym same)
-  counted-check (Refused r) n e = let z : _≡_ {A = ℕ} 0 1 = cc in absurd (omega arith)
-
-  refused-check : (c : Check) (r : Refusal) → filledAnswer c (requotedLength xs) ≡ filled.Refused r → c ≡ Refused r
-  refused-check Passed r e = let z : _≡_ {A = ℕ} 0 1 = cc in absurd (omega arith)
-  refused-check (Refused q) r e = let same : q ≡ r = cc in ap Refused same
-
-  pub length-counted : (n : ℕ) → lengthAnswer xs ≡ Count n → (textCheck xs ≡ Passed) × (n ≡ requotedLength xs)
-  unfolding lengthAnswer
-  length-counted n e = counted-check (textCheck xs) n e
-
-  pub length-refused : (r : Refusal) → lengthAnswer xs ≡ filled.Refused r → textCheck xs ≡ Refused r
-  unfolding lengthAnswer
-  length-refused r e = refused-check (textCheck xs) r e
-
--- the check of requoting where those refuse
-pub requote-refused : (xs lent : List ℕ) (r : Refusal) → textCheck xs ≡ Refused r → requoteCheck xs lent ≡ Refused r
-unfolding requoteCheck
-requote-refused xs lent r e = rw e refl
-
--- and where they pass, by the length of the lent output
-module _ (xs lent : List ℕ) (e : textCheck xs ≡ Passed) where
-  pub requote-short : length lent < requotedLength xs → requoteCheck xs lent ≡ Refused BufferTooShort
-  unfolding requoteCheck
-  requote-short h = rw (e, lt-leb (requotedLength xs) (length lent) h) refl
-
-  pub requote-fits : requotedLength xs ≤ length lent → requoteCheck xs lent ≡ Passed
-  unfolding requoteCheck
-  requote-fits h = rw (e, le-leb (requotedLength xs) (length lent) h) refl
-
--- a text that passes them is within the limit
-pub text-fits : (xs : List ℕ) → textCheck xs ≡ Passed → length xs ≤ 65536
+-- a text that passes without a buffer is within the limit
+pub within-limit : (xs : List ℕ) → textCheck xs ≡ Passed → length xs ≤ 65536
 unfolding searchLimit
-text-fits xs e = passed-fits 65536 true xs [] e
+within-limit xs e = passed-fits 65536 true xs [] e
 
 pub passed-length : (xs lent needle : List ℕ) → mapCheck xs lent needle ≡ Passed → length xs ≤ 65536
 unfolding mapCheck searchLimit

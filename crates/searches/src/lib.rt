@@ -21,7 +21,7 @@ use spec::Search;
 ghost use mathlib.Core.Path.{_≡_};
 ghost use mathlib.Core.List.{[], _∷_};
 ghost use Prim.Native.Nat.{_≤_};
-ghost use Rattle.spec.specs.Answers.{mapCheck, mapExit, searchAnswer, filledAnswer, yesNo, regionsAnswer, keywordAnswer, byteAnswer, needleAnswer, wordAnswer, wordPart, searchNumbers, searchList, refusalNumbers, handlerAnswer, unterminatedAnswer, splitAnswer, splitMapExit, splitExit, lengthAnswer, requoteAnswer, requoteExit};
+ghost use Rattle.spec.specs.Answers.{mapCheck, mapExit, searchAnswer, filledAnswer, yesNo, regionsAnswer, keywordAnswer, byteAnswer, needleAnswer, wordAnswer, wordPart, searchNumbers, searchList, refusalNumbers, handlerAnswer, unterminatedAnswer, splitAnswer, splitMapExit, splitExit, requotedLengthAnswer, requoteAnswer, requoteExit};
 ghost use Rattle.spec.specs.declared.Check.the-variants.{Passed};
 
 // The most bytes that a search's text may have.
@@ -207,7 +207,7 @@ pub fn split_in_code(text: &[u8], map: &mut [u8], starts: &mut [u32], separator:
 
 // The length of the requoted text, before anything is written.
 pub fn requoted_length(text: &[u8]) -> Filled
-    ensures { λ r. ⌜ r ≡ lengthAnswer (now (text .entry)) ⌝ }
+    ensures { λ r. ⌜ r ≡ requotedLengthAnswer (now (text .entry)) ⌝ }
 {
     let check = check_texts(SEARCH_LIMIT, true, text, &text[..0]);
     let Check::Refused(r) = check else {

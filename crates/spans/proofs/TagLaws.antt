@@ -6,7 +6,7 @@ use Prim.Native.Nat.{ℕ, suc, _+_, _≤_, _<_}
 use native.Mathlib.Nat.{le-of-suc-le-suc}
 use native.Mathlib.Omega.{arith}
 use lib.Dec.{eqb}
-use lib.ListN.{length, drop, getD, drop-of-length-le}
+use lib.ListN.{length, drop, drop-of-length-le}
 use Rattle.spec.proofs.AheadLaws.{drop-one}
 use Rattle.spec.proofs.Choice.{by}
 use Rattle.spec.specs.Bytes.{isIdent, isPrefix}
@@ -55,23 +55,3 @@ module _ (xs : List ℕ) (i : ℕ) where
   pub seek-over : length xs ≤ i → (p : List ℕ) → i + seekLen p (drop i xs) ≡ i
   unfolding seekLen
   seek-over h p = rw (drop-of-length-le xs h) (omega arith)
-
--- a pattern that is found stands before the end
-pub seek-stands : (p xs : List ℕ) → seekLen p xs < length xs → isPrefix p (drop (seekLen p xs) xs) ≡ true
-unfolding seekLen
-seek-stands p [] = λ h. absurd (omega arith)
-seek-stands p (x ∷ xs) =
-    by (isPrefix p (x ∷ xs)) (λ e. simp e (λ h. refl)) (λ e. simp e (λ h. seek-stands p xs (le-of-suc-le-suc h)))
-
--- the empty text starts with no byte
-pub seek-nowhere : (p xs : List ℕ) → 0 < length p → length xs ≤ seekLen p xs → isPrefix p (drop (seekLen p xs) xs) ≡ false
-unfolding isPrefix
-seek-nowhere [] xs h k = absurd (omega arith)
-seek-nowhere (a ∷ p) xs h k = rw (drop-of-length-le xs k) refl
-
--- where the first byte is another, the pattern does not stand
-pub first-missed : (p xs : List ℕ) (i : ℕ) → 0 < length p → i < length xs → eqb (getD xs i 0) (getD p 0 0) ≡ false
-    → isPrefix p (drop i xs) ≡ false
-unfolding isPrefix
-first-missed [] xs i h k e = absurd (omega arith)
-first-missed (a ∷ p) xs i h k e = rw (drop-one xs i 0 k, e) refl

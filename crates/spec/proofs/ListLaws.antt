@@ -8,7 +8,7 @@ use native.Mathlib.Omega.{arith}
 use lib.Dec.{eqb, eqb·suc-zero}
 use lib.ListN.{length, take, drop, length-append, take-append-drop}
 use Rattle.spec.proofs.Choice.{by, cond-case}
-use Rattle.spec.specs.Lists.{isEmpty, takeWhile, dropWhile, dropEnd, all, concat, total}
+use Rattle.spec.specs.Lists.{isEmpty, takeWhile, dropWhile, dropEnd, all, keep, concat, total}
 
 module _ {A : Type 0} where
   pub empty-length : (l : List A) → isEmpty l ≡ eqb (length l) 0
@@ -87,6 +87,13 @@ module _ {A : Type 0} where
   drop-while-le f (x ∷ t) =
       cond-case (λ l. length l ≤ suc (length t)) (f x) (dropWhile f t) (x ∷ t)
       (λ _. omega (arith, drop-while-le f t)) (λ _. omega arith)
+
+  pub keep-le : (f : A → Bool) (t : List A) → length (keep f t) ≤ length t
+  unfolding keep
+  keep-le f [] = zero-le
+  keep-le f (x ∷ t) =
+      cond-case (λ l. length l ≤ suc (length t)) (f x) (x ∷ keep f t) (keep f t)
+      (λ _. suc-le-suc (keep-le f t)) (λ _. omega (arith, keep-le f t))
 
 -- the sum over a list of images
 pub total-map : {A B : Type 0} (f : B → ℕ) (g : A → B) (t : List A) → total f (map g t) ≡ total (λ x. f (g x)) t

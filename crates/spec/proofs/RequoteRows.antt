@@ -4,7 +4,7 @@ use mathlib.Core.List.{[], _∷_, _++_}
 use lib.ListN.{replicate}
 use Rattle.spec.specs.Bytes.{ascii}
 use Rattle.spec.specs.Requote.{requotedLength}
-use Rattle.spec.specs.Answers.{lengthAnswer, requoteAnswer, requoteExit}
+use Rattle.spec.specs.Answers.{requotedLengthAnswer, requoteAnswer, requoteExit}
 use Rattle.spec.specs.declared.Filled.the-variants.{Count, Refused}
 use Rattle.spec.specs.declared.Refusal.the-variants.{NotAscii, BufferTooShort}
 use Rattle.spec.proofs.RowForms.{tabled}
@@ -57,6 +57,6 @@ high-first : requoteAnswer (97 ∷ 200 ∷ []) [] ≡ Refused (NotAscii 1)
 unfolding tabled
 high-first = refl
 
-high-length : lengthAnswer (97 ∷ 200 ∷ []) ≡ Refused (NotAscii 1)
+high-length : requotedLengthAnswer (97 ∷ 200 ∷ []) ≡ Refused (NotAscii 1)
 unfolding tabled
 high-length = refl

@@ -30,6 +30,17 @@ unfolding seekLen
 seek-le p [] = zero-le
 seek-le p (c ∷ cs) = cond-le (isPrefix p (c ∷ cs)) _ _ _ zero-le (suc-le-suc (seek-le p cs))
 
+-- where p is not in front of what it stops at, the search ran to the end
+pub seek-miss : (p xs : List ℕ) → isPrefix p (drop (seekLen p xs) xs) ≡ false → seekLen p xs ≡ length xs
+unfolding seekLen
+seek-miss p [] = λ h. refl
+seek-miss p (x ∷ xs) =
+    by (isPrefix p (x ∷ xs)) (λ e. simp e (λ h. absurd (false≢true (sym h)))) (λ e. simp e (λ h. ap suc (seek-miss p xs h)))
+
+-- where it stops before the end, p stands there
+pub seek-stands : (p xs : List ℕ) → seekLen p xs < length xs → isPrefix p (drop (seekLen p xs) xs) ≡ true
+seek-stands p xs h = by (isPrefix p (drop (seekLen p xs) xs)) (λ e. e) (λ e. absurd (omega (arith, seek-miss p xs e)))
+
 pub quote-le : (e : Bool) (q : ℕ) (xs : List ℕ) → quoteLen e q xs ≤ length xs
 unfolding quoteLen
 quote-le e q [] = zero-le

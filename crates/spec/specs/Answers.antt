@@ -47,7 +47,7 @@ asciiCheck (At i) next = check.Refused (NotAscii i)
 asciiCheck Nothing next = next
 
 -- the checks before anything is written, in this order: 1 text over the limit, 3 a lent buffer too short,
--- 2 first byte over 127, the text's before the needle's
+-- 2 first byte over 127, the text's before the needle's; requoting has its own order, in `requoteCheck`
 unfoldable pub checkOf : ℕ → Bool → List ℕ → List ℕ → Check
 checkOf limit enough xs needle =
     let high = asciiCheck (firstHigh xs) (asciiCheck (firstHigh needle) check.Passed) in
@@ -117,7 +117,7 @@ wordPart xs lent from = partOf (mapCheck xs lent []) (wordText xs from)
 unfoldable pub handlerAnswer : List ℕ → List ℕ → Search
 handlerAnswer xs lent = searchAnswer (mapCheck xs lent []) (yesNo (hasExceptionHandler xs))
 
--- a search that walks spans is lent no map: 1 and 2 only
+-- the checks of a text without a buffer: 1, then 2
 abbrev pub textCheck : List ℕ → Check
 textCheck xs = checkOf searchLimit true xs []
 
@@ -140,8 +140,8 @@ splitExit xs lentMap lentStarts b =
     exitOf (splitCheck xs lentMap lentStarts) (keptBehind (splitInCode xs b) lentStarts) lentStarts
 
 -- Note 1, the call that tells the requoted length
-unfoldable pub lengthAnswer : List ℕ → Filled
-lengthAnswer xs = filledAnswer (textCheck xs) (requotedLength xs)
+unfoldable pub requotedLengthAnswer : List ℕ → Filled
+requotedLengthAnswer xs = filledAnswer (textCheck xs) (requotedLength xs)
 
 -- refusal 3 behind the checks that come first
 abbrev pub shortLast : Check → Bool → Check

@@ -78,7 +78,7 @@ unfolding closed.endsLive closed.isPlainSpan closed.endsWord closed.isFollowed c
 inClosed = tt
 
 unfoldable inAnswers : Unit {0}
-unfolding answers.textLimit answers.searchLimit answers.firstHigh answers.checkOf answers.keptBehind answers.zeroedTo answers.mapCheck answers.mapExit answers.regionsAnswer answers.keywordAnswer answers.byteAnswer answers.needleAnswer answers.wordAnswer answers.wordPart answers.handlerAnswer answers.unterminatedAnswer answers.splitCheck answers.splitAnswer answers.splitMapExit answers.splitExit answers.lengthAnswer answers.requoteCheck answers.requoteAnswer answers.requoteExit answers.resultOf answers.bodyResult answers.functionResult answers.areLent answers.bodyCheck answers.bodyAnswer answers.bodyOutput answers.workExit answers.functionCheck answers.functionAnswer answers.functionOutput answers.functionText answers.functionRecords
+unfolding answers.textLimit answers.searchLimit answers.firstHigh answers.checkOf answers.keptBehind answers.zeroedTo answers.mapCheck answers.mapExit answers.regionsAnswer answers.keywordAnswer answers.byteAnswer answers.needleAnswer answers.wordAnswer answers.wordPart answers.handlerAnswer answers.unterminatedAnswer answers.splitCheck answers.splitAnswer answers.splitMapExit answers.splitExit answers.requotedLengthAnswer answers.requoteCheck answers.requoteAnswer answers.requoteExit answers.resultOf answers.bodyResult answers.functionResult answers.areLent answers.bodyCheck answers.bodyAnswer answers.bodyOutput answers.workExit answers.functionCheck answers.functionAnswer answers.functionOutput answers.functionText answers.functionRecords
 inAnswers = tt
 
 unfoldable pub computed : Unit {0}

@@ -144,10 +144,8 @@ impl<W: Write> Rows<'_, W> {
                 self.ask((0, 0), "-", 0, &format!("0 0 0 {length}"))?;
                 continue;
             }
-            let result = match length <= LONGEST {
-                true => hex::encode(&requoted.bytes()),
-                false => "*".to_string(),
-            };
+            let result =
+                if length <= LONGEST { hex::encode(&requoted.bytes()) } else { "*".to_string() };
             for lent in [length, length + 3] {
                 self.ask((lent, 0), "-", 0, &format!("0 0 0 {length} {result}"))?;
             }

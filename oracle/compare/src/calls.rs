@@ -22,7 +22,7 @@ pub const RECORD_NUMBERS: usize = 4_104;
 pub enum Order {
     /// Refusal 3, then 2.
     BuffersFirst,
-    /// Refusal 2, then 3: only an ASCII text says how long the buffer must be.
+    /// Refusal 2, then 3: the length that the buffer needs is told only of an ASCII text.
     TextFirst,
 }
 
@@ -36,7 +36,7 @@ pub struct Call {
     pub has_needle: bool,
     /// Which of the four numbers is the place.
     pub place_at: usize,
-    /// The length that it answers besides zeros, if it seeks nothing and the text alone decides.
+    /// Of a call that answers 0, 0, 0 and a length that the text alone decides: that length.
     pub length: Option<fn(&[u8]) -> usize>,
     run: Run,
 }
@@ -84,7 +84,7 @@ fn requoted_length(text: &[u8]) -> usize {
     Scanner::new(&text).requote_dollar_literals().len()
 }
 
-/// A search that needs a map and no other buffer.
+/// A search that is lent a map; the other calls say what differs from it.
 const fn search(name: &'static str, run: Run) -> Call {
     Call {
         name,

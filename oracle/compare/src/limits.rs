@@ -150,7 +150,7 @@ impl Limits<'_> {
 }
 
 /// Texts that pass: letters, and dollar literals whose requoted form is shorter or longer than they
-/// are, closed and open; of each some that are as long as can be.
+/// are, closed and open, some of them up to the limit.
 fn texts(limit: usize) -> Vec<Vec<u8>> {
     let short = ["$tag$a$tag$", "$$''''$$", "$$a", "$$'", "$$", "$$$$"];
     let inside = "$$'".repeat((limit - 6) / 3);

@@ -1,7 +1,8 @@
 -- `output::put_single_quoted` meets its contract. `stored-quoted` joins the stores of the three calls, quote, doubled
 -- text and quote, to one store. Assumes nothing.
 use native.Mathlib.Omega.{arith}
-use Rattle.output.proofs.StoreLaws.{doubled-le, long-quoted, stored-quoted}
+use Rattle.spec.proofs.RequotedLength.{doubled-le, long-quoted}
+use Rattle.output.proofs.StoreLaws.{stored-quoted}
 use borrow.Author.Needs.{needs}
 use Rattle.output.proofs.put_single_quoted.Statement.{statement}
 use Rattle.output.proofs.put_single_quoted.Tie as tie

@@ -52,7 +52,7 @@ loop-again-2 c =
 returns : tie.Need-returns Inv-loop μ-loop
 returns c =
     let xs = c .before .before .args .text .now in
-    (omega (arith, quotes-over xs (c .before .loop .i) (omega arith)), omega arith)
+    omega (arith, quotes-over xs (c .before .loop .i) (omega arith))
 
 pub quotes-in-spec : {M : Type 1} → statement M
 quotes-in-spec =

@@ -11,8 +11,8 @@ use lib.Seq.{length-take-le}
 use Rattle.spec.specs.Bytes.{isPrefix}
 use Rattle.spec.specs.Spans.{seekLen, dollarOf}
 use Rattle.spec.proofs.AheadLaws.{rest-of}
-use Rattle.spec.proofs.SpanLaws.{seek-rest}
-use Rattle.spans.proofs.TagLaws.{seek-stands, seek-nowhere}
+use Rattle.spec.proofs.SpanLaws.{seek-rest, seek-stands}
+use Rattle.classes.proofs.PrefixLaws.{prefix-past}
 use borrow.Author.Needs.{needs}
 use Rattle.spans.proofs.dollar_of.Statement.{statement}
 use Rattle.spans.proofs.dollar_of.Tie as tie
@@ -76,7 +76,7 @@ returns-2 c =
     let found : k ≡ seekLen (take n xs) (drop n xs) = rw rest-of at e in
     let over : length (drop n xs) ≤ seekLen (take n xs) (drop n xs) = omega (arith, found, c .if1 .left, length-drop n xs) in
     let some : 0 < length (take n xs) = omega (arith, length-take-le n xs (at-start .pre .1), at-start .pre .0) in
-    let gone : isPrefix (take n xs) (drop k (drop n xs)) ≡ false = rw found (seek-nowhere (take n xs) (drop n xs) some over) in
+    let gone : isPrefix (take n xs) (drop k (drop n xs)) ≡ false = prefix-past (drop k (drop n xs)) (take n xs) 0 some (omega (arith, found, over, length-drop k (drop n xs))) in
     simp (sym found, gone, add-zero)
 
 pub dollar-of-spec : {M : Type 1} → statement M
