@@ -188,6 +188,10 @@ pub fn next_span(rest: &[u8]) -> Span
     if !opens_span(c) {
         return Span::Code(1);
     }
+    // No other span starts with a `$`.
+    if c == b'$' {
+        return dollar_quoted(rest);
+    }
     let d = byte_at(rest, 1);
     if is_pair(b'-', b'-', c, d) {
         return Span::Verbatim(2 + line_len(&rest[2..]));
@@ -201,10 +205,7 @@ pub fn next_span(rest: &[u8]) -> Span
     if c == b'"' {
         return Span::Verbatim(quoted_len(rest, b'"', false));
     }
-    // What is left is a `$`, or a `-` or `/` that starts no comment.
-    if c == b'$' {
-        return dollar_quoted(rest);
-    }
+    // What is left is a `-` or `/` that starts no comment.
     Span::Code(1)
 }
 
