@@ -148,7 +148,7 @@ length-told xs n e = go (textCheck xs) e
     go Passed e = let same : requotedLength xs ≡ n = cc in (refl, sym (requoted-exactly xs) ∙ same)
     go (Refused r) e = absurd (apart cc)
 
--- where it is refused, the text does not pass, so requoting is refused alike
+-- where it is refused, the text does not pass, so requoting is refused alike (`text-refused`)
 pub length-refused : (xs : List ℕ) (r : Refusal) → requotedLengthAnswer xs ≡ filled.Refused r → textCheck xs ≡ Refused r
 unfolding requotedLengthAnswer
 length-refused xs r e = go (textCheck xs) e
@@ -156,6 +156,15 @@ length-refused xs r e = go (textCheck xs) e
     go : (c : Check) → filledAnswer c (requotedLength xs) ≡ filled.Refused r → c ≡ Refused r
     go Passed e = absurd (apart cc)
     go (Refused q) e = let same : q ≡ r = cc in ap Refused same
+
+-- that call gives 1 and 2 only, each exactly where `check-only` and `check-always` say it of `textCheck`
+pub length-not-short : (xs : List ℕ) → requotedLengthAnswer xs ≡ filled.Refused BufferTooShort → ⊥
+length-not-short xs e = go (check-only searchLimit true xs [] (Refused BufferTooShort) (length-refused xs BufferTooShort e))
+  where
+    go : CheckRefuses searchLimit true xs [] BufferTooShort → ⊥
+    go (too-long q h) = apart cc
+    go (too-short q h n) = false≢true (sym n)
+    go (not-ascii q h y w) = apart cc
 
 module _ (xs lent : List ℕ) (n : ℕ) (e : requotedLengthAnswer xs ≡ Count n) where
   -- a buffer of the length that was told passes, and one byte less is 3
