@@ -1,4 +1,5 @@
--- Requoting from span to span: a turn of the walk, and its end. Assumes nothing.
+-- Requoting from span to span, the text and its length: a turn of the walk, a byte that opens nothing, and the end; and the
+-- quotes of a text counted byte by byte. Assumes nothing.
 use mathlib.Core.Path.{_≡_, refl, sym, ap}
 use mathlib.Core.Bool.{false}
 use mathlib.Core.List.{List, [], _∷_, _++_, map}

@@ -47,7 +47,7 @@ one-less-kept : requoteExit (ascii "$$'$$") (replicate 3 7) ≡ replicate 3 7
 unfolding tabled
 one-less-kept = refl
 
--- what lies past the result keeps its contents
+-- behind the result nothing is written
 past-kept : requoteExit (ascii "$$'$$") (replicate 6 7) ≡ ascii "''''" ++ replicate 2 7
 unfolding tabled
 past-kept = refl

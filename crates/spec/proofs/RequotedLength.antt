@@ -157,7 +157,7 @@ length-refused xs r e = go (textCheck xs) e
     go Passed e = absurd (apart cc)
     go (Refused q) e = let same : q ≡ r = cc in ap Refused same
 
--- that call gives 1 and 2 only, each exactly where `check-only` and `check-always` say it of `textCheck`
+-- that call never gives 3; that it gives nothing but 1 and 2 follows from `length-refused` and `check-only`
 pub length-not-short : (xs : List ℕ) → requotedLengthAnswer xs ≡ filled.Refused BufferTooShort → ⊥
 length-not-short xs e = go (check-only searchLimit true xs [] (Refused BufferTooShort) (length-refused xs BufferTooShort e))
   where

@@ -1,4 +1,5 @@
--- Spans: each has at least one byte and at most the text's, and the row of spans is the text. Assumes nothing.
+-- Spans: each has at least one byte and at most the text's, and the row of spans is the text; where the search for a
+-- delimiter stops. Assumes nothing.
 use mathlib.Core.Path.{_≡_, refl, sym, ap, _∙_}
 use mathlib.Core.Bool.{Bool, true, false, cond, not, false≢true}
 use mathlib.Core.List.{List, [], _∷_, _++_, map}

@@ -11,8 +11,8 @@ const MOST_TIMES: f64 = 1.7;
 /// The longest text of a search.
 const LONGEST: usize = 64 * KB;
 
-/// A text, and the time that requoting it took before Note 1, in parts of the Rust's time on the same
-/// text, so that the machine counts little. README says when these were measured.
+/// A text, and the time that requoting it took before Note 1, as a fraction of the Rust's time on the
+/// same text, so that the machine counts little. README says when these were measured.
 struct Subject {
     name: String,
     text: String,

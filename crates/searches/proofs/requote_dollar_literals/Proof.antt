@@ -1,6 +1,6 @@
 -- `searches::requote_dollar_literals` meets its contract. By `text-refused`, `told-short` and `told-fits` the answer of
 -- `requoted_length` and the buffer's length decide the checks; where they pass, the output holds what `requote` stores,
--- of which there are as many bytes as was told. Assumes nothing.
+-- of which there are as many bytes as were told. Assumes nothing.
 use native.Mathlib.Omega.{arith}
 use mathlib.Core.Path.{_≡_, refl, sym, ap, _∙_}
 use Prim.Native.Nat.{_≤_}

@@ -1,5 +1,5 @@
 -- `spans::seek` meets its contract. The loop's invariant says that the pattern's first place is i and its first place
--- in the text from i on. Where the first byte is another the pattern does not stand: `prefix-off`. Assumes nothing.
+-- in the text from i on. Where the first byte is another the pattern does not stand there: `prefix-off`. Assumes nothing.
 use lib.ListN.{take}
 use Rattle.spec.proofs.AheadLaws.{rest-of}
 use mathlib.Core.Bool.{true, false}
