@@ -8,7 +8,8 @@ use native.Mathlib.Nat.{le-of-suc-le-suc}
 use native.Mathlib.Omega.{arith}
 use lib.Dec.{eqb}
 use lib.ListN.{length, take, drop, getD, replicate, length-append, length-replicate, length-drop, drop-of-length-le}
-use lib.Seq.{length-take-le, getD-drop}
+use lib.Seq.{length-take-le}
+use Rattle.spec.proofs.AheadLaws.{drop-front}
 use Rattle.spec.proofs.BytesLaws.{bytes-take}
 use Rattle.spec.proofs.Choice.{and-left, and-right}
 use Rattle.spec.proofs.SpanLaws.{by-kind, span-le}
@@ -100,9 +101,7 @@ span-ends c cs (Code n) e q =
 
 module _ (xs : List ℕ) (at : ℕ) (s : Span) (to : ℕ) (t : Stepped xs at s to) where
   here : getD xs at 0 ≡ getD (drop at xs) 0 0
-  here =
-      let z : at ≡ at + 0 = omega arith in
-      ap (λ (n : ℕ). getD xs n 0) z ∙ sym (getD-drop at xs 0 0)
+  here = sym (drop-front xs at 0)
 
   some-left : 0 < length (drop at xs)
   some-left = omega (arith, t .before, length-drop at xs)

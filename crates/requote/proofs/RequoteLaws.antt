@@ -4,12 +4,11 @@ use mathlib.Core.Path.{_≡_, refl, sym, ap}
 use mathlib.Core.Bool.{false}
 use mathlib.Core.List.{List, [], _∷_, _++_, map}
 use Prim.Native.Nat.{ℕ, _+_, _-_, _≤_, _<_, zero-le}
-use native.Mathlib.Nat.{add-zero}
 use native.Mathlib.Omega.{arith}
 use lib.ListN.{length, take, drop, getD, length-append, length-drop, drop-of-length-le}
-use lib.Seq.{sets, getD-drop, length-take-le}
+use lib.Seq.{sets, length-take-le}
 use borrow.Author.Tests.{eq-eqb, ne-eqb}
-use Rattle.spec.proofs.AheadLaws.{drop-one}
+use Rattle.spec.proofs.AheadLaws.{drop-front, drop-one}
 use Rattle.spec.proofs.SpanLaws.{by-kind, lexemes-step}
 use Rattle.spec.specs.Lists.{keep, concat}
 use Rattle.spec.proofs.RequotedLength.{span-length, requoted-exactly}
@@ -85,8 +84,7 @@ pub length-plain : (xs : List ℕ) (at : ℕ) → at < length xs → opensSpan (
     → requotedLength (drop at xs) ≡ 1 + requotedLength (drop (at + 1) xs)
 unfolding requotedSpanLength
 length-plain xs at h e =
-    let front : getD xs at 0 ≡ getD (drop at xs) 0 0 = rw add-zero at (sym (getD-drop at xs 0 0)) in
-    let t = stepped xs at (Code 1) (at + 1) h (sym (at-plain (drop at xs) (getD xs at 0) front e)) refl in
+    let t = stepped xs at (Code 1) (at + 1) h (sym (at-plain (drop at xs) (getD xs at 0) (sym (drop-front xs at 0)) e)) refl in
     omega (arith, length-turn xs at (Code 1) (at + 1) t, length-take-le (at + 1 - at) (drop at xs) (omega (arith, length-drop at xs)))
 
 -- nothing is left to requote

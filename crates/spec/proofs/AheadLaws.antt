@@ -2,10 +2,15 @@
 use mathlib.Core.Path.{_≡_, refl, sym, ap, _∙_}
 use mathlib.Core.List.{List, [], _∷_}
 use Prim.Native.Nat.{ℕ, zero, suc, _+_, _-_, _<_}
+use native.Mathlib.Nat.{add-zero}
 use native.Mathlib.Numerals.{add-one, add-two}
 use native.Mathlib.Omega.{arith}
 use lib.ListN.{length, take, drop, getD, length-drop}
-use lib.Seq.{drop-cons, take-all, take-nil}
+use lib.Seq.{drop-cons, getD-drop, take-all, take-nil}
+
+-- the first element of what is dropped to
+pub drop-front {ℓ} : {A : Type ℓ} (xs : List A) (i : ℕ) (d : A) → getD (drop i xs) 0 d ≡ getD xs i d
+drop-front xs i d = rw add-zero at (getD-drop i xs 0 d)
 
 -- one element ahead
 pub drop-one {ℓ} : {A : Type ℓ} (xs : List A) (i : ℕ) (d : A) → i < length xs → drop i xs ≡ getD xs i d ∷ drop (i + 1) xs

@@ -10,6 +10,7 @@ use borrow.Author.Tests.{ltb-true, ltb-false}
 use lib.Dec.{ltb}
 use lib.ListN.{length, take, drop, getD, length-drop, length-map, List·getD-map, List·getD-eq-default}
 use lib.Seq.{take-suc, getD-drop, drop-drop, length-take-le}
+use Rattle.spec.proofs.AheadLaws.{drop-front}
 use Rattle.spec.proofs.BytesLaws.{bytes-take, bytes-drop, front-bytes, while-length-bytes, end-length-bytes}
 use Rattle.spec.proofs.Choice.{by, neither-less}
 use Rattle.spec.proofs.EndLaws.{end-sum}
@@ -35,11 +36,7 @@ marked-flags (quoted c ∷ t) = ap (λ (u : List Marked). quoted c ∷ u) (marke
 
 -- the byte at i, at the front of what stands from i on
 pub byte-ahead : (t : List Marked) (i : ℕ) → frontByte (drop i t) ≡ byteAt t i
-byte-ahead t i =
-    let k : i + 0 ≡ i = omega arith in
-    front-bytes (drop i t)
-    ∙ (ap (λ (l : List ℕ). getD l 0 0) (bytes-drop i t)
-    ∙ (getD-drop i (bytes t) 0 0 ∙ ap (λ (j : ℕ). byteAt t j) k))
+byte-ahead t i = front-bytes (drop i t) ∙ (ap (λ (l : List ℕ). getD l 0 0) (bytes-drop i t) ∙ drop-front (bytes t) i 0)
 
 byte-of : (t : List Marked) (i : ℕ) → byteAt t i ≡ byte (getD t i (quoted 0))
 unfolding bytes

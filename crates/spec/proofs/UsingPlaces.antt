@@ -10,6 +10,7 @@ use borrow.Author.Tests.{eqb-true, eq-eqb}
 use lib.Dec.{eqb}
 use lib.ListN.{length, take, drop, getD, length-drop}
 use lib.Seq.{drop-drop, getD-drop, length-take-le}
+use Rattle.spec.proofs.AheadLaws.{drop-front}
 use Rattle.spec.proofs.Apart.{apart}
 use Rattle.spec.proofs.ByteSets.{sign-not-w, letter-not-w, upper-cases}
 use Rattle.spec.proofs.BytesLaws.{bytes-drop}
@@ -131,8 +132,7 @@ module _ (t : List Marked) (c : ℕ) where
       let w = message-some (drop c t) in
       let same : bytes (drop c t) ≡ drop c (bytes t) = bytes-drop c t in
       let v : IsMessage (drop c (bytes t)) (w .0) (w .1) = rw same at (w .2) in
-      let z : c + 0 ≡ c = omega arith in
-      let front : getD (drop c (bytes t)) 0 0 ≡ 39 = getD-drop c (bytes t) 0 0 ∙ (ap (λ (n : ℕ). getD (bytes t) n 0) z ∙ q) in
+      let front : getD (drop c (bytes t)) 0 0 ≡ 39 = drop-front (bytes t) c 0 ∙ q in
       let first = message-quote (drop c (bytes t)) (w .0) (w .1) v front in
       let u : IsMessage (drop c (bytes t)) 0 (w .1) = rw first at v in
       rw (message-from (w .1) u .1) u

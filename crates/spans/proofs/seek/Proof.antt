@@ -1,16 +1,14 @@
 -- `spans::seek` meets its contract. The loop's invariant says that the pattern's first place is i and its first place
 -- in the text from i on. Where the first byte is another the pattern does not stand there: `prefix-off`. Assumes nothing.
 use lib.ListN.{take}
-use Rattle.spec.proofs.AheadLaws.{rest-of}
+use Rattle.spec.proofs.AheadLaws.{drop-front, rest-of}
 use mathlib.Core.Bool.{true, false}
 use mathlib.Core.Path.{_≡_, sym, _∙_}
 use Prim.Native.Nat.{_+_, _-_, _≤_}
 use native.Mathlib.Omega.{arith}
 use borrow.Author.Needs.{needs}
-use native.Mathlib.Nat.{add-zero}
-use lib.Seq.{getD-drop}
 use Rattle.classes.proofs.PrefixLaws.{prefix-off}
-use lib.ListN.{length, drop, getD, length-drop}
+use lib.ListN.{length, drop, length-drop}
 use Rattle.spec.specs.Bytes.{isPrefix}
 use Rattle.spec.specs.Spans.{seekLen}
 use Rattle.spans.proofs.TagLaws.{at-found, at-missed, seek-over}
@@ -81,8 +79,7 @@ loop-again-2 c =
     let text = at-start .args .text .now in
     let pat = at-start .args .pat .now in
     let i = at-loop .loop .i in
-    let front : getD (drop i text) 0 0 ≡ getD text i 0 = rw add-zero at (getD-drop i text 0 0) in
-    let other = prefix-off (drop i text) pat 0 (omega arith) (omega (arith, length-drop i text)) (λ e. c .if1 .left (sym front ∙ e)) in
+    let other = prefix-off (drop i text) pat 0 (omega arith) (omega (arith, length-drop i text)) (λ e. c .if1 .left (sym (drop-front text i 0) ∙ e)) in
     omega (arith, at-missed text i (omega arith) pat other)
 
 returns-2 : tie.Need-returns-2 Inv-loop μ-loop
