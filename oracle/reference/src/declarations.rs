@@ -5,6 +5,7 @@
 
 use crate::context::PlPgSqlContext;
 
+#[derive(Debug, PartialEq)]
 pub struct Declaration {
     pub name: String,
     pub data_type: String,

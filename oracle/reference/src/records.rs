@@ -1,8 +1,8 @@
 //! The records and the packed text that the scope paper wants for declarations.
 
+use crate::block;
 use crate::declarations::{self, Declaration};
 use crate::preprocessor::PlPgSqlPreprocessor;
-use crate::scanner::Scanner;
 
 /// The numbers of one record.
 const RECORD: usize = 8;
@@ -62,8 +62,7 @@ impl Records {
 /// block is handed to it as a block of its own.
 pub fn first_declared(text: &str) -> Vec<String> {
     let mut order = Vec::new();
-    for part in block(text).map(|block| Scanner::new(block).split_in_code(b';')).unwrap_or_default()
-    {
+    for part in block::parts(text) {
         let alone = format!("DECLARE {part}\nBEGIN");
         let (_, context) = PlPgSqlPreprocessor::preprocess(&alone).expect("nothing to refuse");
         for declaration in declarations::list(&context).expect("a readable context") {
@@ -73,13 +72,6 @@ pub fn first_declared(text: &str) -> Vec<String> {
         }
     }
     order
-}
-
-/// The text between a live DECLARE and the first live BEGIN behind it.
-fn block(text: &str) -> Option<&str> {
-    let scanner = Scanner::new(text);
-    let from = scanner.find_keyword("DECLARE", 0)? + "DECLARE".len();
-    text.get(from..scanner.find_keyword("BEGIN", 0)?)
 }
 
 /// Whether the chain from the head leads through exactly these declarations, in this order.
