@@ -1,9 +1,14 @@
 //! The function call: the four numbers, and every byte and number of its five buffers.
+//!
+//! A text that Note 2 takes out of the comparison is compared with the reference's answer to the
+//! respelled text, if it can be respelled.
 
 use library::Answer;
 use reference::declarations::{self, Declaration};
+use reference::defaults::Reasons;
 use reference::preprocessor::PlPgSqlPreprocessor;
 use reference::records::{chain_leads_through, first_declared, Records};
+use reference::respelling::respelled;
 
 use crate::bodies::numbered;
 use crate::calls::{BUFFER_SIZE, RECORD_NUMBERS};
@@ -14,21 +19,46 @@ use crate::subject::{Outcome, Subject};
 /// The most names that are declared.
 const NAMES: usize = 512;
 
-pub fn preprocess(subject: &mut Subject, row: &mut Row) {
+/// The texts that are still compared; those taken out, with how many have each reason; those of them
+/// that are compared after respelling, and those that do not give what the reference gives as written.
+pub const ROWS: [&str; 7] = [
+    "preprocess", "taken out", "  a quoted :=", "  a lone = first", "  a DEFAULT ahead of a :=",
+    "taken out, respelled", "taken out, unlike the Rust",
+];
+
+pub fn preprocess(subject: &mut Subject, rows: &mut [Row]) {
+    let [compared, taken_out, quoted, equals, keyword, after_respelling, unlike] = rows else {
+        panic!("a row for each name");
+    };
     let least = [BUFFER_SIZE, BUFFER_SIZE, BUFFER_SIZE, BUFFER_SIZE, RECORD_NUMBERS];
     let lengths = least.map(|length| length + subject.random.below(4));
-    let outcome = outcome(subject.bytes(), &lengths, &expected(subject.text));
-    subject.judge(row, format_args!(""), outcome);
+    let mut made = Made::new(subject.bytes(), &lengths);
+    let as_written = made.outcome(&expected(subject.text));
+
+    let reasons = Reasons::of(subject.text);
+    taken_out.count(!reasons.is_none());
+    quoted.count(reasons.quoted_assign);
+    equals.count(reasons.equals_first);
+    keyword.count(reasons.keyword_first);
+    unlike.count(!reasons.is_none() && !as_written.agrees());
+    if reasons.is_none() {
+        subject.judge(compared, format_args!(""), as_written);
+    } else if let Some(text) = respelled(subject.text) {
+        let outcome = made.outcome(&expected(&text));
+        subject.judge(after_respelling, format_args!("read as {text:?}"), outcome);
+    }
 }
 
 /// The outcomes of a text that gives this number, with new buffers of each of these lengths. The
 /// reference is not asked where a pass gives 6.
 pub fn limited(text: &str, lengths: &[Vec<usize>], number: u32) -> Vec<Outcome> {
+    assert!(Reasons::of(text).is_none(), "a text at the limits is still compared");
     let expected = match number {
         6 => Expected::refused([6, 0, 0, 0], Vec::new()),
         _ => expected(text),
     };
-    lengths.iter().map(|lengths| outcome(text.as_bytes(), lengths, &expected)).collect()
+    let outcome = |lengths: &Vec<usize>| Made::new(text.as_bytes(), lengths).outcome(&expected);
+    lengths.iter().map(outcome).collect()
 }
 
 /// What a call must answer, and leave in its buffers in front of the zeros.
@@ -65,18 +95,33 @@ fn expected(text: &str) -> Expected {
     Expected { answer, output, records: Records::new(&order, &list), list }
 }
 
-/// What the call makes of a text that its checks let pass, with new buffers of these lengths.
-fn outcome(text: &[u8], lengths: &[usize], expected: &Expected) -> Outcome {
-    let mut buffers = [0, 1, 2, 3].map(|index| Lent::new(lengths[index]));
-    let mut records = Lent::new(lengths[4]);
-    let [output, work, spare, declared] = &mut buffers;
-    let (o, w, s, d) = (output.lend(), work.lend(), spare.lend(), declared.lend());
-    let got = library::preprocess(text, o, w, s, d, records.lend());
-    let buffers = output.holds_filled(&expected.output)
-        && work.holds_filled(&[])
-        && spare.holds_filled(&[])
-        && declared.holds_filled(&expected.records.text)
-        && records.holds_filled(&expected.records.numbers)
-        && chain_leads_through(declared.lend(), records.lend(), &expected.list);
-    Outcome { expected: expected.answer, got, buffers }
+/// What the call made of a text that its checks let pass: its answer and its buffers.
+struct Made {
+    answer: Answer,
+    /// Output, both work buffers and declaration text.
+    buffers: [Lent<u8>; 4],
+    records: Lent<u32>,
+}
+
+impl Made {
+    /// Makes the call with new buffers of these lengths.
+    fn new(text: &[u8], lengths: &[usize]) -> Self {
+        let mut buffers = [0, 1, 2, 3].map(|index| Lent::new(lengths[index]));
+        let mut records = Lent::new(lengths[4]);
+        let [output, work, spare, declared] = &mut buffers;
+        let (o, w, s, d) = (output.lend(), work.lend(), spare.lend(), declared.lend());
+        let answer = library::preprocess(text, o, w, s, d, records.lend());
+        Self { answer, buffers, records }
+    }
+
+    fn outcome(&mut self, expected: &Expected) -> Outcome {
+        let Self { answer, buffers: [output, work, spare, declared], records } = self;
+        let buffers = output.holds_filled(&expected.output)
+            && work.holds_filled(&[])
+            && spare.holds_filled(&[])
+            && declared.holds_filled(&expected.records.text)
+            && records.holds_filled(&expected.records.numbers)
+            && chain_leads_through(declared.lend(), records.lend(), &expected.list);
+        Outcome { expected: expected.answer, got: *answer, buffers }
+    }
 }

@@ -5,7 +5,7 @@ use std::time::Instant;
 use texts::random::Random;
 
 use crate::comparisons::{compare, names, Comparison, BODIES, FUNCTIONS, SEARCHES};
-use crate::every;
+use crate::every::{self, Every};
 use crate::joined;
 use crate::limits;
 use crate::long::{self, Long};
@@ -71,17 +71,23 @@ pub fn run_given(options: &Options, texts: &[String]) -> u64 {
     run.differing
 }
 
-/// The frames that each short text is put in: a whole block of declarations, and a default.
-const FRAMES: [[&str; 2]; 2] = [["DECLARE ", "\nBEGIN"], ["DECLARE a b:=", ";BEGIN"]];
+/// What stands ahead of a short text, and behind it.
+type Frame = [&'static str; 2];
+
+/// The short text is a whole block of declarations, or a default.
+const FRAMES: &[Frame] = &[["DECLARE ", "\nBEGIN"], ["DECLARE a b:=", ";BEGIN"]];
+
+/// The short text stands behind a type: alone, ahead of DEFAULT, or behind it.
+const TYPE_FRAMES: &[Frame] = &[
+    ["DECLARE a b", "\nBEGIN"],
+    ["DECLARE a b", " DEFAULT 1\nBEGIN"],
+    ["DECLARE a b DEFAULT", "\nBEGIN"],
+];
 
 fn run_functions(run: &mut Run) {
     run.long(FUNCTIONS, &long::FUNCTION_TEXTS);
-    let count = FRAMES.len() as u64 * every::count(run.options.longest - 1);
-    let title = format!("{} functions with all short texts in a frame", grouped(count));
-    run.texts(FUNCTIONS, title, count, 4096, |number, _| {
-        let [front, back] = FRAMES[number as usize % FRAMES.len()];
-        format!("{front}{}{back}", every::text(number / FRAMES.len() as u64))
-    });
+    run.framed("quotes", &every::QUOTING, FRAMES);
+    run.framed("what begins a default", &every::DEFAULTS, TYPE_FRAMES);
     run.random(FUNCTIONS, |random| match random.percent(80) {
         true => texts::function(random),
         false => texts::any(random),
@@ -92,7 +98,7 @@ fn run_joined(run: &mut Run) {
     let count = every::count(run.options.longest - 1);
     let title = format!("pairs with all {} short texts, where closed", grouped(count));
     run.shared(title, &joined::ROWS, count, 4096, |number, random, report| {
-        joined::short_front(&every::text(number), random, report);
+        joined::short_front(&every::QUOTING.text(number), random, report);
     });
     let bodies = run.random.div_ceil(joined::FRONTS);
     let pairs = grouped(bodies * joined::FRONTS);
@@ -158,7 +164,17 @@ impl Run<'_> {
         let longest = self.options.longest;
         let count = every::count(longest);
         let title = format!("all {} texts of up to {longest} bytes", grouped(count));
-        self.texts(list, title, count, 4096, |number, _| every::text(number));
+        self.texts(list, title, count, 4096, |number, _| every::QUOTING.text(number));
+    }
+
+    /// Functions with every text of up to one byte less in each of the frames.
+    fn framed(&mut self, bytes: &str, every: &Every, frames: &[Frame]) {
+        let count = frames.len() as u64 * every::count(self.options.longest - 1);
+        let title = format!("{} functions with all short texts of {bytes}", grouped(count));
+        self.texts(FUNCTIONS, title, count, 4096, |number, _| {
+            let [front, back] = frames[number as usize % frames.len()];
+            format!("{front}{}{back}", every.text(number / frames.len() as u64))
+        });
     }
 
     /// A list of comparisons on random texts.

@@ -11,11 +11,13 @@ pub struct Row {
     compared: u64,
     differing: u64,
     shown: Vec<String>,
+    /// Whether it only counts what other rows compare.
+    counts: bool,
 }
 
 impl Row {
     pub fn new(name: &'static str) -> Self {
-        Self { name, compared: 0, differing: 0, shown: Vec::new() }
+        Self { name, compared: 0, differing: 0, shown: Vec::new(), counts: false }
     }
 
     /// Counts one answer; `input` describes it where it differs.
@@ -30,8 +32,9 @@ impl Row {
         }
     }
 
-    /// Counts what is already compared in another row.
+    /// Counts a text or an answer of another row, if something holds for it.
     pub fn count(&mut self, holds: bool) {
+        self.counts = true;
         self.compared += u64::from(holds);
     }
 
@@ -40,6 +43,7 @@ impl Row {
         self.differing += other.differing;
         self.shown.extend(other.shown);
         self.shown.truncate(SHOWN);
+        self.counts |= other.counts;
     }
 }
 
@@ -69,7 +73,11 @@ impl fmt::Display for Report {
     fn fmt(&self, out: &mut fmt::Formatter<'_>) -> fmt::Result {
         for row in &self.rows {
             let (compared, differing) = (grouped(row.compared), grouped(row.differing));
-            writeln!(out, "  {:<30} {compared:>13} compared, {differing} differ", row.name)?;
+            write!(out, "  {:<30} {compared:>13}", row.name)?;
+            match row.counts {
+                true => writeln!(out)?,
+                false => writeln!(out, " compared, {differing} differ")?,
+            }
             for input in &row.shown {
                 writeln!(out, "    {input}")?;
             }

@@ -37,8 +37,9 @@ impl<'a> Subject<'a> {
 
     /// Counts one answer: the numbers must be the expected ones, and the buffers right.
     pub fn judge(&self, row: &mut Row, asked: Arguments, outcome: Outcome) {
+        let agrees = outcome.agrees();
         let Outcome { expected, got, buffers } = outcome;
-        row.note(expected == got && buffers, || {
+        row.note(agrees, || {
             let held = if buffers { "right" } else { "wrong" };
             format!("{:?} {asked}: {expected:?} expected, {got:?} got, buffers {held}", self.text)
         });
@@ -50,4 +51,10 @@ pub struct Outcome {
     pub expected: Answer,
     pub got: Answer,
     pub buffers: bool,
+}
+
+impl Outcome {
+    pub fn agrees(&self) -> bool {
+        self.expected == self.got && self.buffers
+    }
 }
