@@ -1,5 +1,7 @@
 //! Texts of the greatest length that a search or a call takes, and of one byte less.
 
+use reference::block::Block;
+use reference::defaults::Reasons;
 use texts::random::Random;
 
 use crate::bodies;
@@ -75,11 +77,36 @@ pub const FUNCTION_TEXTS: Long = Long {
     back: "\nBEGIN v := 1; END;",
     patterns: &[
         "a", ";", "a b;", "a b:=1;", "a b DEFAULT 1;", "a b;b c;", "DECLARE ", "-- c\n", "a ",
-        "a b := $1$'$1$;", "a b := $t$;$t$;", ":=", "DEFAULT ", "a b := ''''''''''';",
+        "a b := $1$'$1$;", "a b := $t$;$t$;", ":=", "DEFAULT ", "a b := ''''''''''';", "a b=1;",
+        "a b DEFAULT 1:=2;", "a b DEFAULT ':=';", "a b==1;", "a b=>1;", "=", "= ", "':='",
+        "':' = ",
     ],
     mixed: 12,
     piece: texts::any,
 };
+
+/// Many declarations that Note 2 leaves in the comparison.
+pub const DECLARING_TEXTS: Long = Long {
+    limit: TEXT_LIMIT,
+    front: "DECLARE ",
+    back: "\nBEGIN v := 1; END;",
+    patterns: &[],
+    mixed: 50,
+    piece: declarations,
+};
+
+/// Declarations up to a live semicolon. Such texts one behind the other stay compared too.
+fn declarations(random: &mut Random) -> String {
+    loop {
+        let text = texts::declarations(random);
+        let function = format!("DECLARE {text}BEGIN");
+        let is_closed = Block::of(&function)
+            .is_some_and(|block| block.back == "BEGIN" && block.parts.last() == Some(&""));
+        if is_closed && Reasons::of(&function).is_none() {
+            return text;
+        }
+    }
+}
 
 impl Long {
     pub fn title(&self) -> String {

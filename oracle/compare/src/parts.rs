@@ -25,7 +25,7 @@ pub const PARTS: [Part; 5] = [
     Part { name: "limits", random: 0, run: run_limits },
     Part { name: "searches", random: 2_000_000, run: run_searches },
     Part { name: "bodies", random: 5_000_000, run: run_bodies },
-    Part { name: "functions", random: 5_000_000, run: run_functions },
+    Part { name: "functions", random: 8_000_000, run: run_functions },
     Part { name: "joined", random: 5_000_000, run: run_joined },
 ];
 
@@ -86,9 +86,10 @@ const TYPE_FRAMES: &[Frame] = &[
 
 fn run_functions(run: &mut Run) {
     run.long(FUNCTIONS, &long::FUNCTION_TEXTS);
+    run.long(FUNCTIONS, &long::DECLARING_TEXTS);
     run.framed("quotes", &every::QUOTING, FRAMES);
     run.framed("what begins a default", &every::DEFAULTS, TYPE_FRAMES);
-    run.random(FUNCTIONS, |random| match random.percent(80) {
+    run.random(FUNCTIONS, |random| match random.percent(90) {
         true => texts::function(random),
         false => texts::any(random),
     });

@@ -1,24 +1,6 @@
 //! Whole functions: a block of declarations and a body behind it.
 
 use crate::shape::Shape;
-use crate::tokens;
-
-/// Defaults that are, or only look like, one dollar literal from end to end.
-const DOLLAR_DEFAULTS: &[&str] = &[
-    "$t$a'b$t$", "$$a$$ || $$b$$", "$$a$$", "$$$$", "$t$a;b$t$", "$$a$$ x", "$_$'$_$", "$$''$$",
-    "$1$1$", "$1$2$1$", "$1$2'3'$1$", "$1$ 1 $1$", "$2$1$2$ 1 $2$", "$1$", "$1$$1$ $$", "$1$1$1$",
-    "$12$3$12$", "$t$a$t$b$t$ $t$", "$1$(';')$1$", "$1", "$",
-];
-
-/// The same where the scanner reads on behind the end.
-const OPEN_DEFAULTS: &[&str] =
-    &["$1$a$1$", "$$", "$$$", "$t$t$", "$t$", "$a", "$1$a;b$1$", "$a-$b$a-$", "$t$a$T$", "$$a"];
-
-/// Defaults in which a sign of assignment or a keyword may hide.
-const HIDING_DEFAULTS: &[&str] = &[
-    "'a := b'", "/* := */ 1", "'x' DEFAULT 'y'", "DEFAULT", ":= 1", "'DEFAULT'", "1 -- c\n", "=",
-    "$a$ := $1$a$1$", "'b'DEFAULT", "\"DEFAULT\" DEFAULT 1",
-];
 
 impl Shape<'_> {
     pub fn function(&mut self) {
@@ -31,10 +13,7 @@ impl Shape<'_> {
             false => self.pick(&["", "DECLARED", "x.DECLARE", "$DECLARE", "'DECLARE'", "DECLARE;"]),
         }
         self.gap();
-        for _ in 0..self.random.between(0, 6) {
-            self.declaration();
-            self.pick(&["\n", " ", "", "\n  ", "\n", " -- c\n", " /* c */ ", "\x0b"]);
-        }
+        self.declarations();
         if self.random.percent(92) {
             self.words(&["BEGIN"]);
         }
@@ -45,6 +24,16 @@ impl Shape<'_> {
         self.pick(&["END;", "END", "end;", ""]);
     }
 
+    /// Some declarations. One that Note 2 takes out of the comparison takes its function with it, so
+    /// not all functions are free to have any sign.
+    pub fn declarations(&mut self) {
+        let is_free = self.random.percent(75);
+        for _ in 0..self.random.between(0, 6) {
+            self.declaration(is_free);
+            self.pick(&["\n", " ", "", "\n  ", "\n", " -- c\n", " /* c */ ", "\x0b"]);
+        }
+    }
+
     fn lead(&mut self) {
         match self.random.weighted(&[70, 15, 15]) {
             0 => {}
@@ -53,13 +42,22 @@ impl Shape<'_> {
         }
     }
 
-    fn declaration(&mut self) {
+    fn declaration(&mut self, is_free: bool) {
+        if is_free && self.random.percent(3) {
+            self.any_sign();
+        }
         self.odd_name();
         self.gap();
+        self.hidden_sign(is_free);
         self.data_type();
+        self.hidden_sign(is_free);
         self.loose();
-        self.default_part();
+        self.default_part(is_free);
+        self.hidden_sign(is_free);
         self.loose();
+        if is_free && self.random.percent(3) {
+            self.any_sign();
+        }
         match self.random.percent(94) {
             true => self.put(";"),
             false => self.pick(&["", ";;", "; ;", "x;", "\\;"]),
@@ -72,24 +70,6 @@ impl Shape<'_> {
             1 => self.words(&["CONSTANT", "int", "NOT", "NULL"]),
             2 => self.pick(&["varchar (10)", "int[]", "numeric(1, 2)", "\"b c\"", "\x1c", "a\0b"]),
             _ => self.put(""),
-        }
-    }
-
-    fn default_part(&mut self) {
-        match self.random.weighted(&[35, 35, 25, 5]) {
-            0 => return,
-            1 => self.put(":="),
-            2 => self.words(&["DEFAULT"]),
-            _ => self.pick(&["=", ": =", "DEFAULTS", "$DEFAULT", "'DEFAULT'", ":=:="]),
-        }
-        self.loose();
-        match self.random.weighted(&[32, 12, 30, 13, 10, 3]) {
-            0 => self.expression(1),
-            1 => self.put(""),
-            2 => self.pick(DOLLAR_DEFAULTS),
-            3 => self.pick(HIDING_DEFAULTS),
-            4 => self.pick(tokens::LITERALS),
-            _ => self.pick(OPEN_DEFAULTS),
         }
     }
 }

@@ -6,6 +6,7 @@ mod mutate;
 pub mod parts;
 pub mod random;
 mod shape;
+mod signs;
 mod statements;
 pub mod tokens;
 
@@ -25,12 +26,18 @@ pub fn body(random: &mut Random) -> String {
 
 /// A function: mostly declarations ahead of a body.
 pub fn function(random: &mut Random) -> String {
-    match random.weighted(&[40, 40, 14, 6]) {
+    match random.weighted(&[38, 38, 12, 5, 7]) {
         0 => shaped(random, 0, |shape| shape.function()),
         1 => shaped(random, 100, |shape| shape.function()),
         2 => body(random),
-        _ => row(random, tokens::token),
+        3 => row(random, tokens::token),
+        _ => format!("DECLARE a {}\nBEGIN", row(random, tokens::declaring_token)),
     }
+}
+
+/// Some declarations as they stand between DECLARE and BEGIN.
+pub fn declarations(random: &mut Random) -> String {
+    shaped(random, 30, |shape| shape.declarations())
 }
 
 /// A text in which quotes and comments matter most.

@@ -94,6 +94,20 @@ pub fn quoting_token(random: &mut Random) -> String {
     word.to_string()
 }
 
+/// One token of the kinds that declarations are read by.
+pub fn declaring_token(random: &mut Random) -> String {
+    let word = match random.weighted(&[28, 10, 22, 6, 12, 6, 16]) {
+        0 => random.pick(&[":=", "=", "==", "=>", ":", ">", "="]),
+        1 => return letter_case("DEFAULT", random),
+        2 => random.pick(IDENTIFIERS),
+        3 => ";",
+        4 => random.pick(SPACES),
+        5 => random.pick(LITERALS),
+        _ => return quoting_token(random),
+    };
+    word.to_string()
+}
+
 pub fn keyword(random: &mut Random) -> String {
     let word = random.pick(KEYWORDS);
     letter_case(word, random)
