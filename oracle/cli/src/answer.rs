@@ -2,8 +2,10 @@
 
 use reference::context::PlPgSqlContext;
 use reference::declarations::{self, Declaration};
+use reference::defaults::Reasons;
 use reference::preprocessor::PlPgSqlPreprocessor;
 use reference::records::{first_declared, Records};
+use reference::respelling::as_wanted;
 use reference::scanner::{Region, Scanner};
 use reference::Error;
 
@@ -35,6 +37,7 @@ pub fn answer(question: &Question) -> Result<String, String> {
         }
         Question::Unterminated(text) => flag(Scanner::new(text).has_unterminated_dollar_quote()),
         Question::Handler(text) => flag(PlPgSqlPreprocessor::has_exception_handler(text)),
+        Question::Compared(text) => flag(Reasons::of(text).is_none()),
     })
 }
 
@@ -71,6 +74,14 @@ pub fn preprocessed(text: &str) -> Result<Function, String> {
         Err(error) => (refused(&error)?, Records::default()),
     };
     Ok(Function { text: Runs::one(text.as_bytes()), answer, records })
+}
+
+/// The same as Note 2 wants it. `None` if the reference cannot tell, since the text is no longer
+/// compared and cannot be respelled.
+pub fn preprocessed_as_wanted(text: &str) -> Result<Option<Function>, String> {
+    let Some(spelling) = as_wanted(text) else { return Ok(None) };
+    let function = preprocessed(&spelling)?;
+    Ok(Some(Function { text: Runs::one(text.as_bytes()), ..function }))
 }
 
 fn fields(declaration: &Declaration) -> String {

@@ -18,6 +18,7 @@ pub enum Question {
     RequotedLength(String),
     Unterminated(String),
     Handler(String),
+    Compared(String),
 }
 
 impl Question {
@@ -39,6 +40,7 @@ impl Question {
             ["requoted_length", t] => Self::RequotedLength(text(t)?),
             ["unterminated", t] => Self::Unterminated(text(t)?),
             ["handler", t] => Self::Handler(text(t)?),
+            ["compared", t] => Self::Compared(text(t)?),
             _ => return Err("no known question with this number of fields".to_string()),
         })
     }
@@ -76,6 +78,7 @@ impl fmt::Display for Question {
             Self::RequotedLength(t) => write!(out, "requoted_length {}", coded(t)),
             Self::Unterminated(t) => write!(out, "unterminated {}", coded(t)),
             Self::Handler(t) => write!(out, "handler {}", coded(t)),
+            Self::Compared(t) => write!(out, "compared {}", coded(t)),
         }
     }
 }

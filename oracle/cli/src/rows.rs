@@ -69,6 +69,15 @@ fn maps_and_requoting() {
 }
 
 #[test]
+fn whether_a_function_is_compared() {
+    check("compared", "", "", "1");
+    check("compared", "DECLARE a b := 1; BEGIN v = 1;", "", "1");
+    check("compared", "DECLARE a b = 1; BEGIN", "", "0");
+    check("compared", "DECLARE a b; tag text DEFAULT ':='; BEGIN", "", "0");
+    check("compared", "DECLARE a b DEFAULT 1 := 2 BEGIN", "", "0");
+}
+
+#[test]
 fn searches() {
     check("find_keyword", "a 'b' B", " 62 0", "1 6");
     check("find_keyword", "a", " - 0", "0 0");

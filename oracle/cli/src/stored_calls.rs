@@ -6,7 +6,7 @@ use std::io::Write;
 
 use texts::random::Random;
 
-use crate::answer::{preprocessed, rewritten};
+use crate::answer::{preprocessed_as_wanted, rewritten};
 use crate::body_limits;
 use crate::body_rows;
 use crate::call_faults;
@@ -56,8 +56,7 @@ fn write_functions(count: u64, seed: u64, out: &mut impl Write) -> Result<(), St
     let (mut random, mut lengths) = (Random::new(seed), Random::new(seed));
     writeln!(out, "s {RANDOM_FUNCTIONS}")?;
     for _ in 0..count {
-        let text = texts::function(&mut random);
-        let function = preprocessed(&text).map_err(Stop::Question)?;
+        let function = any_function(&mut random)?;
         function.write_calls(&[any_lent(FUNCTION_LEAST, &mut lengths)], out)?;
     }
     writeln!(out, "s {FUNCTION_ROWS}")?;
@@ -65,6 +64,17 @@ fn write_functions(count: u64, seed: u64, out: &mut impl Write) -> Result<(), St
     write_all(rows, &[FUNCTION_LEAST, [SIZE + 1, 70_000, SIZE + 9, SIZE + 3, 4_105]], out)?;
     writeln!(out, "s {FUNCTION_LIMITS}")?;
     Ok(function_limits::write(out)?)
+}
+
+/// A random function with the answer that Note 2 wants; those that the reference cannot tell are
+/// passed over.
+fn any_function(random: &mut Random) -> Result<Function, Stop> {
+    loop {
+        let text = texts::function(random);
+        if let Some(function) = preprocessed_as_wanted(&text).map_err(Stop::Question)? {
+            return Ok(function);
+        }
+    }
 }
 
 /// Lengths that are enough: exact ones, or a few more.
