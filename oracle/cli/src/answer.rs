@@ -1,11 +1,11 @@
 //! The answer of the reference to one question, in the line format.
 
 use reference::context::PlPgSqlContext;
-use reference::declarations::{self, Declaration};
+use reference::declarations::Declaration;
 use reference::defaults::Reasons;
 use reference::preprocessor::PlPgSqlPreprocessor;
-use reference::records::{first_declared, Records};
-use reference::respelling::as_wanted;
+use reference::reading::Reading;
+use reference::records::Records;
 use reference::scanner::{Region, Scanner};
 use reference::Error;
 
@@ -54,9 +54,9 @@ pub fn rewritten(text: &str) -> Result<Answer, String> {
 }
 
 fn function(text: &str) -> Result<String, String> {
-    match PlPgSqlPreprocessor::preprocess(text) {
-        Ok((output, context)) => {
-            let list = declarations::list(&context)?;
+    let Reading { output, list, .. } = Reading::published(text)?;
+    match output {
+        Ok(output) => {
             let fields: String = list.iter().map(|one| format!(" {}", fields(one))).collect();
             Ok(numbers(&Answer::accepted(&output), list.len()) + &fields)
         }
@@ -64,24 +64,18 @@ fn function(text: &str) -> Result<String, String> {
     }
 }
 
-/// The answer to a function, with its records, before it is put into a line.
-pub fn preprocessed(text: &str) -> Result<Function, String> {
-    let (answer, records) = match PlPgSqlPreprocessor::preprocess(text) {
-        Ok((output, context)) => {
-            let list = declarations::list(&context)?;
-            (Answer::accepted(&output), Records::new(&first_declared(text), &list))
-        }
+/// A function with the answer and the records that Note 2 wants. `None` if the reference cannot tell
+/// them: the text is no longer compared, and it cannot be respelled.
+pub fn preprocessed(text: &str) -> Result<Option<Function>, String> {
+    Reading::wanted(text)?.map(|reading| stored(text, reading)).transpose()
+}
+
+fn stored(text: &str, Reading { output, list, order }: Reading) -> Result<Function, String> {
+    let (answer, records) = match output {
+        Ok(output) => (Answer::accepted(&output), Records::new(&order, &list)),
         Err(error) => (refused(&error)?, Records::default()),
     };
     Ok(Function { text: Runs::one(text.as_bytes()), answer, records })
-}
-
-/// The same as Note 2 wants it. `None` if the reference cannot tell, since the text is no longer
-/// compared and cannot be respelled.
-pub fn preprocessed_as_wanted(text: &str) -> Result<Option<Function>, String> {
-    let Some(spelling) = as_wanted(text) else { return Ok(None) };
-    let function = preprocessed(&spelling)?;
-    Ok(Some(Function { text: Runs::one(text.as_bytes()), ..function }))
 }
 
 fn fields(declaration: &Declaration) -> String {

@@ -183,7 +183,7 @@ mod tests {
         for expected in checked() {
             let text = text_of(&expected);
             assert!(Reasons::of(&text).is_none(), "{text}");
-            let got = preprocessed(&text).unwrap();
+            let got = preprocessed(&text).unwrap().unwrap();
             if ![6, 7].contains(&expected.answer.number) {
                 assert_eq!(got.answer.number, expected.answer.number, "{text}");
                 assert_eq!(got.answer.place, expected.answer.place, "{text}");
@@ -207,7 +207,7 @@ mod tests {
         let lengths: Vec<_> = names_pass().map(|function| text_of(&function).len()).collect();
         assert!(lengths.contains(&LIMIT));
         assert_eq!(text_of(&longest_default()).len(), LIMIT);
-        let output = |function| preprocessed(&text_of(&function)).unwrap().answer.output;
+        let output = |function| preprocessed(&text_of(&function)).unwrap().unwrap().answer.output;
         assert_eq!(long_results().map(|one| output(one).len()), [SIZE, SIZE + 1]);
     }
 }

@@ -204,20 +204,16 @@ const DEFAULTS: &[(&str, &str, &str)] = &[
 #[cfg(test)]
 mod tests {
     use super::*;
-    use crate::answer::preprocessed_as_wanted;
+    use crate::answer::preprocessed;
     use reference::defaults::Reasons;
 
-    /// On the text itself while it is still compared, else on the respelled one. Both occur, and so
-    /// do texts that cannot be respelled.
+    /// On the text itself while it is still compared, else on the respelled one. Both occur.
     #[test]
     fn the_reference_agrees() {
-        let (mut compared, mut respelled, mut untold) = (0, 0, 0);
+        let (mut compared, mut respelled) = (0, 0);
         for expected in all() {
             let text = String::from_utf8(expected.text.bytes()).unwrap();
-            let Some(got) = preprocessed_as_wanted(&text).unwrap() else {
-                untold += 1;
-                continue;
-            };
+            let got = preprocessed(&text).unwrap().unwrap();
             match Reasons::of(&text).is_none() {
                 true => compared += 1,
                 false => respelled += 1,
@@ -227,7 +223,7 @@ mod tests {
             assert_eq!(got.answer.output.bytes(), expected.answer.output.bytes(), "{text:?}");
             assert_eq!(got.records, expected.records, "{text:?}");
         }
-        assert!(compared > 0 && respelled > 0 && untold > 0, "{compared} {respelled} {untold}");
+        assert!(compared > 0 && respelled > 0, "{compared} {respelled}");
     }
 
     /// The records of one function, by hand.

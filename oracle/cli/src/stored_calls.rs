@@ -6,7 +6,7 @@ use std::io::Write;
 
 use texts::random::Random;
 
-use crate::answer::{preprocessed_as_wanted, rewritten};
+use crate::answer::{preprocessed, rewritten};
 use crate::body_limits;
 use crate::body_rows;
 use crate::call_faults;
@@ -66,12 +66,12 @@ fn write_functions(count: u64, seed: u64, out: &mut impl Write) -> Result<(), St
     Ok(function_limits::write(out)?)
 }
 
-/// A random function with the answer that Note 2 wants; those that the reference cannot tell are
-/// passed over.
+/// A random function with the answer that Note 2 wants; one that the reference cannot tell is passed
+/// over.
 fn any_function(random: &mut Random) -> Result<Function, Stop> {
     loop {
         let text = texts::function(random);
-        if let Some(function) = preprocessed_as_wanted(&text).map_err(Stop::Question)? {
+        if let Some(function) = preprocessed(&text).map_err(Stop::Question)? {
             return Ok(function);
         }
     }

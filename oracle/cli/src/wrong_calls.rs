@@ -194,7 +194,7 @@ mod tests {
             if matches!(expected.answer.number, 0 | 4 | 5) {
                 let text = String::from_utf8(expected.text.bytes()).unwrap();
                 assert!(Reasons::of(&text).is_none(), "{text}");
-                let got = preprocessed(&text).unwrap();
+                let got = preprocessed(&text).unwrap().unwrap();
                 assert_eq!(got.answer.number, expected.answer.number, "{}", expected.text);
                 assert_eq!(got.answer.place, expected.answer.place, "{}", expected.text);
                 assert!(got.answer.output.bytes() == expected.answer.output.bytes());

@@ -1,14 +1,13 @@
 //! The function call: the four numbers, and every byte and number of its five buffers.
 //!
-//! A text that Note 2 takes out of the comparison is compared with the reference's answer to the
-//! respelled text, if it can be respelled.
+//! A text that Note 2 takes out of the comparison is compared with what the reference reads in the
+//! respelled text.
 
 use library::Answer;
-use reference::declarations::{self, Declaration};
+use reference::declarations::Declaration;
 use reference::defaults::Reasons;
-use reference::preprocessor::PlPgSqlPreprocessor;
-use reference::records::{chain_leads_through, first_declared, Records};
-use reference::respelling::respelled;
+use reference::reading::Reading;
+use reference::records::{chain_leads_through, Records};
 
 use crate::bodies::numbered;
 use crate::calls::{BUFFER_SIZE, RECORD_NUMBERS};
@@ -18,6 +17,8 @@ use crate::subject::{Outcome, Subject};
 
 /// The most names that are declared.
 const NAMES: usize = 512;
+
+const READABLE: &str = "a readable context";
 
 /// The texts that are still compared; those taken out, with how many have each reason; those of them
 /// that are compared after respelling, and those that do not give what the reference gives as written.
@@ -33,7 +34,7 @@ pub fn preprocess(subject: &mut Subject, rows: &mut [Row]) {
     let least = [BUFFER_SIZE, BUFFER_SIZE, BUFFER_SIZE, BUFFER_SIZE, RECORD_NUMBERS];
     let lengths = least.map(|length| length + subject.random.below(4));
     let mut made = Made::new(subject.bytes(), &lengths);
-    let as_written = made.outcome(&expected(subject.text));
+    let as_written = made.outcome(&Expected::published(subject.text));
 
     let reasons = Reasons::of(subject.text);
     taken_out.count(!reasons.is_none());
@@ -43,9 +44,9 @@ pub fn preprocess(subject: &mut Subject, rows: &mut [Row]) {
     unlike.count(!reasons.is_none() && !as_written.agrees());
     if reasons.is_none() {
         subject.judge(compared, format_args!(""), as_written);
-    } else if let Some(text) = respelled(subject.text) {
-        let outcome = made.outcome(&expected(&text));
-        subject.judge(after_respelling, format_args!("read as {text:?}"), outcome);
+    } else if let Some(reading) = Reading::respelled(subject.text).expect(READABLE) {
+        let outcome = made.outcome(&Expected::new(reading));
+        subject.judge(after_respelling, format_args!("respelled"), outcome);
     }
 }
 
@@ -55,7 +56,7 @@ pub fn limited(text: &str, lengths: &[Vec<usize>], number: u32) -> Vec<Outcome> 
     assert!(Reasons::of(text).is_none(), "a text at the limits is still compared");
     let expected = match number {
         6 => Expected::refused([6, 0, 0, 0], Vec::new()),
-        _ => expected(text),
+        _ => Expected::published(text),
     };
     let outcome = |lengths: &Vec<usize>| Made::new(text.as_bytes(), lengths).outcome(&expected);
     lengths.iter().map(outcome).collect()
@@ -71,28 +72,26 @@ struct Expected {
 }
 
 impl Expected {
+    fn published(text: &str) -> Self {
+        Self::new(Reading::published(text).expect(READABLE))
+    }
+
+    fn new(Reading { output, list, order }: Reading) -> Self {
+        if order.len() > NAMES {
+            return Self::refused([7, 0, 0, 0], Vec::new());
+        }
+        let (mut answer, output) = numbered(output);
+        if answer[0] != 0 {
+            return Self::refused(answer, output);
+        }
+        answer[3] = list.len() as u32;
+        Self { answer, output, records: Records::new(&order, &list), list }
+    }
+
     /// A refusal leaves no records and no declaration text.
     fn refused(answer: Answer, output: Vec<u8>) -> Self {
         Self { answer, output, records: Records::default(), list: Vec::new() }
     }
-}
-
-fn expected(text: &str) -> Expected {
-    let order = first_declared(text);
-    if order.len() > NAMES {
-        return Expected::refused([7, 0, 0, 0], Vec::new());
-    }
-    let (given, context) = match PlPgSqlPreprocessor::preprocess(text) {
-        Ok((output, context)) => (Ok(output), Some(context)),
-        Err(error) => (Err(error), None),
-    };
-    let (mut answer, output) = numbered(given);
-    let Some(context) = context.filter(|_| answer[0] == 0) else {
-        return Expected::refused(answer, output);
-    };
-    let list = declarations::list(&context).expect("a readable context");
-    answer[3] = list.len() as u32;
-    Expected { answer, output, records: Records::new(&order, &list), list }
 }
 
 /// What the call made of a text that its checks let pass: its answer and its buffers.

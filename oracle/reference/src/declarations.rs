@@ -5,7 +5,7 @@
 
 use crate::context::PlPgSqlContext;
 
-#[derive(Debug, PartialEq)]
+#[derive(Debug)]
 pub struct Declaration {
     pub name: String,
     pub data_type: String,

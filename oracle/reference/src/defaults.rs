@@ -70,12 +70,6 @@ impl Signs {
         [assign, equals, keyword].into_iter().flatten().min()
     }
 
-    /// Whether a quoted `:=` stands ahead of the default, or in a part without one.
-    pub(crate) fn has_quoted_assign_ahead(&self) -> bool {
-        let end = self.beginning().map_or(usize::MAX, |(place, _)| place);
-        self.quoted_assigns.first().is_some_and(|place| *place < end)
-    }
-
     fn reasons(&self) -> Reasons {
         let mut others = self.live_assigns.iter().chain(&self.keyword);
         let last_assign = self.live_assigns.last();

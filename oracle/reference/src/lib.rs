@@ -8,6 +8,7 @@ extern crate alloc;
 pub mod block;
 pub mod declarations;
 pub mod defaults;
+pub mod reading;
 pub mod records;
 pub mod respelling;
 

@@ -3,48 +3,49 @@
 //! What a default stands behind becomes `:=`. All other bytes stay as live or quoted as they were:
 //! a live `=` or DEFAULT opens no span, and none can be part of a dollar literal's tag, since DEFAULT
 //! has no word byte and no `$` beside it; `:=` is the same. For that reason no word grows or shrinks.
-
-use std::borrow::Cow;
+//!
+//! The published source would begin a default at a quoted `:=` ahead of it, so there the colon becomes
+//! another byte, which is put back in the names and types that are read. Inside a span neither of the
+//! two bytes means anything.
 
 use crate::block::Block;
-use crate::defaults::{Reasons, Signs};
+use crate::defaults::Signs;
 
-/// The text with every default behind `:=`. `None` if the published source would begin a default
-/// at a quoted `:=` of a part even then.
+/// Stands for a quoted colon. It is no white space, and the scanner knows it no more than a colon.
+const STAND_IN: &str = "\x01";
+
+/// The text with every default behind its first `:=`. `None` if it holds the byte that stands in.
 pub fn respelled(text: &str) -> Option<String> {
+    if text.contains(STAND_IN) {
+        return None;
+    }
     let Some(Block { front, parts, back }) = Block::of(text) else {
         return Some(text.to_string());
     };
-    let parts: Option<Vec<String>> = parts.into_iter().map(respelled_part).collect();
-    Some(format!("{front}{}{back}", parts?.join(";")))
+    let parts: Vec<String> = parts.into_iter().map(respelled_part).collect();
+    Some(format!("{front}{}{back}", parts.join(";")))
 }
 
-/// The first `:=` must be the one that is put in; a part without a default must have none.
-fn respelled_part(part: &str) -> Option<String> {
-    let signs = Signs::of(part);
-    if signs.has_quoted_assign_ahead() {
-        return None;
+fn respelled_part(part: &str) -> String {
+    let hidden = |ahead: &str| ahead.replace(":=", &format!("{STAND_IN}="));
+    match Signs::of(part).beginning() {
+        Some((place, length)) => {
+            format!("{}:={}", hidden(&part[..place]), &part[place + length..])
+        }
+        None => hidden(part),
     }
-    Some(match signs.beginning() {
-        Some((place, length)) => format!("{}:={}", &part[..place], &part[place + length..]),
-        None => part.to_string(),
-    })
 }
 
-/// The text whose answer by the published source is the one that Note 2 wants: the text itself while
-/// it is still compared, else the respelled one, if there is one.
-pub fn as_wanted(text: &str) -> Option<Cow<'_, str>> {
-    match Reasons::of(text).is_none() {
-        true => Some(Cow::Borrowed(text)),
-        false => respelled(text).map(Cow::Owned),
-    }
+/// A name or a type as it stood in the text before respelling.
+pub fn put_back(read: &str) -> String {
+    read.replace(STAND_IN, ":")
 }
 
 #[cfg(test)]
 mod tests {
     use super::*;
-    use crate::declarations::{self, Declaration};
-    use crate::preprocessor::PlPgSqlPreprocessor;
+    use crate::defaults::Reasons;
+    use crate::reading::Reading;
     use crate::scanner::{Region, Scanner};
     use texts::random::Random;
 
@@ -58,13 +59,13 @@ mod tests {
             ("DECLARE tag text DEFAULT ':=';BEGIN", "DECLARE tag text := ':=';BEGIN"),
             ("DECLARE;=;;a=BEGIN=", "DECLARE;:=;;a:=BEGIN="),
             ("DECLARE a b = 1;", "DECLARE a b = 1;"),
+            ("DECLARE a b /* := */ = ':='; BEGIN", "DECLARE a b /* \x01= */ := ':='; BEGIN"),
+            ("DECLARE \":=\" b -- :=\nBEGIN", "DECLARE \"\x01=\" b -- \x01=\nBEGIN"),
         ];
         for (text, expected) in texts {
             assert_eq!(respelled(text).as_deref(), Some(expected));
         }
-        for part in ["a b /* := */ := 2", "a \":=\" = 1", "a b -- :=\n", "':='"] {
-            assert_eq!(respelled(&format!("DECLARE x y; {part}; BEGIN")), None, "{part:?}");
-        }
+        assert_eq!(respelled("DECLARE a b = \x01; BEGIN"), None);
     }
 
     fn random_functions() -> impl Iterator<Item = String> {
@@ -74,7 +75,8 @@ mod tests {
 
     /// The bytes and their regions, but for what the defaults stand behind.
     fn rest(text: &str) -> Vec<(u8, Region)> {
-        let mut rest: Vec<_> = text.bytes().zip(Scanner::new(text).regions()).map(Some).collect();
+        let regions = Scanner::new(text).regions();
+        let mut rest: Vec<_> = put_back(text).bytes().zip(regions).map(Some).collect();
         let Some(block) = Block::of(text) else {
             return rest.into_iter().flatten().collect();
         };
@@ -98,22 +100,17 @@ mod tests {
         }
     }
 
-    fn published(text: &str) -> Result<(String, Vec<Declaration>), String> {
-        let (output, context) =
-            PlPgSqlPreprocessor::preprocess(text).map_err(|error| format!("{error:?}"))?;
-        Ok((output, declarations::list(&context)?))
-    }
-
     /// Each reason alone changes what is read; without one nothing is changed.
     #[test]
     fn only_texts_with_a_reason_are_read_in_another_way() {
         let mut unlike = Vec::new();
         for text in random_functions() {
-            let Some(new) = respelled(&text) else { continue };
+            let published = format!("{:?}", Reading::published(&text).unwrap());
+            let respelled = format!("{:?}", Reading::respelled(&text).unwrap().unwrap());
             let reasons = Reasons::of(&text);
             if reasons.is_none() {
-                assert_eq!(published(&text), published(&new), "{text:?}");
-            } else if published(&text) != published(&new) {
+                assert_eq!(published, respelled, "{text:?}");
+            } else if published != respelled {
                 unlike.push(reasons);
             }
         }
