@@ -1,8 +1,8 @@
 //! Where a default begins by Note 2, and which functions leave the comparison for it.
 //!
 //! The published source begins a default behind the first `:=` of a part, quoted or not, and only
-//! without one behind the first live DEFAULT. Note 2 takes the first live `:=`, live lone `=` or
-//! live DEFAULT, whichever is leftmost.
+//! without one behind the first live DEFAULT. By Note 2 the leftmost of three live signs decides:
+//! `:=`, DEFAULT and a lone `=`.
 
 use crate::block;
 use crate::scanner::{Region, Scanner};
