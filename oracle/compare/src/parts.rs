@@ -77,11 +77,12 @@ type Frame = [&'static str; 2];
 /// The short text is a whole block of declarations, or a default.
 const FRAMES: &[Frame] = &[["DECLARE ", "\nBEGIN"], ["DECLARE a b:=", ";BEGIN"]];
 
-/// The short text stands behind a type: alone, ahead of DEFAULT, or behind it.
+/// The short text stands behind a type: alone, ahead of DEFAULT, behind it, or in a literal.
 const TYPE_FRAMES: &[Frame] = &[
     ["DECLARE a b", "\nBEGIN"],
     ["DECLARE a b", " DEFAULT 1\nBEGIN"],
     ["DECLARE a b DEFAULT", "\nBEGIN"],
+    ["DECLARE a b'", "' := 1\nBEGIN"],
 ];
 
 fn run_functions(run: &mut Run) {
