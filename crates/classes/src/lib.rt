@@ -1,7 +1,11 @@
 // Bytes: document 01's byte sets, letter case, and bytes of a text.
 ghost use mathlib.Core.Path.{_≡_};
-ghost use lib.ListN.{getD};
+ghost use mathlib.Core.List.{List};
+ghost use Prim.Native.Nat.{_≤_};
+ghost use lib.ListN.{length, getD, drop};
 ghost use Rattle.spec.specs.Bytes.{within, isIdent, isWord, isW, isN, upper, isPair, isPrefix};
+ghost use Rattle.spec.specs.Map.{Marked, bytes};
+ghost use Rattle.spec.specs.Assignments.{loneEquals};
 
 // Whether lo <= b <= hi.
 pub fn in_range(lo: u8, hi: u8, b: u8) -> bool
@@ -88,4 +92,23 @@ pub fn starts_with(text: &[u8], pat: &[u8]) -> bool
         }
     }
     true
+}
+
+// Whether `=` stands at i, and neither `==` nor `=>`.
+pub fn lone_equals(text: &[u8], i: usize) -> bool
+    requires { ⌜ i ≤ length (now text) ⌝ }
+    ensures { λ r. ⌜ ((t : List Marked) → bytes t ≡ now (text .entry) → r ≡ loneEquals (drop i t)) ⌝ }
+{
+    if byte_at(text, i) == b'=' {
+        let next = byte_at(text, i + 1);
+        if next == b'=' {
+            false
+        } else if next == b'>' {
+            false
+        } else {
+            true
+        }
+    } else {
+        false
+    }
 }

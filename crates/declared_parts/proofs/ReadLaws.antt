@@ -12,15 +12,15 @@ use Rattle.spec.proofs.ListLaws.{empty-length}
 use Rattle.spec.proofs.MapLaws.{marked-length}
 use Rattle.spec.proofs.PartLaws.{marked-part, bytes-part}
 use Rattle.spec.proofs.WalkLaws.{while-take}
-use Rattle.spec.specs.Bytes.{ascii, isW}
+use Rattle.spec.specs.Bytes.{isW}
 use Rattle.spec.specs.Lists.{isEmpty, takeWhile, dropWhile, dropEnd}
 use Rattle.spec.specs.Map.{Marked, bytes, marked, ofByte}
-use Rattle.spec.specs.Search.{first, keywordHere}
+use Rattle.spec.specs.Search.{first}
 use Rattle.spec.specs.Parts.{trim, trimEnd, part}
-use Rattle.spec.specs.Declarations.{words, declaredOf, partAt, declaration}
+use Rattle.spec.specs.Declarations.{words, declaredOf, defaultHere, partAt, declaration}
 use Rattle.spec.specs.declared.Found.{Found}
 use Rattle.spec.specs.declared.Found.the-variants.{At, Nothing}
-use Rattle.declared_parts.specs.DeclaredParts.{walrusHere, cutOf, cutIn, valueOf, defaultBy, declaredBy, partNumbers, readOf}
+use Rattle.declared_parts.specs.DeclaredParts.{cutOf, cutIn, valueOf, defaultBy, declaredBy, partNumbers, readOf}
 use Rattle.declared_parts.specs.declared.Cut.{Cut}
 use Rattle.declared_parts.specs.declared.DeclarationPlaces.{DeclarationPlaces}
 use Rattle.declared_parts.proofs.BetweenLaws.{frontEnd, endLen, between-length, drop-between, take-between, behind-front, ahead-of-end}
@@ -70,17 +70,16 @@ trimmed xs ms a b s e p q h =
 
 -- ---- one part
 
-cut-part : (f g : Found) (t : List Marked)
-    → partAt f 2 g 7 t ≡ declaredOf (words (take (cutOf f g (length t) .head) t)) (valueOf (cutOf f g (length t) .present) (bytes (trim (drop (cutOf f g (length t) .rest) t))))
+cut-part : (f : Found) (t : List Marked)
+    → partAt f t ≡ declaredOf (words (take (cutOf f t .head) t)) (valueOf (cutOf f t .present) (bytes (trim (drop (cutOf f t .rest) t))))
 unfolding partAt
-cut-part (At i) g t = refl
-cut-part Nothing (At i) t = refl
-cut-part Nothing Nothing t = rw (take-all (length t) t (omega arith)) refl
+cut-part (At i) t = refl
+cut-part Nothing t = rw (take-all (length t) t (omega arith)) refl
 
 pub cut-declaration : (part t : List Marked) (c : Cut) → trim part ≡ t → c ≡ cutIn t
     → declaration part ≡ declaredOf (words (take (c .head) t)) (valueOf (c .present) (bytes (trim (drop (c .rest) t))))
 unfolding declaration cutIn
-cut-declaration part t c e k = rw (e, k) (cut-part (first walrusHere 0 t) (first (keywordHere (ascii "DEFAULT")) 0 t) t)
+cut-declaration part t c e k = rw (e, k) (cut-part (first defaultHere 0 t) t)
 
 -- the places that are read, each by the one before
 pub record Places (xs : List ℕ) (from to start end : ℕ) (c : Cut) (p : DeclarationPlaces) : Type 0 where

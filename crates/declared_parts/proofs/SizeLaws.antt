@@ -77,27 +77,24 @@ words-le t o d h =
     choice true e q s = absurd (apart (cc))
     choice false e q s = let z : e ≡ d = cc in rw z at s
 
-fits : (t : List Marked) → (cutIn t .head ≤ cutIn t .rest) × (cutIn t .rest ≤ length t)
-unfolding cutIn
-fits t = (cut-fits t .ordered, cut-fits t .within)
-
 pub packed-part : (part : List Marked) (d : Declared) → declaration part ≡ some d → length (packedRecord d) ≤ 2 * length part
 unfolding packedRecord
 packed-part part d h =
     let t = trim part in
     let c = cutIn t in
-    let f = fits t in
+    let f = cut-fits t in
     let rest = trim (drop (c .rest) t) in
     let s = words-le (take (c .head) t) (valueOf (c .present) (bytes rest)) d (sym (cut-declaration part t c refl refl) ∙ h) in
     omega (
       arith,
-      f,
+      f .ordered,
+      f .within,
       s .front,
       ap (λ o. length (textOr o)) (s .default),
       value-le (c .present) rest,
       trim-le (drop (c .rest) t),
       length-drop (c .rest) t,
-      length-take-le (c .head) t (omega arith),
+      length-take-le (c .head) t (omega (arith, f .ordered, f .within)),
       trim-le part,
       length-append (d .name) (d .type ++ textOr (d .default)),
       length-append (d .type) (textOr (d .default)),

@@ -1,27 +1,22 @@
 -- One part of the declarations by places in its text. Assumes nothing.
-use mathlib.Core.Path.{_≡_}
 use Prim.Native.Nat.{ℕ, _+_, _-_, _≤_}
 use mathlib.Core.Bool.{Bool, true, false, cond, _&&_}
-use mathlib.Core.List.{List, [], _∷_}
+use mathlib.Core.List.{List, [], _∷_, reverse}
 use mathlib.Core.Option.{Option, none, some}
 use lib.Dec.{eqb, leb}
 use lib.ListN.{length, getD, take, drop}
-use Rattle.spec.specs.Bytes.{ascii, isW, isPrefix, isSame}
-use Rattle.spec.specs.Map.{Marked, marked}
-use Rattle.spec.specs.Search.{Test, first, keywordHere, starts}
-use Rattle.spec.specs.Declarations.{Declared, requotedDefault}
+use Rattle.spec.specs.Bytes.{isW, isPrefix, isSame}
+use Rattle.spec.specs.Map.{Marked}
+use Rattle.spec.specs.Search.{first}
+use Rattle.spec.specs.Declarations.{Declared, requotedDefault, defaultHere, keyLength}
 use Rattle.spec.specs.declared.Found.{Found}
 use Rattle.spec.specs.declared.Found.the-variants.{At, Nothing}
 use Rattle.declared_parts.specs.declared.Cut.{Cut}
 use Rattle.declared_parts.specs.declared.DeclarationPlaces.{DeclarationPlaces}
 
--- `:=` stands here, live or not
-abbrev pub walrusHere : Test
-walrusHere back u = starts (ascii ":=") u
-
--- r is the first place of `:=` in xs; the map does not matter
-abbrev pub WalrusAt : List ℕ → Found → Type 0
-WalrusAt xs r = (ms : List ℕ) → r ≡ first walrusHere 0 (marked xs ms)
+-- how many bytes of a default key stand at i, 0 if none does
+unfoldable pub keyAt : List Marked → ℕ → ℕ
+keyAt t i = cond (defaultHere (reverse (take i t)) (drop i t)) (keyLength (drop i t)) 0
 
 -- the words of a text that does not start with W, joined by single spaces; g: W stood before
 unfoldable pub spaced : Bool → List ℕ → List ℕ
@@ -33,14 +28,13 @@ spaced g (c ∷ cs) =
     let plain = cond g after here in
     cond (isW c) gap plain
 
--- the default by the first `:=` and by the first DEFAULT, in a text of n bytes
-abbrev pub cutOf : Found → Found → ℕ → Cut
-cutOf (At i) f n = record { head = i; rest = i + 2; present = 1 }
-cutOf Nothing (At i) n = record { head = i; rest = i + 7; present = 1 }
-cutOf Nothing Nothing n = record { head = n; rest = n; present = 0 }
+-- the default of t by the place of its key
+abbrev pub cutOf : Found → List Marked → Cut
+cutOf (At i) t = record { head = i; rest = i + keyLength (drop i t); present = 1 }
+cutOf Nothing t = record { head = length t; rest = length t; present = 0 }
 
 unfoldable pub cutIn : List Marked → Cut
-cutIn t = cutOf (first walrusHere 0 t) (first (keywordHere (ascii "DEFAULT")) 0 t) (length t)
+cutIn t = cutOf (first defaultHere 0 t) t
 
 -- a default that is there if the number is not 0
 abbrev pub valueOf : ℕ → List ℕ → Option (List ℕ)

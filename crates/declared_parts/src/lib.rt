@@ -1,5 +1,7 @@
 // One part of the declarations: where its name, its type's words and its default stand, and how they are written.
+use classes::byte_at;
 use classes::is_w;
+use classes::lone_equals;
 use classes::starts_with;
 use output::put;
 use output::put_all;
@@ -7,20 +9,20 @@ use output::put_single_quoted;
 use runs::Set;
 use runs::run_end;
 use runs::run_start;
-use scanner::find_keyword_in;
-use spec::Found;
+use scanner::keyword_at;
 ghost use mathlib.Core.Path.{_≡_};
 ghost use mathlib.Core.Bool.{false};
+ghost use mathlib.Core.List.{List, reverse};
 ghost use Prim.Native.Nat.{_+_, _*_, _^_, _≤_, _<_};
 ghost use lib.ListN.{length, take, drop};
 ghost use lib.Seq.{sets};
 ghost use Rattle.spec.specs.Bytes.{isW, isSame, isBefore};
 ghost use Rattle.spec.specs.Lists.{takeWhile, dropEnd};
-ghost use Rattle.spec.specs.Map.{marked};
-ghost use Rattle.spec.specs.Declarations.{delimiterOf, requotedDefault, declaration};
+ghost use Rattle.spec.specs.Map.{Marked, marked, bytes};
+ghost use Rattle.spec.specs.Declarations.{delimiterOf, requotedDefault, isLone, declaration};
 ghost use Rattle.runs.specs.Sets.{inSet};
 ghost use Rattle.spec.specs.Parts.{part};
-ghost use Rattle.declared_parts.specs.DeclaredParts.{WalrusAt, spaced, cutOf, cutIn, readOf, Within, isWhole};
+ghost use Rattle.declared_parts.specs.DeclaredParts.{spaced, keyAt, cutIn, readOf, Within, isWhole};
 
 // Where a part ends ahead of its default, where the default begins, and 1 if there is one, else 0.
 pub struct Cut {
@@ -61,55 +63,62 @@ fn trim_end(text: &[u8], from: usize, to: usize) -> usize
     from + run_start(part, Set::W, part.len())
 }
 
-// The first `:=`, live or not.
-fn find_walrus(text: &[u8]) -> Found
-    ensures { λ r. ⌜ WalrusAt (now (text .entry)) r ⌝ }
+// Whether a lone `=` stands at i: no `=` on either side and no `>` behind.
+fn is_lone(text: &[u8], i: usize) -> bool
+    requires { ⌜ i < length (now text) ⌝ }
+    ensures { λ r. ⌜ ((t : List Marked) → bytes t ≡ now (text .entry) → r ≡ isLone (reverse (take i t)) (drop i t)) ⌝ }
 {
-    let mut i: usize = 0;
-    while i < text.len() {
-        if starts_with(&text[i..], b":=") {
-            return Found::At(i);
-        } else {
-            i += 1;
-        }
-    }
-    Found::Nothing
-}
-
-// A part of n bytes cut by the first `:=`, else by the first live DEFAULT.
-fn cut_at(walrus: Found, word: Found, n: usize) -> Cut
-    requires { ⌜ cutOf walrus word n .rest ≤ n ⌝ }
-    ensures { λ r. ⌜ r ≡ cutOf walrus word n ⌝ }
-{
-    match walrus {
-        Found::At(i) => Cut {
-            head: i,
-            rest: i + 2,
-            present: 1,
-        },
-        Found::Nothing => match word {
-            Found::At(i) => Cut {
-                head: i,
-                rest: i + 7,
-                present: 1,
-            },
-            Found::Nothing => Cut {
-                head: n,
-                rest: n,
-                present: 0,
-            },
-        },
+    if lone_equals(text, i) {
+        if i == 0 { true } else { text[i - 1] != b'=' }
+    } else {
+        false
     }
 }
 
-// Where a part, trimmed of W, is cut for its default.
+// How many bytes of a default key stand at i: 2 of a live `:=`, 1 of a live lone `=`, 7 of a live DEFAULT, else 0.
+fn default_key(text: &[u8], map: &[u8], i: usize) -> usize
+    requires { ⌜ i < length (now text) ⌝ }
+    ensures { λ r. ⌜ r ≡ keyAt (marked (now (text .entry)) (now (map .entry))) i ⌝ }
+    ensures { λ r. ⌜ i + r ≤ length (now (text .entry)) ⌝ }
+{
+    if byte_at(map, i) != 0 {
+        return 0;
+    }
+    if starts_with(&text[i..], b":=") {
+        return 2;
+    }
+    if is_lone(text, i) {
+        return 1;
+    }
+    if keyword_at(text, map, b"DEFAULT", i) {
+        return 7;
+    }
+    0
+}
+
+// Where a part, trimmed of W, is cut for its default: at its leftmost default key.
 fn find_default(text: &[u8], map: &[u8]) -> Cut
     ensures { λ r. ⌜ r ≡ cutIn (marked (now (text .entry)) (now (map .entry))) ⌝ }
     ensures { λ r. ⌜ (r .head ≤ r .rest) × (r .rest ≤ length (now (text .entry))) × (r .present ≤ 1) ⌝ }
 {
-    let walrus = find_walrus(text);
-    let word = find_keyword_in(text, map, b"DEFAULT", 0);
-    cut_at(walrus, word, text.len())
+    let mut i: usize = 0;
+    while i < text.len() {
+        let n = default_key(text, map, i);
+        if n == 0 {
+            i += 1;
+        } else {
+            return Cut {
+                head: i,
+                rest: i + n,
+                present: 1,
+            };
+        }
+    }
+    Cut {
+        head: i,
+        rest: i,
+        present: 0,
+    }
 }
 
 // The part of a text between the two places.

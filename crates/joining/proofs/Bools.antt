@@ -1,6 +1,6 @@
 -- Facts of Bools, bytes and lists that the laws here share. Assumes nothing.
 use mathlib.Core.Path.{_≡_, refl, sym, ap, _∙_, subst}
-use mathlib.Core.Bool.{Bool, true, false, not, _&&_, _||_, false≢true}
+use mathlib.Core.Bool.{Bool, true, false, not, _&&_, false≢true}
 use Prim.Native.Nat.{ℕ}
 use borrow.Author.Tests.{eqb-true}
 use lib.Dec.{eqb}
@@ -18,14 +18,6 @@ no false e = refl
 pub yes : (a : Bool) → a ≡ false → not a ≡ true
 yes true e = clash e
 yes false e = refl
-
-pub or-first : (a b : Bool) → a ≡ true → (a || b) ≡ true
-or-first true b e = refl
-or-first false b e = absurd (false≢true e)
-
-pub or-second : (a b : Bool) → b ≡ true → (a || b) ≡ true
-or-second true b e = refl
-or-second false b e = e
 
 pub and-no : (a b : Bool) → (a ≡ true → b ≡ false) → (a && b) ≡ false
 and-no true b h = h refl

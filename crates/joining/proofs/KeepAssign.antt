@@ -10,7 +10,7 @@ use lib.ListN.{take, drop, take-append-drop}
 use lib.Seq.{drop-drop}
 use Rattle.spec.proofs.RefusalOutcomes.{statement-nil}
 use Rattle.spec.proofs.ByteSets.{sign-not-ident, sign-not-w, ident-not-w}
-use Rattle.spec.proofs.Choice.{by, cond-case, and-left, and-right}
+use Rattle.spec.proofs.Choice.{by, cond-case, and-left, and-right, or-first, or-second}
 use Rattle.spec.proofs.ListLaws.{while-split, while-all, all-append}
 use Rattle.spec.proofs.FirstLaws.{first-least}
 use Rattle.spec.specs.Bytes.{ascii, isIdent, isQuote, isW}
@@ -23,7 +23,6 @@ use Rattle.spec.specs.Parts.{trimEnd, trim}
 use Rattle.spec.specs.Closed.{endsLive}
 use Rattle.spec.specs.declared.Found.{Found}
 use Rattle.spec.specs.declared.Found.the-variants.{At, Nothing}
-use Rattle.joining.proofs.Bools.{or-first, or-second}
 use Rattle.joining.proofs.Reading.{cut, paste, Reading}
 use Rattle.joining.proofs.Parts.{NoQuote, no-quotes, front-drop, Read, ends, back-over, edge-behind}
 use Rattle.joining.proofs.Statements.{Shut, shut-append, Statements, FirstOf, statements, ends-append}

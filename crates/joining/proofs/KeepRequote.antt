@@ -11,7 +11,7 @@ use lib.Seq.{take-suc, take-add, drop-drop, length-take-le}
 use Rattle.spec.proofs.WalkLaws.{prefix-take}
 use Rattle.spec.proofs.ByteSets.{sign-not-ident}
 use Rattle.spec.proofs.BytesLaws.{bytes-append}
-use Rattle.spec.proofs.Choice.{by, and-left, and-right, or-left, or-right}
+use Rattle.spec.proofs.Choice.{by, and-left, and-right, or-left, or-right, or-second}
 use Rattle.spec.proofs.SpanLaws.{by-kind, lexemes-step, opens-in, seen, seek-miss}
 use Rattle.spec.proofs.MapLaws.{mark-byte, text-length}
 use Rattle.spec.specs.Bytes.{within, isDigit, isLower, isUpper, isIdent, isQuote, isPair, isPrefix, isW, upper}
@@ -20,7 +20,7 @@ use Rattle.spec.specs.Spans.{escapes, quoteLen, quotedLen, tagLen, seekLen, ope
 use Rattle.spec.specs.Map.{Marked, live, quoted, mark, marked, markedText, bytes, regionOf, spanFlag}
 use Rattle.spec.specs.Requote.{doubled, singleQuoted, requoteSpan, requoteLexeme, requoted}
 use Rattle.spec.specs.Closed.{endsLive, isPlainRegion, isPlainSpan, raisesFollowed, isClosed}
-use Rattle.joining.proofs.Bools.{clash, no, or-second, and-no, at, another}
+use Rattle.joining.proofs.Bools.{clash, no, and-no, at, another}
 use Rattle.joining.proofs.Reading.{leaves, leaves-append, cut, paste, Takes, takes-cons}
 use Rattle.joining.proofs.Statements.{ends-append, ends-rest}
 use Rattle.joining.proofs.WellFormed.{past, text-step, text-code, text-single, text-double, Open, clear, dash, slash, sign, tag, inSingle, inDouble, liveOk, quotedOk, wellOk, tagged, liveNext, quotedNext, wellNext, isOut, Well, live-out, closesTag, isTag, opens-tag, Literal, single-literal, double-literal}

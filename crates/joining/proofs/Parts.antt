@@ -10,13 +10,13 @@ use lib.Dec.{eqb, leb}
 use lib.ListN.{length, take, drop, take-append-drop}
 use lib.Seq.{drop-drop}
 use Rattle.spec.proofs.ByteSets.{sign-not-w}
-use Rattle.spec.proofs.Choice.{by, cond-case, and-left, and-right}
+use Rattle.spec.proofs.Choice.{by, cond-case, and-left, and-right, or-first, or-second}
 use Rattle.spec.specs.Bytes.{within, isLower, isIdent, isQuote, isW, upper}
 use Rattle.spec.specs.Lists.{isEmpty, dropWhile, dropEnd, all, keep}
 use Rattle.spec.specs.Map.{Marked, live, quoted, byte, frontByte, frontLive, ofByte}
 use Rattle.spec.specs.Search.{Test, startsIgnoringCase, ontoFirst, piecesFrom, pieces}
 use Rattle.spec.specs.Parts.{trimEnd, trim, part}
-use Rattle.joining.proofs.Bools.{clash, yes, or-first, or-second, quotes, no-quote}
+use Rattle.joining.proofs.Bools.{clash, yes, quotes, no-quote}
 use Rattle.joining.proofs.Reading.{Reads, leaves, leaves-append, cut, Reading}
 
 -- what stands at the front behind a run of such bytes is none of them

@@ -45,7 +45,8 @@ regroup true false false c = refl
 regroup false m b c = refl
 
 module _ (xs ms w : List ℕ) where
-  key-here : (i : ℕ) → i < length xs → passesAt (keywordHere w) (marked xs ms) i ≡ (edges xs ms (length w) i && prefixBy upper w (drop i xs))
+  -- whether a keyword stands at i, by the bytes and the map
+  pub key-here : (i : ℕ) → i < length xs → passesAt (keywordHere w) (marked xs ms) i ≡ (edges xs ms (length w) i && prefixBy upper w (drop i xs))
   unfolding keywordHere wordHere edges
   key-here i h =
       let b = word-back xs ms i (omega arith) in

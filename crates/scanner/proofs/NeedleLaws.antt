@@ -19,7 +19,7 @@ module _ (w xs ms : List ℕ) (i : ℕ) where
 
   -- m is the map byte at i
   module _ (m : ℕ) (h : i < length xs) (e : m ≡ getD ms i 0) where
-    needle-at : passesAt (needleHere w) (marked xs ms) i ≡ (eqb m 0 && isPrefix w (drop i xs))
+    pub needle-at : passesAt (needleHere w) (marked xs ms) i ≡ (eqb m 0 && isPrefix w (drop i xs))
     unfolding needleHere
     needle-at = rw (front-live xs ms i h, ← e, starts-exact-at w xs ms i, prefix-exact) refl
 

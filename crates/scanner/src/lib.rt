@@ -11,9 +11,10 @@ use spec::Found;
 use spec::Span;
 ghost use mathlib.Core.Path.{_≡_};
 ghost use mathlib.Core.Bool.{false, cond};
+ghost use mathlib.Core.List.{reverse};
 ghost use Prim.Native.Nat.{_+_, _-_, _≤_, _<_};
 ghost use lib.Dec.{eqb};
-ghost use lib.ListN.{length, getD, drop, replicate};
+ghost use lib.ListN.{length, getD, take, drop, replicate};
 ghost use lib.Seq.{sets};
 ghost use Rattle.spec.specs.Bytes.{ascii, isWord, upper, prefixBy};
 ghost use Rattle.spec.specs.Lists.{isEmpty, takeWhile};
@@ -88,6 +89,18 @@ fn edges_at(text: &[u8], map: &[u8], n: usize, i: usize) -> bool
         } else {
             true
         }
+    } else {
+        false
+    }
+}
+
+// Whether `word` stands live at i, as a whole word, in any letter case.
+pub fn keyword_at(text: &[u8], map: &[u8], word: &[u8], i: usize) -> bool
+    requires { ⌜ i < length (now text) ⌝ }
+    ensures { λ r. ⌜ r ≡ keywordHere (now (word .entry)) (reverse (take i (marked (now (text .entry)) (now (map .entry))))) (drop i (marked (now (text .entry)) (now (map .entry)))) ⌝ }
+{
+    if starts_ignoring_case(&text[i..], word) {
+        edges_at(text, map, word.len(), i)
     } else {
         false
     }

@@ -31,7 +31,7 @@ use Rattle.spec.specs.Assignments.{Target, orElse, assignHere, targetBef
 -- ---- the operator
 
 -- the test of a live `:=` passes exactly there
-assign-says : (t : List Marked) (i : ℕ) → (assignHere (reverse (take i t)) (drop i t) ≡ true) ↔ IsAssignAt t i
+pub assign-says : (t : List Marked) (i : ℕ) → (assignHere (reverse (take i t)) (drop i t) ≡ true) ↔ IsAssignAt t i
 unfolding assignHere
 assign-says t i = (sound, complete)
   where

@@ -48,7 +48,11 @@ pub or-right : (a b : Bool) → (a || b) ≡ false → b ≡ false
 or-right true b h = absurd (false≢true (sym h))
 or-right false b h = h
 
--- where the second side holds, `or` holds
+-- where one side holds, `or` holds
+pub or-first : (a b : Bool) → a ≡ true → (a || b) ≡ true
+or-first true b h = refl
+or-first false b h = absurd (false≢true h)
+
 pub or-second : (a b : Bool) → b ≡ true → (a || b) ≡ true
 or-second true b h = refl
 or-second false b h = h

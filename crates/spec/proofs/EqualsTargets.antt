@@ -9,7 +9,7 @@ use Prim.Native.Nat.{ℕ, _+_, _-_, _<_}
 use native.Mathlib.Omega.{arith}
 use borrow.Author.Tests.{eqb-true, eqb-false, eq-eqb, ne-eqb, not-true}
 use lib.Dec.{eqb}
-use lib.ListN.{drop}
+use lib.ListN.{drop, getD}
 use lib.Seq.{drop-drop}
 use Rattle.spec.proofs.Choice.{by, and-left, and-right, or-left, or-right}
 use Rattle.spec.proofs.FirstTarget.{Exactly, choice-exactly, none-exactly}
@@ -20,7 +20,7 @@ use Rattle.spec.proofs.TargetPlaces.{byteAt, IsLoneEqualsAt, IsEqualsTa
 use Rattle.spec.specs.Parts.{part}
 use Rattle.spec.specs.Bytes.{isIdent, isN}
 use Rattle.spec.specs.Lists.{takeWhile}
-use Rattle.spec.specs.Map.{Marked, ofByte}
+use Rattle.spec.specs.Map.{Marked, bytes, ofByte}
 use Rattle.spec.specs.Assignments.{Target, loneEquals, equalsTarget}
 
 -- ---- the operator
@@ -30,8 +30,13 @@ pub lone-at : (t : List Marked) (i : ℕ)
 unfolding loneEquals
 lone-at t i = rw (drop-drop 1 i t, byte-ahead t i, byte-ahead t (i + 1)) refl
 
+-- the same by the bytes of the text
+pub lone-bytes : (xs : List ℕ) (t : List Marked) → bytes t ≡ xs → (i : ℕ)
+    → loneEquals (drop i t) ≡ (eqb (getD xs i 0) 61 && not (eqb (getD xs (i + 1) 0) 61 || eqb (getD xs (i + 1) 0) 62))
+lone-bytes xs t e i = let v = lone-at t i in rw e at v
+
 -- the test of a lone `=` passes exactly there
-lone-says : (t : List Marked) (i : ℕ) → (loneEquals (drop i t) ≡ true) ↔ IsLoneEqualsAt t i
+pub lone-says : (t : List Marked) (i : ℕ) → (loneEquals (drop i t) ≡ true) ↔ IsLoneEqualsAt t i
 lone-says t i = (sound, complete)
   where
     one : Bool

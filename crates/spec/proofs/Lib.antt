@@ -2,6 +2,7 @@ pub mod RowForms
 pub mod Rows
 pub mod ClosedRows
 pub mod RequoteRows
+pub mod DefaultRows
 pub mod Choice
 pub mod ByteSets
 pub mod SpanLaws
@@ -52,3 +53,4 @@ pub mod TargetLaws
 pub mod StatementTargets
 pub mod QualifiedExactly
 pub mod TargetRows
+pub mod DefaultLaws

@@ -77,7 +77,7 @@ module _ (t : List Marked) (k : ℕ) where
 -- ---- the marking word at an offset
 
 -- the test of a word passes exactly where the word stands
-word-says : (t : List Marked) (w : List ℕ) (k : ℕ)
+pub word-says : (t : List Marked) (w : List ℕ) (k : ℕ)
     → (wordHere isWord w (frontByte (reverse (take k t))) (drop k t) ≡ true) ↔ StandsAt w t k
 word-says t w k = (
   (λ h. word-sound isWord (bytes t) (flags t) w (flags-length t) k (sym here ∙ h)),

@@ -1,4 +1,4 @@
--- Document 01, "The declaration records". Assumes nothing.
+-- Document 01, "The declaration records", and Note 2, where a default begins. Assumes nothing.
 use Prim.Native.Nat.{ℕ, zero, suc, _+_, _-_, _*_}
 use mathlib.Core.Bool.{Bool, true, cond, not, _&&_, _||_}
 use mathlib.Core.List.{List, [], _∷_, _++_}
@@ -7,9 +7,10 @@ use lib.Dec.{eqb, ltb, leb}
 use lib.ListN.{length, getD, take, drop, replicate}
 use Rattle.spec.specs.Bytes.{ascii, isIdent, isW, isPrefix, isSame, isBefore}
 use Rattle.spec.specs.Lists.{isEmpty, takeWhile, keep}
-use Rattle.spec.specs.Map.{Marked, bytes, markedText, frontByte}
-use Rattle.spec.specs.Search.{first, keywordHere, byteHere, starts, pieces}
+use Rattle.spec.specs.Map.{Marked, bytes, markedText, frontByte, frontLive}
+use Rattle.spec.specs.Search.{Test, first, keywordHere, byteHere, pieces}
 use Rattle.spec.specs.Requote.{singleQuoted}
+use Rattle.spec.specs.Assignments.{assignHere, loneEquals}
 use Rattle.spec.specs.Parts.{trim, part}
 use Rattle.spec.specs.declared.Found.{Found}
 use Rattle.spec.specs.declared.Found.the-variants.{At, Nothing}
@@ -64,17 +65,32 @@ declaredOf [] d = none
 declaredOf (n ∷ []) d = none
 declaredOf (n ∷ w ∷ ws) d = some record { name = bytes n; type = joinWords (w ∷ ws); default = d }
 
--- the part with its default behind the n bytes at this place, or with none
-unfoldable pub partAt : Found → ℕ → Found → ℕ → List Marked → Option Declared
-partAt (At i) n other m t = declaredOf (words (take i t)) (some (requotedDefault (bytes (trim (drop (i + n) t)))))
-partAt Nothing n (At i) m t = declaredOf (words (take i t)) (some (requotedDefault (bytes (trim (drop (i + m) t)))))
-partAt Nothing n Nothing m t = declaredOf (words t) none
+-- Note 2: lone here means no `=` on either side and no `>` behind
+unfoldable pub isLone : Test
+isLone back t = loneEquals t && not (eqb (frontByte back) 61)
 
--- the default begins after the first `:=` anywhere, else after the first live DEFAULT; the part is trimmed of W first
+-- a live lone `=` stands here
+unfoldable pub equalsHere : Test
+equalsHere back t = frontLive t && isLone back t
+
+-- Note 2: what begins a default, PostgreSQL's default key: a live `:=`, a live lone `=` or a live keyword DEFAULT
+unfoldable pub defaultHere : Test
+defaultHere back t = assignHere back t || (equalsHere back t || keywordHere (ascii "DEFAULT") back t)
+
+-- how many bytes the default key in front of t has: `:` starts `:=`, `=` stands alone, another byte starts DEFAULT
+unfoldable pub keyLength : List Marked → ℕ
+keyLength t = cond (eqb (frontByte t) 58) 2 (cond (eqb (frontByte t) 61) 1 7)
+
+-- the part with its default key at this place, or with no default
+unfoldable pub partAt : Found → List Marked → Option Declared
+partAt (At i) t =
+    let behind = drop (i + keyLength (drop i t)) t in
+    declaredOf (words (take i t)) (some (requotedDefault (bytes (trim behind))))
+partAt Nothing t = declaredOf (words t) none
+
+-- Note 2: the default begins after the leftmost default key; the part is trimmed of W first
 unfoldable pub declaration : List Marked → Option Declared
-declaration part =
-    let t = trim part in
-    partAt (first (λ (back u : List Marked). starts (ascii ":=") u) 0 t) 2 (first (keywordHere (ascii "DEFAULT")) 0 t) 7 t
+declaration part = let t = trim part in partAt (first defaultHere 0 t) t
 
 -- records stand in order of first declaration; a repeated name replaces the contents
 unfoldable pub declare : Declared → List Declared → List Declared

@@ -1,6 +1,6 @@
 -- A qualified name before an operator and ahead of a lone `=`, by the offsets of its parts. Assumes nothing.
 use mathlib.Core.Path.{_≡_, refl, sym, ap, _∙_}
-use mathlib.Core.Bool.{true, false, cond, not, _&&_, _||_, false≢true}
+use mathlib.Core.Bool.{true, false, cond, not, _&&_, false≢true}
 use mathlib.Core.List.{List, reverse}
 use mathlib.Core.Option.{Option, none}
 use Prim.Native.Nat.{ℕ, _+_, _-_, _≤_}
@@ -13,7 +13,7 @@ use Rattle.spec.specs.Bytes.{isIdent, isW, isN}
 use Rattle.spec.specs.Map.{Marked, bytes, frontByte}
 use Rattle.spec.specs.Assignments.{Target, orElse, targetBefore, loneEquals, equalsTarget}
 use Rattle.spec.proofs.AssignTargets.{before-value}
-use Rattle.spec.proofs.EqualsTargets.{lone-at, equals-value}
+use Rattle.spec.proofs.EqualsTargets.{equals-value}
 use Rattle.spec.proofs.RunPlaces.{endFrom, startFrom, byte-behind, Behind, ahead-at, behind-at}
 use Rattle.targets.specs.Tells.{isTarget, targetIn, Inside, Tells}
 use Rattle.targets.specs.declared.TargetFound.{TargetFound}
@@ -42,10 +42,6 @@ parts-inside q k s m l e a b d = (omega arith, omega arith)
 module _ (xs : List ℕ) (t : List Marked) (e : bytes t ≡ xs) where
   pub same-length : length t ≡ length xs
   same-length = sym (bytes-length t) ∙ ap length e
-
-  -- a lone `=` at i
-  pub lone-bytes : (i : ℕ) → loneEquals (drop i t) ≡ (eqb (getD xs i 0) 61 && not (eqb (getD xs (i + 1) 0) 61 || eqb (getD xs (i + 1) 0) 62))
-  lone-bytes i = let v = lone-at t i in rw e at v
 
   -- N from i on ends at a, and the qualifier at b
   module _ (i a b : ℕ) (ha : a ≡ endFrom isN xs i) (hb : b ≡ endFrom isIdent xs a) where

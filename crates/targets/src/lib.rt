@@ -1,6 +1,7 @@
 // The check of a statement: whether it assigns to a qualified target `q.n`, and where that stands.
 use classes::byte_at;
 use classes::is_word_byte;
+use classes::lone_equals;
 use runs::Set;
 use runs::run_end;
 use runs::run_start;
@@ -14,7 +15,7 @@ ghost use Prim.Native.Nat.{_+_, _^_, _≤_, _<_};
 ghost use lib.ListN.{length, take, drop, getD};
 ghost use Rattle.spec.specs.Bytes.{isWord, upper, prefixBy};
 ghost use Rattle.spec.specs.Map.{Marked, marked, bytes};
-ghost use Rattle.spec.specs.Assignments.{targetBefore, assignTarget, loneEquals, equalsTarget, markings, markingHere, markedTarget, orElse, statementTarget};
+ghost use Rattle.spec.specs.Assignments.{targetBefore, assignTarget, equalsTarget, markings, markingHere, markedTarget, orElse, statementTarget};
 ghost use Rattle.targets.specs.Tells.{Tells, isTarget};
 ghost use Rattle.targets.specs.Words.{entries, blank, metOf, lenMet, casesAfter, casesMet, targetPast, targetMet};
 
@@ -141,25 +142,6 @@ fn qualified_walrus_target(statement: &[u8], map: &[u8]) -> TargetFound
             return before;
         }
         from = at + 1;
-    }
-}
-
-// Whether `=` stands at i, and neither `==` nor `=>`.
-fn lone_equals(statement: &[u8], i: usize) -> bool
-    requires { ⌜ i ≤ length (now statement) ⌝ }
-    ensures { λ r. ⌜ ((t : List Marked) → bytes t ≡ now (statement .entry) → r ≡ loneEquals (drop i t)) ⌝ }
-{
-    if byte_at(statement, i) == b'=' {
-        let next = byte_at(statement, i + 1);
-        if next == b'=' {
-            false
-        } else if next == b'>' {
-            false
-        } else {
-            true
-        }
-    } else {
-        false
     }
 }
 

@@ -1,11 +1,11 @@
--- `targets::lone_equals` meets its contract. `lone-bytes` reads the definition, for any text of these bytes, as tests on
+-- `classes::lone_equals` meets its contract. `lone-bytes` reads the definition, for any text of these bytes, as tests on
 -- the two bytes at i; each return rewrites it with the tests made. Assumes nothing.
 use mathlib.Core.Path.{sym, _∙_}
 use borrow.Author.Tests.{eq-eqb, ne-eqb}
-use Rattle.targets.proofs.TargetNameLaws.{lone-bytes}
+use Rattle.spec.proofs.EqualsTargets.{lone-bytes}
 use borrow.Author.Needs.{needs}
-use Rattle.targets.proofs.lone_equals.Statement.{statement}
-use Rattle.targets.proofs.lone_equals.Tie as tie
+use Rattle.classes.proofs.lone_equals.Statement.{statement}
+use Rattle.classes.proofs.lone_equals.Tie as tie
 
 byte-at-requires : tie.Need-byte-at-requires
 byte-at-requires c κs = search needs
