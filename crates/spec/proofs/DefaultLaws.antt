@@ -5,7 +5,7 @@ use mathlib.Core.Bool.{Bool, true, false, not, _&&_}
 use mathlib.Core.List.{List, [], _∷_, reverse}
 use mathlib.Core.Logic.{_↔_}
 use mathlib.Core.Option.{Option, none, some}
-use Prim.Native.Nat.{ℕ, zero, suc, _+_, _-_, _≤_, _<_}
+use Prim.Native.Nat.{ℕ, zero, suc, _+_, _-_, _<_}
 use native.Mathlib.Omega.{arith}
 use borrow.Author.Tests.{eqb-true, eqb-false, eq-eqb, ne-eqb, not-true}
 use lib.Dec.{eqb}
@@ -14,7 +14,7 @@ use Rattle.spec.proofs.Apart.{apart}
 use Rattle.spec.proofs.AssignTargets.{assign-says}
 use Rattle.spec.proofs.Choice.{and-left, and-right, and-both, or-cases, or-first, or-second}
 use Rattle.spec.proofs.EqualsTargets.{lone-says}
-use Rattle.spec.proofs.FirstLaws.{LeastOf, NoneOf, Says, found-least, least-found, found-none, none-found}
+use Rattle.spec.proofs.FirstLaws.{Says, found-least, least-found, found-none, none-found}
 use Rattle.spec.proofs.MarkingWords.{word-says}
 use Rattle.spec.proofs.RefusalBounds.{bytes-length}
 use Rattle.spec.proofs.RunPlaces.{flags-length, marked-flags, byte-ahead, byte-behind, byte-inside}

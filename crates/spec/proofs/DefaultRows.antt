@@ -84,10 +84,18 @@ in-type : recordOf "a b':='" ≡ without "a" "b':='"
 unfolding tabled
 in-type = refl
 
+in-name : recordOf "\"a:=b\" c" ≡ without "\"a:=b\"" "c"
+unfolding tabled
+in-name = refl
+
 -- fewer than two words ahead: no record
 name-alone : recordOf "a = 1" ≡ []
 unfolding tabled
 name-alone = refl
+
+default-as-name : recordOf "default int := 3" ≡ []
+unfolding tabled
+default-as-name = refl
 
 -- present even if empty
 empty-default : recordOf "a b =" ≡ with "a" "b" ""

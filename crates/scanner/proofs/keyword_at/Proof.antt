@@ -3,7 +3,7 @@
 use native.Mathlib.Omega.{arith}
 use borrow.Author.Needs.{needs}
 use mathlib.Core.Path.{_≡_, sym, ap, _∙_}
-use mathlib.Core.Bool.{Bool, false, _&&_, and-true, and-false}
+use mathlib.Core.Bool.{Bool, _&&_, and-true, and-false}
 use Prim.Native.Nat.{_-_}
 use lib.ListN.{length, take, drop, length-drop}
 use Rattle.spec.specs.Bytes.{upper, prefixBy}
