@@ -1,30 +1,30 @@
 -- Where a part is cut for its default. Assumes nothing.
 use mathlib.Core.Path.{_≡_, refl, sym, ap, _∙_}
-use mathlib.Core.Bool.{true, false, not}
+use mathlib.Core.Bool.{true, false, not, false≢true}
 use mathlib.Core.List.{List}
 use Prim.Native.Nat.{ℕ, _+_, _-_, _≤_, _<_}
 use native.Mathlib.Omega.{arith}
 use borrow.Author.Tests.{eq-eqb, ne-eqb}
 use lib.Dec.{eqb}
 use lib.ListN.{length, drop, getD}
-use Rattle.spec.specs.Bytes.{ascii, isPrefix}
+use Rattle.spec.specs.Bytes.{ascii, upper, isLower, within, isPrefix}
 use Rattle.spec.specs.Map.{Marked, marked, bytes, frontByte, frontLive}
 use Rattle.spec.specs.Search.{first, wordHere, keywordHere, needleHere}
 use Rattle.spec.specs.Assignments.{assignHere, loneEquals}
 use Rattle.spec.specs.Declarations.{isLone, equalsHere, defaultHere, keyLength}
 use Rattle.spec.specs.declared.Found.{Found}
 use Rattle.spec.specs.declared.Found.the-variants.{At, Nothing}
-use Rattle.spec.proofs.Choice.{by}
+use Rattle.spec.proofs.Choice.{by, or-second}
 use Rattle.spec.proofs.AssignTargets.{assign-says}
 use Rattle.spec.proofs.DefaultLaws.{IsDefaultKey, assign, equals, word, equals-says, key-sound, key-complete, key-length}
 use Rattle.spec.proofs.FirstLaws.{first-least}
-use Rattle.spec.proofs.MapLaws.{marked-length}
+use Rattle.spec.proofs.MapLaws.{marked-bytes, marked-length}
 use Rattle.spec.proofs.MarkingWords.{word-says}
 use Rattle.spec.proofs.RefusalBounds.{bytes-length}
 use Rattle.spec.proofs.RunPlaces.{byte-inside, byte-behind}
 use Rattle.spec.proofs.WalkLaws.{passesAt, front-live, first-end, first-hit, first-miss}
 use Rattle.scanner.proofs.NeedleLaws.{needle-at}
-use Rattle.declared_parts.specs.DeclaredParts.{keyAt, cutOf, cutIn}
+use Rattle.declared_parts.specs.DeclaredParts.{startsKey, keyAt, cutOf, cutIn}
 use Rattle.declared_parts.specs.declared.Cut.{Cut}
 
 -- ---- a lone `=` at i
@@ -54,6 +54,17 @@ module _ (t : List Marked) (i : ℕ) where
   key-fits _ (assign r) = omega (arith, byte-inside t (i + 1) (omega (arith, r .equals)))
   key-fits _ (equals r) = omega (arith, byte-inside t i (omega (arith, r .operator .equals)))
   key-fits _ (word r) = omega (arith, r .matches .fits, bytes-length t)
+
+  -- by its first byte
+  key-first : (n : ℕ) → IsDefaultKey t i n → startsKey (getD (bytes t) i 0) ≡ true
+  unfolding startsKey upper isLower within
+  key-first _ (assign r) = rw (r .colon) refl
+  key-first _ (equals r) = rw (r .operator .equals) refl
+  key-first _ (word r) =
+      let b = getD (bytes t) i 0 in
+      let z : i ≡ i + 0 = omega arith in
+      let d = ap (λ (j : ℕ). upper (getD (bytes t) j 0)) z ∙ r .matches .same 0 (omega arith) in
+      or-second (eqb b 58) _ (or-second (eqb b 61) _ (eq-eqb (upper b) 68 d))
 
   -- a key of n bytes stands there; or none does
   pub key-stands : (n : ℕ) → IsDefaultKey t i n → (n ≡ keyAt t i) × (i + n ≤ length t)
@@ -98,6 +109,16 @@ module _ (xs ms : List ℕ) (i : ℕ) (h : i < length xs) where
 
   missing : passesAt defaultHere t i ≡ false → Tells 0
   missing e = (key-missing t i e, omega arith)
+
+  pub key-other : startsKey (getD xs i 0) ≡ false → Tells 0
+  key-other q =
+      missing
+      (by (passesAt defaultHere t i)
+      (λ p.
+      let k = key-sound t i p in
+      let f = key-first t i (k .0) (k .1) in
+      absurd (false≢true (sym q ∙ (rw marked-bytes at f))))
+      (λ p. p))
 
   -- m is the map byte at i
   module _ (m : ℕ) (e : m ≡ getD ms i 0) where

@@ -1,11 +1,11 @@
 -- One part of the declarations by places in its text. Assumes nothing.
 use Prim.Native.Nat.{ℕ, _+_, _-_, _≤_}
-use mathlib.Core.Bool.{Bool, true, false, cond, _&&_}
+use mathlib.Core.Bool.{Bool, true, false, cond, _&&_, _||_}
 use mathlib.Core.List.{List, [], _∷_, reverse}
 use mathlib.Core.Option.{Option, none, some}
 use lib.Dec.{eqb, leb}
 use lib.ListN.{length, getD, take, drop}
-use Rattle.spec.specs.Bytes.{isW, isPrefix, isSame}
+use Rattle.spec.specs.Bytes.{isW, upper, isPrefix, isSame}
 use Rattle.spec.specs.Map.{Marked}
 use Rattle.spec.specs.Search.{first}
 use Rattle.spec.specs.Declarations.{Declared, requotedDefault, defaultHere, keyLength}
@@ -13,6 +13,10 @@ use Rattle.spec.specs.declared.Found.{Found}
 use Rattle.spec.specs.declared.Found.the-variants.{At, Nothing}
 use Rattle.declared_parts.specs.declared.Cut.{Cut}
 use Rattle.declared_parts.specs.declared.DeclarationPlaces.{DeclarationPlaces}
+
+-- b is `:`, `=`, `D` or `d`, which a default key starts with
+unfoldable pub startsKey : ℕ → Bool
+startsKey b = eqb b 58 || (eqb b 61 || eqb (upper b) 68)
 
 -- how many bytes of a default key stand at i, 0 if none does
 unfoldable pub keyAt : List Marked → ℕ → ℕ

@@ -3,6 +3,7 @@ use classes::byte_at;
 use classes::is_w;
 use classes::lone_equals;
 use classes::starts_with;
+use classes::upper_of;
 use output::put;
 use output::put_all;
 use output::put_single_quoted;
@@ -22,7 +23,7 @@ ghost use Rattle.spec.specs.Map.{Marked, marked, bytes};
 ghost use Rattle.spec.specs.Declarations.{delimiterOf, requotedDefault, isLone, declaration};
 ghost use Rattle.runs.specs.Sets.{inSet};
 ghost use Rattle.spec.specs.Parts.{part};
-ghost use Rattle.declared_parts.specs.DeclaredParts.{spaced, keyAt, cutIn, readOf, Within, isWhole};
+ghost use Rattle.declared_parts.specs.DeclaredParts.{spaced, startsKey, keyAt, cutIn, readOf, Within, isWhole};
 
 // Where a part ends ahead of its default, where the default begins, and 1 if there is one, else 0.
 pub struct Cut {
@@ -75,12 +76,29 @@ fn is_lone(text: &[u8], i: usize) -> bool
     }
 }
 
+// Whether a default key can start with b.
+fn starts_key(b: u8) -> bool
+    ensures { λ r. ⌜ r ≡ startsKey b ⌝ }
+{
+    if b == b':' {
+        true
+    } else if b == b'=' {
+        true
+    } else {
+        upper_of(b) == b'D'
+    }
+}
+
 // How many bytes of a default key stand at i: 2 of a live `:=`, 1 of a live lone `=`, 7 of a live DEFAULT, else 0.
 fn default_key(text: &[u8], map: &[u8], i: usize) -> usize
     requires { ⌜ i < length (now text) ⌝ }
     ensures { λ r. ⌜ r ≡ keyAt (marked (now (text .entry)) (now (map .entry))) i ⌝ }
     ensures { λ r. ⌜ i + r ≤ length (now (text .entry)) ⌝ }
 {
+    // Most bytes fail here.
+    if !starts_key(text[i]) {
+        return 0;
+    }
     if byte_at(map, i) != 0 {
         return 0;
     }
