@@ -126,8 +126,8 @@ void plpgsql_transform_body(
  * absent). Starts are offsets in declared. Record 0 is the head: its next leads to the first record, and
  * its other seven numbers are 0. A next is the number of a record: the chain from the head leads through
  * all records in byte order of names and ends with 0.
- * A default begins behind the leftmost live `:=`, `=` or DEFAULT of its declaration; an `=` counts if no
- * `=` stands beside it and no `>` behind it.
+ * A default begins behind the leftmost `:=`, `=` or DEFAULT of its declaration that stands outside
+ * literals and comments; an `=` counts if no `=` stands beside it and no `>` behind it.
  * The records stand in order of first declaration; a later declaration of a name replaces its type and
  * default. The texts stand one behind the other in the order of the records: name, type, default.
  */

@@ -1,4 +1,4 @@
-// Bytes: document 01's byte sets, letter case, and bytes of a text.
+// Bytes: document 01's byte sets, letter case, bytes of a text, and a lone `=`.
 ghost use mathlib.Core.Path.{_≡_};
 ghost use mathlib.Core.List.{List};
 ghost use Prim.Native.Nat.{_≤_};

@@ -1,4 +1,5 @@
--- Where a part is cut for its default. Assumes nothing.
+-- Where a part is cut for its default: the tests of the code decide, byte by byte, whether a default key stands at i; the
+-- cut is at the leftmost and stands within the part. By the predicate of `DefaultLaws`. Assumes nothing.
 use mathlib.Core.Path.{_≡_, refl, sym, ap, _∙_}
 use mathlib.Core.Bool.{true, false, not, false≢true}
 use mathlib.Core.List.{List}

@@ -1,5 +1,5 @@
 -- Note 2 in its own words: a default begins behind the leftmost default key of its part, and a part that has none has no
--- default. Assumes nothing.
+-- default. The test passes exactly where a predicate on offsets holds, so the search finds the leftmost. Assumes nothing.
 use mathlib.Core.Path.{_≡_, refl, sym, ap, _∙_}
 use mathlib.Core.Bool.{Bool, true, false, not, _&&_}
 use mathlib.Core.List.{List, [], _∷_, reverse}

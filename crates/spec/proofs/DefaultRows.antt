@@ -63,6 +63,10 @@ word-then-assign : recordOf "a b DEFAULT 1 := 2" ≡ with "a" "b" "1 := 2"
 unfolding tabled
 word-then-assign = refl
 
+word-then-equals : recordOf "a b DEFAULT 1 = 2" ≡ with "a" "b" "1 = 2"
+unfolding tabled
+word-then-equals = refl
+
 equals-then-others : recordOf "a b = 1 := DEFAULT 2" ≡ with "a" "b" "1 := DEFAULT 2"
 unfolding tabled
 equals-then-others = refl

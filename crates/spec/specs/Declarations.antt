@@ -65,7 +65,7 @@ declaredOf [] d = none
 declaredOf (n ∷ []) d = none
 declaredOf (n ∷ w ∷ ws) d = some record { name = bytes n; type = joinWords (w ∷ ws); default = d }
 
--- Note 2: lone here means no `=` on either side and no `>` behind
+-- Note 2: lone here means no `=` on either side and no `>` behind; what is behind is pass 3's question too
 unfoldable pub isLone : Test
 isLone back t = loneEquals t && not (eqb (frontByte back) 61)
 
