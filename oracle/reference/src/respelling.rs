@@ -2,7 +2,8 @@
 //!
 //! What a default stands behind becomes `:=`. All other bytes stay as live or quoted as they were:
 //! a live `=` or DEFAULT opens no span, and none can be part of a dollar literal's tag, since DEFAULT
-//! has no word byte and no `$` beside it; `:=` is the same. For that reason no word grows or shrinks.
+//! has no word byte and no `$` beside it. `:=` opens no span and is no word byte either, so every other
+//! byte keeps its region and every word its edges.
 //!
 //! The published source would begin a default at a quoted `:=` ahead of it, so there the colon becomes
 //! another byte, which is put back in the names and types that are read. Inside a span neither of the
