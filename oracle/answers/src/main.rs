@@ -4,14 +4,8 @@ use std::io::{self, BufRead, BufWriter, Write};
 use std::process::ExitCode;
 
 use library::Answer;
+use sizes::{BUFFER_SIZE, RECORD, RECORD_NUMBERS};
 use texts::hex;
-
-/// The least lengths of the buffers that are lent.
-const BUFFER_SIZE: usize = 65_536;
-const RECORD_NUMBERS: usize = 4_104;
-
-/// The numbers of one record.
-const RECORD: usize = 8;
 
 /// The field of a default that is not present.
 const ABSENT: &str = ".";

@@ -4,9 +4,11 @@
 
 use std::io::{self, Write};
 
+use sizes::BUFFER_SIZE;
+
 use crate::lent::{enough, short};
 use crate::runs::{Run, Runs};
-use crate::stored_call::{write_all, Answer, Body, BODY_LEAST, BODY_LONGER, LIMIT, SIZE};
+use crate::stored_call::{write_all, Answer, Body, BODY_LEAST, BODY_LONGER, LIMIT};
 
 /// Two runs.
 type Two = [Run<'static>; 2];
@@ -154,7 +156,8 @@ fn orders() -> impl Iterator<Item = Body> {
 
 /// Refusal 1 comes before 3 and 2.
 pub fn too_long() -> impl Iterator<Item = Body> {
-    [LIMIT + 1, LIMIT + 2, SIZE, SIZE + 1, 2 * SIZE].into_iter().flat_map(|length| {
+    let lengths = [LIMIT + 1, LIMIT + 2, BUFFER_SIZE, BUFFER_SIZE + 1, 2 * BUFFER_SIZE];
+    lengths.into_iter().flat_map(|length| {
         let texts = [
             Runs::letters(length),
             Runs::with_byte(length, 0, 200),
@@ -203,7 +206,7 @@ mod tests {
             if expected.number != 6 {
                 assert_eq!((got.number, got.place), (expected.number, expected.place));
                 assert!(got.output.bytes() == expected.output.bytes(), "{}", body.text);
-                assert!(got.output.len() <= SIZE, "{}", body.text);
+                assert!(got.output.len() <= BUFFER_SIZE, "{}", body.text);
             }
         }
     }

@@ -166,9 +166,9 @@ fn not_ascii() -> impl Iterator<Item = Function> {
 mod tests {
     use super::*;
     use crate::answer::preprocessed;
-    use crate::stored_call::SIZE;
     use reference::defaults::Reasons;
     use reference::records::first_declared;
+    use sizes::BUFFER_SIZE;
 
     fn text_of(function: &Function) -> String {
         let text = String::from_utf8(function.text.bytes()).unwrap();
@@ -189,7 +189,7 @@ mod tests {
                 assert_eq!(got.answer.place, expected.answer.place, "{text}");
                 assert!(got.answer.output.bytes() == expected.answer.output.bytes(), "{text}");
                 assert!(got.records == expected.records, "{text}");
-                assert!(got.answer.output.len() <= SIZE, "{text}");
+                assert!(got.answer.output.len() <= BUFFER_SIZE, "{text}");
             }
         }
     }
@@ -208,6 +208,6 @@ mod tests {
         assert!(lengths.contains(&LIMIT));
         assert_eq!(text_of(&longest_default()).len(), LIMIT);
         let output = |function| preprocessed(&text_of(&function)).unwrap().unwrap().answer.output;
-        assert_eq!(long_results().map(|one| output(one).len()), [SIZE, SIZE + 1]);
+        assert_eq!(long_results().map(|one| output(one).len()), [BUFFER_SIZE, BUFFER_SIZE + 1]);
     }
 }

@@ -5,20 +5,19 @@ use std::io::{self, Write};
 
 use reference::declarations::Declaration;
 use reference::records::Records;
+use sizes::{BUFFER_SIZE, RECORD_NUMBERS};
 
 use crate::runs::Runs;
 
 /// The most bytes of a call's text.
 pub const LIMIT: usize = 16_384;
 
-/// The least length of each lent byte buffer, and the most bytes of a pass's result.
-pub const SIZE: usize = 65_536;
-
 /// What a body call is lent at least: output and the two work buffers.
-pub const BODY_LEAST: [usize; 3] = [SIZE; 3];
+pub const BODY_LEAST: [usize; 3] = [BUFFER_SIZE; 3];
 
 /// What a function call is lent at least: the declaration text's bytes and the record numbers too.
-pub const FUNCTION_LEAST: [usize; 5] = [SIZE, SIZE, SIZE, SIZE, 4_104];
+pub const FUNCTION_LEAST: [usize; 5] =
+    [BUFFER_SIZE, BUFFER_SIZE, BUFFER_SIZE, BUFFER_SIZE, RECORD_NUMBERS];
 
 /// Longer than the buffers must be.
 pub const BODY_LONGER: [usize; 3] = [70_000; 3];

@@ -4,6 +4,7 @@
 
 use std::io::Write;
 
+use sizes::{BUFFER_SIZE, RECORD_NUMBERS};
 use texts::random::Random;
 
 use crate::answer::{preprocessed, rewritten};
@@ -13,7 +14,7 @@ use crate::call_faults;
 use crate::function_limits;
 use crate::function_rows;
 use crate::generate::number;
-use crate::stored_call::{write_all, Body, Function, Stored, BODY_LEAST, FUNCTION_LEAST, SIZE};
+use crate::stored_call::{write_all, Body, Function, Stored, BODY_LEAST, FUNCTION_LEAST};
 use crate::wrong_calls;
 use crate::Stop;
 
@@ -47,7 +48,7 @@ fn write_bodies(count: u64, seed: u64, out: &mut impl Write) -> Result<(), Stop>
         body.write_calls(&[any_lent(BODY_LEAST, &mut lengths)], out)?;
     }
     writeln!(out, "s {BODY_ROWS}")?;
-    write_all(body_rows::all(), &[BODY_LEAST, [SIZE + 1, 70_000, SIZE + 9]], out)?;
+    write_all(body_rows::all(), &[BODY_LEAST, [BUFFER_SIZE + 1, 70_000, BUFFER_SIZE + 9]], out)?;
     writeln!(out, "s {BODY_LIMITS}")?;
     Ok(body_limits::write(out)?)
 }
@@ -61,7 +62,8 @@ fn write_functions(count: u64, seed: u64, out: &mut impl Write) -> Result<(), St
     }
     writeln!(out, "s {FUNCTION_ROWS}")?;
     let rows = body_rows::all().into_iter().map(Function::from).chain(function_rows::all());
-    write_all(rows, &[FUNCTION_LEAST, [SIZE + 1, 70_000, SIZE + 9, SIZE + 3, 4_105]], out)?;
+    let longer = [BUFFER_SIZE + 1, 70_000, BUFFER_SIZE + 9, BUFFER_SIZE + 3, RECORD_NUMBERS + 1];
+    write_all(rows, &[FUNCTION_LEAST, longer], out)?;
     writeln!(out, "s {FUNCTION_LIMITS}")?;
     Ok(function_limits::write(out)?)
 }

@@ -4,12 +4,11 @@
 use std::io::{self, Write};
 
 use reference::declarations::Declaration;
+use sizes::BUFFER_SIZE;
 
 use crate::body_limits::{select_into, set_lines};
 use crate::runs::Runs;
-use crate::stored_call::{
-    spaced, Answer, Body, Function, FUNCTION_LEAST, FUNCTION_LONGER, LIMIT, SIZE,
-};
+use crate::stored_call::{spaced, Answer, Body, Function, FUNCTION_LEAST, FUNCTION_LONGER, LIMIT};
 use crate::wrong::{beside, changed_bytes};
 
 /// How many pairs and letters behind them give the longest result.
@@ -30,7 +29,7 @@ pub fn write(out: &mut impl Write) -> io::Result<()> {
 /// takes the first three lengths.
 fn bodies() -> [(Body, [usize; 5]); 8] {
     let mut short = FUNCTION_LEAST;
-    short[0] = SIZE - 1;
+    short[0] = BUFFER_SIZE - 1;
     let refused = |text, number, place| Body { text, answer: Answer::refused(number, place) };
     let output = set_lines(PAIRS, &[(BEHIND, b"a")]);
     let answer = Answer { number: 0, place: 0, output };
@@ -138,7 +137,7 @@ impl Said {
 
 /// Outputs with one change.
 fn wrong_outputs(output: &Runs) -> Vec<Runs> {
-    if output.len() < SIZE {
+    if output.len() < BUFFER_SIZE {
         return changed_bytes(&output.bytes()).iter().map(|bytes| Runs::one(bytes)).collect();
     }
     // The longest result: its last byte is another, is missing, or has one more behind it.

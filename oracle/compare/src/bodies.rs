@@ -4,8 +4,8 @@ use library::Answer;
 use reference::context::PlPgSqlContext;
 use reference::preprocessor::PlPgSqlPreprocessor;
 use reference::Error;
+use sizes::BUFFER_SIZE;
 
-use crate::calls::BUFFER_SIZE;
 use crate::lent::Lent;
 use crate::report::Row;
 use crate::subject::{Outcome, Subject};

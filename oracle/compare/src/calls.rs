@@ -2,6 +2,7 @@
 
 use library::Answer;
 use reference::scanner::Scanner;
+use sizes::{BUFFER_SIZE, RECORD_NUMBERS};
 
 use crate::lent::Lent;
 
@@ -10,12 +11,6 @@ pub const SEARCH_LIMIT: usize = 65_536;
 
 /// The most bytes of a call's text.
 pub const TEXT_LIMIT: usize = 16_384;
-
-/// What is lent for the output, and for each work buffer.
-pub const BUFFER_SIZE: usize = 65_536;
-
-/// The record numbers that are lent: eight for each of 512 records, and the head's.
-pub const RECORD_NUMBERS: usize = 4_104;
 
 /// What is checked first behind the text's length.
 #[derive(PartialEq)]

@@ -8,9 +8,9 @@ use reference::declarations::Declaration;
 use reference::defaults::Reasons;
 use reference::reading::Reading;
 use reference::records::{chain_leads_through, Records};
+use sizes::{BUFFER_SIZE, RECORD_NUMBERS};
 
 use crate::bodies::numbered;
-use crate::calls::{BUFFER_SIZE, RECORD_NUMBERS};
 use crate::lent::Lent;
 use crate::report::Row;
 use crate::subject::{Outcome, Subject};

@@ -3,10 +3,10 @@
 //! Whether a body is closed is asked of the proved library.
 
 use library::Answer;
+use sizes::BUFFER_SIZE;
 use texts::random::Random;
 
 use crate::bodies;
-use crate::calls::BUFFER_SIZE;
 use crate::report::Report;
 
 /// The pairs, judged by the joining law; how many of them are accepted, and how many of these are

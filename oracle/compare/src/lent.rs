@@ -1,6 +1,6 @@
 //! A buffer that is lent to the library: marked all over, with cells behind it that are not lent.
 
-use crate::calls::{BUFFER_SIZE, RECORD_NUMBERS};
+use sizes::{BUFFER_SIZE, RECORD_NUMBERS};
 
 /// The cells behind the lent ones.
 const BEHIND: usize = 8;

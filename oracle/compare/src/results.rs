@@ -6,9 +6,10 @@
 
 use reference::context::PlPgSqlContext;
 use reference::preprocessor::PlPgSqlPreprocessor;
+use sizes::{BUFFER_SIZE, RECORD_NUMBERS};
 
 use crate::bodies;
-use crate::calls::{self, Call, Made, BUFFER_SIZE, RECORD_NUMBERS, TEXT_LIMIT};
+use crate::calls::{self, Call, Made, TEXT_LIMIT};
 use crate::functions;
 use crate::report::{Report, Row};
 use crate::subject::Outcome;

@@ -1,11 +1,10 @@
 //! The records and the packed text that the scope paper wants for declarations.
 
+use sizes::RECORD;
+
 use crate::block;
 use crate::declarations::{self, Declaration};
 use crate::preprocessor::PlPgSqlPreprocessor;
-
-/// The numbers of one record.
-const RECORD: usize = 8;
 
 /// What the declaration text and the record numbers hold in front of their zeros.
 #[derive(Debug, Default, PartialEq)]

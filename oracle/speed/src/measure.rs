@@ -7,11 +7,9 @@ use library::Answer;
 use reference::context::PlPgSqlContext;
 use reference::preprocessor::PlPgSqlPreprocessor;
 use reference::scanner::Scanner;
+use sizes::{BUFFER_SIZE, RECORD_NUMBERS};
 
 use crate::clock;
-
-const BUFFER_SIZE: usize = 65_536;
-const RECORD_NUMBERS: usize = 4_104;
 
 /// The most rounds, and how long they may take together.
 const ROUNDS: usize = 300;
