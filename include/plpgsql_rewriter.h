@@ -127,7 +127,8 @@ void plpgsql_transform_body(
  * its other seven numbers are 0. A next is the number of a record: the chain from the head leads through
  * all records in byte order of names and ends with 0.
  * A default begins behind the leftmost `:=`, `=` or DEFAULT of its declaration that stands outside
- * literals and comments; an `=` counts if no `=` stands beside it and no `>` behind it.
+ * literals and comments; an `=` counts if no `=` stands beside it and no `>` behind it, and DEFAULT as a
+ * whole word in any letter case.
  * The records stand in order of first declaration; a later declaration of a name replaces its type and
  * default. The texts stand one behind the other in the order of the records: name, type, default.
  */

@@ -68,11 +68,11 @@ module _ (t : List Marked) (i : ℕ) where
       or-second (eqb b 58) _ (or-second (eqb b 61) _ (eq-eqb (upper b) 68 d))
 
   -- a key of n bytes stands there; or none does
-  pub key-stands : (n : ℕ) → IsDefaultKey t i n → (n ≡ keyAt t i) × (i + n ≤ length t)
+  key-stands : (n : ℕ) → IsDefaultKey t i n → (n ≡ keyAt t i) × (i + n ≤ length t)
   unfolding keyAt
   key-stands n k = (rw (key-complete t i n k) (sym (key-length t i n k)), key-fits n k)
 
-  pub key-missing : passesAt defaultHere t i ≡ false → 0 ≡ keyAt t i
+  key-missing : passesAt defaultHere t i ≡ false → 0 ≡ keyAt t i
   unfolding keyAt
   key-missing e = rw e refl
 
@@ -88,7 +88,7 @@ module _ (t : List Marked) (i : ℕ) where
           some-bytes _ (equals r) e = omega arith
           some-bytes _ (word r) e = omega arith
 
-  pub search-stops : (n : ℕ) → n ≡ keyAt t i → (n ≡ 0 → ⊥) → i < length t → (first defaultHere i t ≡ At i) × (n ≡ keyLength (drop i t))
+  search-stops : (n : ℕ) → n ≡ keyAt t i → (n ≡ 0 → ⊥) → i < length t → (first defaultHere i t ≡ At i) × (n ≡ keyLength (drop i t))
   unfolding keyAt
   search-stops n e z h =
       by (passesAt defaultHere t i)

@@ -25,7 +25,7 @@ use Rattle.spec.specs.Assignments.{Target, loneEquals, equalsTarget}
 
 -- ---- the operator
 
-pub lone-at : (t : List Marked) (i : ℕ)
+lone-at : (t : List Marked) (i : ℕ)
     → loneEquals (drop i t) ≡ (eqb (byteAt t i) 61 && not (eqb (byteAt t (i + 1)) 61 || eqb (byteAt t (i + 1)) 62))
 unfolding loneEquals
 lone-at t i = rw (drop-drop 1 i t, byte-ahead t i, byte-ahead t (i + 1)) refl

@@ -168,7 +168,7 @@ word-weight n (a ∷ w) (x ∷ t) h q =
     omega (arith, weight-other n (byte x) (upper-other (byte x) a e o), word-weight n w t m r)
 
 -- what stands in front exactly also stands there ignoring case
-pub starts-any-case : (w : List ℕ) (t : List Marked) → starts w t ≡ true → startsIgnoringCase w t ≡ true
+starts-any-case : (w : List ℕ) (t : List Marked) → starts w t ≡ true → startsIgnoringCase w t ≡ true
 unfolding starts startsIgnoringCase
 starts-any-case [] t h = refl
 starts-any-case (a ∷ w) [] h = h

@@ -1,5 +1,5 @@
--- Every definition of document 01, so that a row can be computed: a declaration that says `unfolding computed` unfolds
--- them all. Assumes nothing.
+-- Every definition of document 01 and of the requests, so that a row can be computed: a declaration that says
+-- `unfolding computed` unfolds them all. Assumes nothing.
 use Rattle.spec.specs.Lists as lists
 use Rattle.spec.specs.Bytes as bytes
 use Rattle.spec.specs.Spans as spans

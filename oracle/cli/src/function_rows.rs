@@ -78,7 +78,7 @@ const ACCEPTED: &[(&str, &str, &[Declared])] = &[
     ("DECLARE = a b; BEGIN", "BEGIN", &[]),
     ("DECLARE =; BEGIN", "BEGIN", &[]),
     ("DECLARE a\x1cb; BEGIN", "BEGIN", &[]),
-    // No default without a live sign: a lone `=` has no `=` on either side and no `>` behind.
+    // No default without a live key: a lone `=` has no `=` on either side and no `>` behind.
     ("DECLARE a b=>1; BEGIN", "BEGIN", &[("a", "b=>1", None)]),
     ("DECLARE a b==1; BEGIN", "BEGIN", &[("a", "b==1", None)]),
     ("DECLARE a b === 1 ==> 2; BEGIN", "BEGIN", &[("a", "b === 1 ==> 2", None)]),
@@ -118,7 +118,7 @@ const ACCEPTED: &[(&str, &str, &[Declared])] = &[
 
 /// What stands behind the name `a`, its type, and its default.
 const DEFAULTS: &[(&str, &str, &str)] = &[
-    // The leftmost live sign counts. Behind the first live `:=`.
+    // The leftmost live key counts. Behind the first live `:=`.
     ("int := 1", "int", "1"),
     ("int:=1", "int", "1"),
     ("int := \x0b 1\t\n+ 2 \x0c", "int", "1\t\n+ 2"),

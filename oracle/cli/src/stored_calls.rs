@@ -1,6 +1,7 @@
 //! The command `stored-calls`: the list that the program `replay_calls` runs. For each rewriting
-//! call random texts with the reference's answers, texts for the scope paper's sentences, the
-//! limits, and wrong answers.
+//! call random texts with the reference's answers, which are those to the respelled text where Note 2
+//! took a function out of the comparison, texts for the scope paper's sentences, the limits, and wrong
+//! answers.
 
 use std::io::Write;
 

@@ -7,8 +7,9 @@ use library::Answer;
 use reference::declarations::Declaration;
 use reference::defaults::Reasons;
 use reference::reading::Reading;
-use reference::records::{chain_leads_through, Records};
+use reference::records::{chain_leads_through, first_declared, Records};
 use sizes::{BUFFER_SIZE, RECORD_NUMBERS};
+use texts::random::Random;
 
 use crate::bodies::numbered;
 use crate::lent::Lent;
@@ -20,23 +21,28 @@ const NAMES: usize = 512;
 
 const READABLE: &str = "a readable context";
 
-/// The texts that are still compared; those taken out, with how many have each reason; those of them
-/// that are compared after respelling, and those that do not give what the reference gives as written.
-pub const ROWS: [&str; 7] = [
-    "preprocess", "taken out", "  a quoted :=", "  a lone = first", "  a DEFAULT ahead of a :=",
-    "taken out, respelled", "taken out, unlike the Rust",
+/// The texts that are still compared, and how many of them declare a name; those taken out, with how
+/// many have each reason; those of them that are compared after respelling, and those that do not give
+/// what the reference gives as written.
+pub const ROWS: [&str; 8] = [
+    "preprocess", "  with a declared name", "taken out", "  a quoted :=", "  a lone = first",
+    "  a DEFAULT ahead of a :=", "taken out, respelled", "taken out, unlike the Rust",
 ];
 
 pub fn preprocess(subject: &mut Subject, rows: &mut [Row]) {
-    let [compared, taken_out, quoted, equals, keyword, after_respelling, unlike] = rows else {
+    let [compared, declaring, taken_out, quoted, equals, keyword, after_respelling, unlike] = rows
+    else {
         panic!("a row for each name");
     };
     let least = [BUFFER_SIZE, BUFFER_SIZE, BUFFER_SIZE, BUFFER_SIZE, RECORD_NUMBERS];
     let lengths = least.map(|length| length + subject.random.below(4));
     let mut made = Made::new(subject.bytes(), &lengths);
-    let as_written = made.outcome(&Expected::published(subject.text));
+    let published = Reading::published(subject.text).expect(READABLE);
+    let declares = !published.order.is_empty();
+    let as_written = made.outcome(&Expected::new(published));
 
     let reasons = Reasons::of(subject.text);
+    declaring.count(reasons.is_none() && declares);
     taken_out.count(!reasons.is_none());
     quoted.count(reasons.quoted_assign);
     equals.count(reasons.equals_first);
@@ -50,13 +56,23 @@ pub fn preprocess(subject: &mut Subject, rows: &mut [Row]) {
     }
 }
 
+/// A function that is still compared and declares a name; its body is BEGIN alone.
+pub fn declaring(random: &mut Random) -> String {
+    loop {
+        let text = format!("DECLARE {}BEGIN", texts::declarations(random));
+        if Reasons::of(&text).is_none() && !first_declared(&text).is_empty() {
+            return text;
+        }
+    }
+}
+
 /// The outcomes of a text that gives this number, with new buffers of each of these lengths. The
 /// reference is not asked where a pass gives 6.
 pub fn limited(text: &str, lengths: &[Vec<usize>], number: u32) -> Vec<Outcome> {
     assert!(Reasons::of(text).is_none(), "a text at the limits is still compared");
     let expected = match number {
         6 => Expected::refused([6, 0, 0, 0], Vec::new()),
-        _ => Expected::published(text),
+        _ => Expected::new(Reading::published(text).expect(READABLE)),
     };
     let outcome = |lengths: &Vec<usize>| Made::new(text.as_bytes(), lengths).outcome(&expected);
     lengths.iter().map(outcome).collect()
@@ -72,10 +88,6 @@ struct Expected {
 }
 
 impl Expected {
-    fn published(text: &str) -> Self {
-        Self::new(Reading::published(text).expect(READABLE))
-    }
-
     fn new(Reading { output, list, order }: Reading) -> Self {
         if order.len() > NAMES {
             return Self::refused([7, 0, 0, 0], Vec::new());

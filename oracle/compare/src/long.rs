@@ -122,13 +122,18 @@ impl Long {
         let (index, less) = ((number / 2) as usize, (number % 2) as usize);
         let length = self.limit - less - self.back.len();
         let mut text = self.front.to_string();
-        while text.len() < length {
-            match self.patterns.get(index) {
-                Some(pattern) => text.push_str(pattern),
-                None => text.push_str(&(self.piece)(random)),
+        loop {
+            let piece = match self.patterns.get(index) {
+                Some(pattern) => pattern.to_string(),
+                None => (self.piece)(random),
+            };
+            if text.len() + piece.len() > length {
+                break;
             }
+            text.push_str(&piece);
         }
-        text.truncate(length);
+        // Not a part of a piece, which could open a literal that takes in what stands behind.
+        text.push_str(&" ".repeat(length - text.len()));
         text + self.back
     }
 }

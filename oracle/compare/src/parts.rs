@@ -6,6 +6,7 @@ use texts::random::Random;
 
 use crate::comparisons::{compare, names, Comparison, BODIES, FUNCTIONS, SEARCHES};
 use crate::every::{self, Every};
+use crate::functions;
 use crate::joined;
 use crate::limits;
 use crate::long::{self, Long};
@@ -48,14 +49,14 @@ fn run_searches(run: &mut Run) {
     run.long(SEARCHES, &long::SEARCH_TEXTS);
     run.long(SEARCHES, &long::OPEN_TEXTS);
     run.every(SEARCHES);
-    run.random(SEARCHES, texts::any);
+    run.random(SEARCHES, "texts", texts::any);
 }
 
 fn run_bodies(run: &mut Run) {
     run.long(BODIES, &long::BODY_TEXTS);
     run.long(BODIES, &long::ACCEPTED_TEXTS);
     run.every(BODIES);
-    run.random(BODIES, |random| match random.percent(50) {
+    run.random(BODIES, "texts", |random| match random.percent(50) {
         true => texts::body(random),
         false => texts::any(random),
     });
@@ -90,10 +91,11 @@ fn run_functions(run: &mut Run) {
     run.long(FUNCTIONS, &long::DECLARING_TEXTS);
     run.framed("quotes", &every::QUOTING, FRAMES);
     run.framed("what begins a default", &every::DEFAULTS, TYPE_FRAMES);
-    run.random(FUNCTIONS, |random| match random.percent(90) {
+    run.random(FUNCTIONS, "texts", |random| match random.percent(90) {
         true => texts::function(random),
         false => texts::any(random),
     });
+    run.random(FUNCTIONS, "functions with a declared name", functions::declaring);
 }
 
 fn run_joined(run: &mut Run) {
@@ -179,9 +181,9 @@ impl Run<'_> {
         });
     }
 
-    /// A list of comparisons on random texts.
-    fn random(&mut self, list: &[Comparison], text: fn(&mut Random) -> String) {
-        let title = format!("{} random texts, seed {}", grouped(self.random), self.options.seed);
+    /// A list of comparisons on random texts of a kind.
+    fn random(&mut self, list: &[Comparison], kind: &str, text: fn(&mut Random) -> String) {
+        let title = format!("{} random {kind}, seed {}", grouped(self.random), self.options.seed);
         self.texts(list, title, self.random, 4096, |_, random| text(random));
     }
 }

@@ -1,8 +1,8 @@
 //! Where a default begins by Note 2, and which functions leave the comparison for it.
 //!
 //! The published source begins a default behind the first `:=` of a part, quoted or not, and only
-//! without one behind the first live DEFAULT. By Note 2 the leftmost of three live signs decides:
-//! `:=`, DEFAULT and a lone `=`.
+//! without one behind the first live DEFAULT. By Note 2 the leftmost live default key
+//! decides: `:=`, DEFAULT or a lone `=`.
 
 use crate::block;
 use crate::scanner::{Region, Scanner};
@@ -26,7 +26,7 @@ impl Reasons {
     /// The reasons of a function's text.
     pub fn of(text: &str) -> Self {
         let parts = block::parts(text).into_iter();
-        let all: Vec<Self> = parts.map(|part| Signs::of(part).reasons()).collect();
+        let all: Vec<Self> = parts.map(|part| DefaultKeys::of(part).reasons()).collect();
         Self {
             quoted_assign: all.iter().any(|one| one.quoted_assign),
             equals_first: all.iter().any(|one| one.equals_first),
@@ -41,7 +41,7 @@ impl Reasons {
 }
 
 /// The places in a part that matter for its default.
-pub(crate) struct Signs {
+pub(crate) struct DefaultKeys {
     live_assigns: Vec<usize>,
     quoted_assigns: Vec<usize>,
     /// The first live lone `=`.
@@ -50,7 +50,7 @@ pub(crate) struct Signs {
     keyword: Option<usize>,
 }
 
-impl Signs {
+impl DefaultKeys {
     pub(crate) fn of(part: &str) -> Self {
         let scanner = Scanner::new(part);
         let regions = scanner.regions();
@@ -62,8 +62,8 @@ impl Signs {
         Self { live_assigns, quoted_assigns, equals, keyword: scanner.find_keyword(KEYWORD, 0) }
     }
 
-    /// Place and length of what the default stands behind.
-    pub(crate) fn beginning(&self) -> Option<(usize, usize)> {
+    /// Place and length of the leftmost default key, which the default stands behind.
+    pub(crate) fn leftmost(&self) -> Option<(usize, usize)> {
         let assign = self.live_assigns.first().map(|place| (*place, ASSIGN.len()));
         let equals = self.equals.map(|place| (place, 1));
         let keyword = self.keyword.map(|place| (place, KEYWORD.len()));
@@ -101,12 +101,12 @@ mod tests {
     /// Parts, and what their defaults stand behind.
     fn beginnings(parts: &[(&str, Option<(usize, usize)>)]) {
         for (part, expected) in parts {
-            assert_eq!(Signs::of(part).beginning(), *expected, "{part:?}");
+            assert_eq!(DefaultKeys::of(part).leftmost(), *expected, "{part:?}");
         }
     }
 
     #[test]
-    fn a_default_begins_at_the_leftmost_sign() {
+    fn a_default_begins_at_the_leftmost_key() {
         beginnings(&[
             ("a b := 1", Some((4, 2))),
             ("a b = 1", Some((4, 1))),

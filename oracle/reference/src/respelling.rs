@@ -10,7 +10,7 @@
 //! two bytes means anything.
 
 use crate::block::Block;
-use crate::defaults::Signs;
+use crate::defaults::DefaultKeys;
 
 /// Stands for a quoted colon. It is no white space, and the scanner knows it no more than a colon.
 const STAND_IN: &str = "\x01";
@@ -29,7 +29,7 @@ pub fn respelled(text: &str) -> Option<String> {
 
 fn respelled_part(part: &str) -> String {
     let hidden = |ahead: &str| ahead.replace(":=", &format!("{STAND_IN}="));
-    match Signs::of(part).beginning() {
+    match DefaultKeys::of(part).leftmost() {
         Some((place, length)) => {
             format!("{}:={}", hidden(&part[..place]), &part[place + length..])
         }
@@ -83,7 +83,7 @@ mod tests {
         };
         let mut start = block.front.len();
         for part in block.parts {
-            if let Some((place, length)) = Signs::of(part).beginning() {
+            if let Some((place, length)) = DefaultKeys::of(part).leftmost() {
                 rest[start + place..][..length].fill(None);
             }
             start += part.len() + 1;

@@ -25,7 +25,7 @@ impl Shape<'_> {
     }
 
     /// Some declarations. One that Note 2 takes out of the comparison takes its function with it, so
-    /// not all functions are free to have any sign.
+    /// not all functions are free to have any default key.
     pub fn declarations(&mut self) {
         let is_free = self.random.percent(75);
         for _ in 0..self.random.between(0, 6) {
@@ -44,19 +44,19 @@ impl Shape<'_> {
 
     fn declaration(&mut self, is_free: bool) {
         if is_free && self.random.percent(3) {
-            self.any_sign();
+            self.any_key();
         }
         self.odd_name();
         self.gap();
-        self.hidden_sign(is_free);
+        self.quoted_key(is_free);
         self.data_type();
-        self.hidden_sign(is_free);
+        self.quoted_key(is_free);
         self.loose();
         self.default_part(is_free);
-        self.hidden_sign(is_free);
+        self.quoted_key(is_free);
         self.loose();
         if is_free && self.random.percent(3) {
-            self.any_sign();
+            self.any_key();
         }
         match self.random.percent(94) {
             true => self.put(";"),

@@ -1,12 +1,12 @@
 //! Random texts, each made for one family of questions.
 
 mod declare;
+mod default_keys;
 pub mod hex;
 mod mutate;
 pub mod parts;
 pub mod random;
 mod shape;
-mod signs;
 mod statements;
 pub mod tokens;
 

@@ -1,5 +1,5 @@
 -- `declared_parts::find_default` meets its contract. The loop's invariant says that the leftmost default key of the part is
--- the leftmost from i on; `cut-behind` and `cut-none` give the cut, `cut-fits` that it is within the part. Assumes nothing.
+-- the leftmost from i on; `cut-behind` and `cut-none` give the cut, `cut-tells` that it is within the part. Assumes nothing.
 use native.Mathlib.Omega.{arith}
 use borrow.Author.Needs.{needs}
 use mathlib.Core.Path.{_≡_, refl, sym, _∙_}

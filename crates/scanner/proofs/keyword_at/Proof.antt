@@ -1,5 +1,5 @@
--- `scanner::keyword_at` meets its contract. `key-here` says that a keyword stands at i if it matches there and its edges
--- are free; a match ends within the text. Assumes nothing.
+-- `scanner::keyword_at` meets its contract. `key-here` says that a keyword stands at i exactly if it matches there and
+-- its edges are free; a match ends within the text. Assumes nothing.
 use native.Mathlib.Omega.{arith}
 use borrow.Author.Needs.{needs}
 use mathlib.Core.Path.{_≡_, sym, ap, _∙_}

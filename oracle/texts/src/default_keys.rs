@@ -1,29 +1,29 @@
-//! Defaults, and the signs that they begin with: `:=`, `=` and DEFAULT, what looks like them, and
+//! Defaults, and the keys that they stand behind: `:=`, `=` and DEFAULT, what looks like them, and
 //! where they may hide.
 
 use crate::shape::Shape;
 use crate::tokens;
 
-/// Signs without a lone `=` and without DEFAULT, or with these behind a `:=`.
-const NEAR_SIGNS: &[&str] = &[
+/// Keys, and what looks like one, without a lone `=` and without DEFAULT, or with these behind a `:=`.
+const NEAR_KEYS: &[&str] = &[
     "==", "=>", "===", "==>", ":==", ":=>", ":=:=", ":= =", ":", ">", "DEFAULTS", "$DEFAULT",
     "_DEFAULT", "DEFAULT$", "'DEFAULT'", "==:=", "::=",
 ];
 
-/// Signs with a lone `=` ahead of the others.
-const EQUALS_SIGNS: &[&str] = &[
+/// What has a lone `=` ahead of the others.
+const EQUALS_KEYS: &[&str] = &[
     ">=", "<=", "!=", "<>=", "=<", "=:=", "= =", "= >", ": =", "=-", "=/", "=:", "=>=", "=/**/=",
     "=DEFAULT", "=''",
 ];
 
-/// A quoted `=` or DEFAULT.
-const HIDDEN_SIGNS: &[&str] = &[
+/// A quoted `=`, colon or DEFAULT.
+const QUOTED_KEYS: &[&str] = &[
     "'='", "'DEFAULT'", "\"=\"", "\"DEFAULT\"", "$$=$$", "$t$ DEFAULT $t$", "-- =\n",
     "-- DEFAULT 1\n", "/*=*/", "/* DEFAULT */", "': ='", "/*:*/",
 ];
 
 /// A quoted `:=`.
-const HIDDEN_ASSIGNS: &[&str] = &[
+const QUOTED_ASSIGNS: &[&str] = &[
     "':='", "'a := b'", "\":=\"", "$$:=$$", "$t$ := $t$", "-- :=\n", "-- a := 1\n", "/*:=*/",
     "/* a := /* b */ */", "'\\':='", "$$a$t$:=$$",
 ];
@@ -60,45 +60,45 @@ impl Shape<'_> {
             0 => return,
             1 => self.put(":="),
             2 => self.words(&["DEFAULT"]),
-            3 => return self.near_sign(is_free),
+            3 => return self.near_key(is_free),
             4 => self.put("="),
-            _ => self.pick(EQUALS_SIGNS),
+            _ => self.pick(EQUALS_KEYS),
         }
         self.default_value(is_free);
         if self.random.percent(30) {
             self.loose();
             match is_free {
-                true => self.any_sign(),
+                true => self.any_key(),
                 false => self.pick(&["=", "==", "DEFAULT ", "=>", ">=", "!="]),
             }
             self.default_value(is_free);
         }
     }
 
-    /// One of the three signs, or one that looks like them.
-    pub fn any_sign(&mut self) {
+    /// One of the three keys, or what looks like one.
+    pub fn any_key(&mut self) {
         match self.random.weighted(&[36, 18, 20, 10, 16]) {
             0 => self.put(":="),
             1 => self.put("="),
             2 => self.words(&["DEFAULT"]),
-            3 => self.pick(NEAR_SIGNS),
-            _ => self.pick(EQUALS_SIGNS),
+            3 => self.pick(NEAR_KEYS),
+            _ => self.pick(EQUALS_KEYS),
         }
     }
 
-    /// At times quoted text that looks like a sign.
-    pub fn hidden_sign(&mut self, is_free: bool) {
+    /// At times quoted text that looks like a key.
+    pub fn quoted_key(&mut self, is_free: bool) {
         if self.random.percent(6) {
             match is_free && self.random.percent(40) {
-                true => self.pick(HIDDEN_ASSIGNS),
-                false => self.pick(HIDDEN_SIGNS),
+                true => self.pick(QUOTED_ASSIGNS),
+                false => self.pick(QUOTED_KEYS),
             }
             self.loose();
         }
     }
 
-    fn near_sign(&mut self, is_free: bool) {
-        self.pick(NEAR_SIGNS);
+    fn near_key(&mut self, is_free: bool) {
+        self.pick(NEAR_KEYS);
         self.loose();
         match is_free {
             true => self.default_value(true),
