@@ -2,8 +2,8 @@
  * The C interface of the rewriter of PL/pgSQL trigger bodies for SQLite.
  *
  * A part of memory is handed over as a pointer and a length. Lengths of texts and byte buffers are in
- * bytes. Those of `records` and `starts` count 32-bit numbers, not bytes: for an array of 4,104 numbers
- * hand over 4104, not sizeof.
+ * bytes. Those of `records` and `starts` count 32-bit numbers, not bytes: for an array of 5,130 numbers
+ * hand over 5130, not sizeof.
  *
  * The caller owes this: each pointer is valid for its length and aligned for its type, and what a call
  * may write, its buffers and the answer, overlaps nothing else that is handed over. No pointer may be
@@ -31,11 +31,11 @@ extern "C" {
 
 /* The least length of output, work, spare and declared, and of records. */
 #define PLPGSQL_BUFFER_SIZE 65536
-#define PLPGSQL_RECORD_NUMBERS 4104
+#define PLPGSQL_RECORD_NUMBERS 5130
 
 /* The most names that a function declares, and the numbers of one record. */
 #define PLPGSQL_NAME_LIMIT 512
-#define PLPGSQL_RECORD_SIZE 8
+#define PLPGSQL_RECORD_SIZE 10
 
 /* The numbers of every answer. */
 #define PLPGSQL_ANSWER_SIZE 4
@@ -65,7 +65,9 @@ enum plpgsql_record {
     PLPGSQL_RECORD_TYPE_LENGTH = 4,
     PLPGSQL_RECORD_HAS_DEFAULT = 5,
     PLPGSQL_RECORD_DEFAULT_START = 6,
-    PLPGSQL_RECORD_DEFAULT_LENGTH = 7
+    PLPGSQL_RECORD_DEFAULT_LENGTH = 7,
+    PLPGSQL_RECORD_CONSTANT = 8, /* 1 if CONSTANT stood before the type, else 0 */
+    PLPGSQL_RECORD_NOT_NULL = 9  /* 1 if NOT NULL closed the type, else 0 */
 };
 
 /* The first number of every answer. The searches give 0 to 3 only. */
@@ -115,22 +117,28 @@ void plpgsql_transform_body(
 
 /*
  * Rewrites a function: cuts off the declarations and what else stands before the first BEGIN, and
- * rewrites the rest. It needs declared, of 65,536 bytes or more, and records, of 4,104 numbers or more
+ * rewrites the rest. It needs declared, of 65,536 bytes or more, and records, of 5,130 numbers or more
  * (records_length counts numbers), besides.
  *
- * After 0 the first 4,104 numbers of records are the records and then zeros, and the first 65,536 bytes
+ * After 0 the first 5,130 numbers of records are the records and then zeros, and the first 65,536 bytes
  * of declared are their texts and then zeros. After 4, 5, 6 and 7 they are zeros.
  *
- * A record is eight numbers (enum plpgsql_record): next, start and length of the name, start and length
+ * A record is ten numbers (enum plpgsql_record): next, start and length of the name, start and length
  * of the type, 1 if a default is present and else 0, start and length of the default (0 and 0 if it is
- * absent). Starts are offsets in declared. Record 0 is the head: its next leads to the first record, and
- * its other seven numbers are 0. A next is the number of a record: the chain from the head leads through
- * all records in byte order of names and ends with 0.
+ * absent), 1 if CONSTANT stood before the type and else 0, 1 if NOT NULL closed it and else 0. Starts are
+ * offsets in declared. Record 0 is the head: its next leads to the first record, and its other nine
+ * numbers are 0. A next is the number of a record: the chain from the head leads through all records in
+ * byte order of names and ends with 0.
+ * White space (9 to 13 and 32), in literals and comments too, splits what stands ahead of the default
+ * into words: the name, CONSTANT if that is the next one, the type, and NOT NULL if these are the last
+ * two of the rest. These words count in any letter case and are not part of the type. Where no type is
+ * left there is no record: the name is not counted, and an earlier record of it stays as it is.
  * A default begins behind the leftmost `:=`, `=` or DEFAULT of its declaration that stands outside
  * literals and comments; an `=` counts if no `=` stands beside it and no `>` behind it, and DEFAULT as a
  * whole word in any letter case.
- * The records stand in order of first declaration; a later declaration of a name replaces its type and
- * default. The texts stand one behind the other in the order of the records: name, type, default.
+ * The records stand in order of first declaration; a later declaration of a name replaces its type,
+ * default and marks. The texts stand one behind the other in the order of the records: name, type,
+ * default.
  */
 void plpgsql_preprocess(
     const uint8_t *text, size_t text_length,

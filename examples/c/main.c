@@ -22,7 +22,7 @@ static const char *const BODIES[] = {
 
 static const char *const FUNCTION =
     "DECLARE\n"
-    "    v_total numeric(10, 2) := 0;\n"
+    "    v_total numeric(10, 2) NOT NULL := 0;\n"
     "    v_id CONSTANT int;\n"
     "    v_note text DEFAULT $$it's new$$;\n"
     "BEGIN\n"
@@ -63,6 +63,8 @@ static void print_declarations(void) {
         if (record[PLPGSQL_RECORD_HAS_DEFAULT] == 1) {
             print_part("default", record[PLPGSQL_RECORD_DEFAULT_START], record[PLPGSQL_RECORD_DEFAULT_LENGTH]);
         }
+        printf("%s", record[PLPGSQL_RECORD_CONSTANT] == 1 ? " constant" : "");
+        printf("%s", record[PLPGSQL_RECORD_NOT_NULL] == 1 ? " not null" : "");
         printf("\n");
     }
 }

@@ -11,7 +11,7 @@ const BODIES: [&str; 3] = [
 ];
 
 const FUNCTION: &str = "DECLARE
-    v_total numeric(10, 2) := 0;
+    v_total numeric(10, 2) NOT NULL := 0;
     v_id CONSTANT int;
     v_note text DEFAULT $$it's new$$;
 BEGIN
@@ -37,9 +37,11 @@ fn print_function(function: &Function) {
     println!("{}", function.body);
     for declaration in &function.declarations {
         print!("name [{}] type [{}]", declaration.name, declaration.data_type);
-        match declaration.default {
-            Some(default) => println!(" default [{default}]"),
-            None => println!(),
+        if let Some(default) = declaration.default {
+            print!(" default [{default}]");
         }
+        let constant = if declaration.is_constant { " constant" } else { "" };
+        let not_null = if declaration.is_not_null { " not null" } else { "" };
+        println!("{constant}{not_null}");
     }
 }

@@ -3,8 +3,8 @@
 use std::os::raw::c_uchar;
 
 const BUFFER_SIZE: usize = 65_536;
-const RECORD_NUMBERS: usize = 4_104;
-const RECORD_SIZE: usize = 8;
+const RECORD_NUMBERS: usize = 5_130;
+const RECORD_SIZE: usize = 10;
 
 // The places in a record, as the header names them; behind each start stands the length.
 const NEXT: usize = 0;
@@ -12,6 +12,8 @@ const NAME_START: usize = 1;
 const TYPE_START: usize = 3;
 const HAS_DEFAULT: usize = 5;
 const DEFAULT_START: usize = 6;
+const CONSTANT: usize = 8;
+const NOT_NULL: usize = 9;
 
 extern "C" {
     fn plpgsql_transform_body(
@@ -67,6 +69,10 @@ pub struct Declaration<'a> {
     pub name: &'a str,
     pub data_type: &'a str,
     pub default: Option<&'a str>,
+    /// Whether CONSTANT stood before the type.
+    pub is_constant: bool,
+    /// Whether NOT NULL closed the type.
+    pub is_not_null: bool,
 }
 
 /// The buffers that are lent to each call.
@@ -138,7 +144,13 @@ impl Rewriter {
             let record = &self.records[next * RECORD_SIZE..][..RECORD_SIZE];
             let part = |at: usize| text_of(&self.declared, record[at], record[at + 1]);
             let default = (record[HAS_DEFAULT] == 1).then(|| part(DEFAULT_START));
-            list.push(Declaration { name: part(NAME_START), data_type: part(TYPE_START), default });
+            list.push(Declaration {
+                name: part(NAME_START),
+                data_type: part(TYPE_START),
+                default,
+                is_constant: record[CONSTANT] == 1,
+                is_not_null: record[NOT_NULL] == 1,
+            });
             next = record[NEXT] as usize;
         }
         list

@@ -159,38 +159,38 @@ module _ (n : ℕ → List ℕ) (count : ℕ) (u : Different n count) (i : ℕ) 
       }
 
 -- the chain with record i + 1 put in
-pub insert-one : (n : ℕ → List ℕ) (rs : List ℕ) (count i p : ℕ) → Different n count → suc i ≤ count → 8 * count < length rs
+pub insert-one : (n : ℕ → List ℕ) (rs : List ℕ) (count i p : ℕ) → Different n count → suc i ≤ count → 10 * count < length rs
     → Chained n rs count (suc i) → LastAhead n rs count (suc i) p
-    → Chained n (set (set rs (8 * suc i) (getD rs (8 * p) 0)) (8 * p) (suc i)) count i
+    → Chained n (set (set rs (10 * suc i) (getD rs (10 * p) 0)) (10 * p) (suc i)) count i
 insert-one n rs count i p u w b c a j d =
     by (eqb j p)
     (λ e. let z : j ≡ p = eqb-true j p e in
-    let l : 8 * p < length (set rs (8 * suc i) q) = omega (arith, length-set rs (8 * suc i) q, a .held .within) in
-    rw (z, getD-set-same (set rs (8 * suc i) q) (8 * p) (suc i) 0 l) (next-ahead n count u i w p q (a .held) (a .ahead) old (a .last)))
+    let l : 10 * p < length (set rs (10 * suc i) q) = omega (arith, length-set rs (10 * suc i) q, a .held .within) in
+    rw (z, getD-set-same (set rs (10 * suc i) q) (10 * p) (suc i) 0 l) (next-ahead n count u i w p q (a .held) (a .ahead) old (a .last)))
     (λ e. let o = eqb-false j p e in
-    rw (getD-set-other (set rs (8 * suc i) q) (8 * p) (8 * j) (suc i) 0 (λ r. o (omega arith)))
+    rw (getD-set-other (set rs (10 * suc i) q) (10 * p) (10 * j) (suc i) 0 (λ r. o (omega arith)))
     (by (eqb j (suc i))
     (λ s. let z : j ≡ suc i = eqb-true j (suc i) s in
-    let l : 8 * suc i < length rs = omega arith in
-    rw (z, getD-set-same rs (8 * suc i) q 0 l) (next-new n count u i w p q (a .held) (a .ahead) old (a .last)))
+    let l : 10 * suc i < length rs = omega arith in
+    rw (z, getD-set-same rs (10 * suc i) q 0 l) (next-new n count u i w p q (a .held) (a .ahead) old (a .last)))
     (λ s. let y = eqb-false j (suc i) s in
     let h : InChain count (suc i) j = record { within = d .within; later = λ z. omega (arith, y, d .later z) } in
-    rw (getD-set-other rs (8 * suc i) (8 * j) q 0 (λ r. y (omega arith)))
-    (next-kept n count u i w p q (a .held) (a .ahead) old (a .last) j (getD rs (8 * j) 0) h (c j h) o))))
+    rw (getD-set-other rs (10 * suc i) (10 * j) q 0 (λ r. y (omega arith)))
+    (next-kept n count u i w p q (a .held) (a .ahead) old (a .last) j (getD rs (10 * j) 0) h (c j h) o))))
   where
     q : ℕ
-    q = getD rs (8 * p) 0
+    q = getD rs (10 * p) 0
 
     old : NextIs n count (suc i) p q
     old = c p (a .held)
 
 -- ---- the walk to the place of record k, at record p whose next is m
 
-module _ (n : ℕ → List ℕ) (rs : List ℕ) (count k p m : ℕ) (c : Chained n rs count k) (h : InChain count k p) (t : comesBehind n p k ≡ true) (e : m ≡ getD (drop (8 * p) rs) 0 0) where
-  at-next : m ≡ getD rs (8 * p) 0
+module _ (n : ℕ → List ℕ) (rs : List ℕ) (count k p m : ℕ) (c : Chained n rs count k) (h : InChain count k p) (t : comesBehind n p k ≡ true) (e : m ≡ getD (drop (10 * p) rs) 0 0) where
+  at-next : m ≡ getD rs (10 * p) 0
   at-next =
-      let z : 8 * p + 0 ≡ 8 * p = omega arith in
-      e ∙ (rw z at (getD-drop (8 * p) rs 0 0))
+      let z : 10 * p + 0 ≡ 10 * p = omega arith in
+      e ∙ (rw z at (getD-drop (10 * p) rs 0 0))
 
   next-here : NextIs n count k p m
   next-here = rw at-next (c p h)

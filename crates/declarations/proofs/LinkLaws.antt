@@ -18,9 +18,9 @@ use Rattle.declarations.proofs.NextLaws.{next-is}
 
 module _ (xs rs : List ℕ) where
   -- a number that is stored as a record's next leaves the contents
-  store-same : (k v j : ℕ) → recordIn xs (set rs (8 * k) v) j ≡ recordIn xs rs j
+  store-same : (k v j : ℕ) → recordIn xs (set rs (10 * k) v) j ≡ recordIn xs rs j
   store-same k v j =
-      record-same xs (set rs (8 * k) v) rs j (λ i a c. getD-set-other rs (8 * k) (8 * j + i) v 0 (λ r. absurd (omega arith)))
+      record-same xs (set rs (10 * k) v) rs j (λ i a c. getD-set-other rs (10 * k) (10 * j + i) v 0 (λ r. absurd (omega arith)))
 
   -- the names are the same where the contents are
   names-same : (rs′ : List ℕ) → ((j : ℕ) → recordIn xs rs′ j ≡ recordIn xs rs j) → nameIn xs rs′ ≡ nameIn xs rs
@@ -31,7 +31,7 @@ module _ (xs rs : List ℕ) (count : ℕ) where
   pub record LinkedAbove (k : ℕ) (rs′ : List ℕ) : Type 0 where
     pub chained : Chained (nameIn xs rs) rs′ count k
     pub same : (j : ℕ) → recordIn xs rs′ j ≡ recordIn xs rs j
-    pub behind : drop 4104 rs′ ≡ drop 4104 rs
+    pub behind : drop 5130 rs′ ≡ drop 5130 rs
 
   -- no record is in the chain yet
   pub linked-none : getD rs 0 0 ≡ 0 → LinkedAbove count rs
@@ -67,7 +67,7 @@ module _ (xs rs : List ℕ) (count : ℕ) where
   pub linked-all : (rs′ : List ℕ) → Different (nameIn xs rs) count → LinkedAbove 0 rs′ → Linked xs rs count rs′
   linked-all rs′ u l =
       record {
-        next = λ j a. next-is xs rs count u j (getD rs′ (8 * j) 0) (l .chained j record { within = a; later = λ z. omega (arith, z) });
+        next = λ j a. next-is xs rs count u j (getD rs′ (10 * j) 0) (l .chained j record { within = a; later = λ z. omega (arith, z) });
         same = l .same;
         behind = l .behind;
       }
@@ -78,19 +78,19 @@ linked-head xs rs count k v rs′ l =
     record {
       chained = subst (λ n. Chained n rs′ count k) (names-same xs rs (set rs 0 v) (store-same xs rs 0 v)) (l .chained);
       same = λ j. l .same j ∙ store-same xs rs 0 v j;
-      behind = l .behind ∙ drop-set-lt 4104 rs 0 v (omega arith);
+      behind = l .behind ∙ drop-set-lt 5130 rs 0 v (omega arith);
     }
 
 -- record k is put in by two stores
-pub inserted : (xs rs : List ℕ) (count k p : ℕ) → Different (nameIn xs rs) count → 1 ≤ k → k ≤ count → count ≤ 512 → 4104 ≤ length rs
+pub inserted : (xs rs : List ℕ) (count k p : ℕ) → Different (nameIn xs rs) count → 1 ≤ k → k ≤ count → count ≤ 512 → 5130 ≤ length rs
     → Chained (nameIn xs rs) rs count k → LastAhead (nameIn xs rs) rs count k p
-    → Inserted xs rs count k (set (set rs (8 * k) (getD rs (8 * p) 0)) (8 * p) k)
+    → Inserted xs rs count k (set (set rs (10 * k) (getD rs (10 * p) 0)) (10 * p) k)
 inserted xs rs count k p u a b low long c t =
     let z : suc (k - 1) ≡ k = omega arith in
-    let q = getD rs (8 * p) 0 in
+    let q = getD rs (10 * p) 0 in
     record {
       chained = rw z at (insert-one (nameIn xs rs) rs count (k - 1) p u (rw z b) (omega arith) (rw z c) (rw z t));
-      same = λ j. store-same xs (set rs (8 * k) q) p k j ∙ store-same xs rs k q j;
+      same = λ j. store-same xs (set rs (10 * k) q) p k j ∙ store-same xs rs k q j;
       behind =
-          drop-set-lt 4104 (set rs (8 * k) q) (8 * p) k (omega (arith, t .held .within)) ∙ drop-set-lt 4104 rs (8 * k) q (omega arith);
+          drop-set-lt 5130 (set rs (10 * k) q) (10 * p) k (omega (arith, t .held .within)) ∙ drop-set-lt 5130 rs (10 * k) q (omega arith);
     }

@@ -59,7 +59,7 @@ packed-small t = omega (arith, all-packed (pieces (byteHere 59) t) [], pieces-le
 
 -- the records' numbers where each has its next
 final-records : (xs rs : List ℕ) (ds : List Declared) (at k n : ℕ)
-    → ((j : ℕ) → k ≤ j → j < k + n → getD rs (8 * j) 0 ≡ nextOf ds (recordIn xs rs j .name))
+    → ((j : ℕ) → k ≤ j → j < k + n → getD rs (10 * j) 0 ≡ nextOf ds (recordIn xs rs j .name))
     → finalNumbers xs rs at k n ≡ recordsAt ds at (recordsFrom xs rs k n)
 unfolding finalNumbers recordsAt recordsFrom recordAt otherNumbers
 final-records xs rs ds at k zero h = refl
@@ -88,34 +88,34 @@ module _ (xs : List ℕ) (t : List Marked) (count : ℕ) (low : count ≤ 512) (
   unfolding nextNumber
   next-named j d z e = rw (ne-eqb j 0 z, gathered, e) refl
 
-  -- the head's eight numbers
+  -- the head's ten numbers
   abbrev pub headNumbers : List ℕ
-  headNumbers = getD rs₂ 0 0 ∷ 0 ∷ 0 ∷ 0 ∷ 0 ∷ 0 ∷ 0 ∷ 0 ∷ []
+  headNumbers = getD rs₂ 0 0 ∷ 0 ∷ 0 ∷ 0 ∷ 0 ∷ 0 ∷ 0 ∷ 0 ∷ 0 ∷ 0 ∷ []
 
-  module _ (rs₃ : List ℕ) (e : rs₃ ≡ sets rs₂ (8 * 0) headNumbers) where
+  module _ (rs₃ : List ℕ) (e : rs₃ ≡ sets rs₂ (10 * 0) headNumbers) where
     kept : (j : ℕ) → 1 ≤ j → recordIn xs rs₃ j ≡ recordIn xs rs₁ j
     kept j h = rw e (record-other xs rs₂ headNumbers 0 j refl (λ z. absurd (omega arith))) ∙ l .same j
 
     pub kept-all : recordsFrom xs rs₃ 1 count ≡ ds
     kept-all = from-same xs rs₃ rs₁ 1 count kept ∙ gathered
 
-    nexts : (j : ℕ) → 1 ≤ j → j < 1 + count → getD rs₃ (8 * j) 0 ≡ nextOf ds (recordIn xs rs₃ j .name)
+    nexts : (j : ℕ) → 1 ≤ j → j < 1 + count → getD rs₃ (10 * j) 0 ≡ nextOf ds (recordIn xs rs₃ j .name)
     nexts j a b =
-        rw e (sets-behind headNumbers rs₂ (8 * 0) (8 * j) (omega arith)) ∙ (l .next j (omega arith) ∙ next-named j (recordIn xs rs₃ j) (λ z. absurd (omega arith)) (kept j a))
+        rw e (sets-behind headNumbers rs₂ (10 * 0) (10 * j) (omega arith)) ∙ (l .next j (omega arith) ∙ next-named j (recordIn xs rs₃ j) (λ z. absurd (omega arith)) (kept j a))
 
     head : getD rs₂ 0 0 ≡ headNext ds
     head =
-        let z : 8 * 0 ≡ 0 = omega arith in
+        let z : 10 * 0 ≡ 0 = omega arith in
         (rw z at (l .next 0 zero-le)) ∙ next-first
 
     all-numbers : headNumbers ++ recordsAt ds 0 ds ≡ numbersOf ds
     unfolding numbersOf recordWidth
     all-numbers = rw head refl
 
-    stored : (rs₄ : List ℕ) → rs₄ ≡ sets rs₃ 8 (finalNumbers xs rs₃ 0 1 count) → rs₄ ≡ sets rs₂ 0 (numbersOf ds)
+    stored : (rs₄ : List ℕ) → rs₄ ≡ sets rs₃ 10 (finalNumbers xs rs₃ 0 1 count) → rs₄ ≡ sets rs₂ 0 (numbersOf ds)
     stored rs₄ q =
-        let z : 8 * 0 ≡ 0 = omega arith in
-        let m : 0 + length headNumbers ≡ 8 = omega arith in
+        let z : 10 * 0 ≡ 0 = omega arith in
+        let m : 0 + length headNumbers ≡ 10 = omega arith in
         let f : finalNumbers xs rs₃ 0 1 count ≡ recordsAt ds 0 ds =
         final-records xs rs₃ ds 0 1 count nexts ∙ ap (recordsAt ds 0) kept-all in
         let r : rs₃ ≡ sets rs₂ 0 headNumbers = rw z at e in
@@ -125,8 +125,8 @@ module _ (xs : List ℕ) (t : List Marked) (count : ℕ) (low : count ≤ 512) (
         ∙ (sym (sets-append headNumbers (recordsAt ds 0 ds) rs₂ 0) ∙ ap (sets rs₂ 0) all-numbers)))
 
     -- both buffers
-    pub packed-all : (rs₀ out out′ rs₄ : List ℕ) → drop 4104 rs₁ ≡ drop 4104 rs₀ → length t ≤ 16384 → 65536 ≤ length out → 4104 ≤ length rs₂
-        → out′ ≡ sets out 0 (packed (recordsFrom xs rs₃ 1 count)) → rs₄ ≡ sets rs₃ 8 (finalNumbers xs rs₃ 0 1 count)
+    pub packed-all : (rs₀ out out′ rs₄ : List ℕ) → drop 5130 rs₁ ≡ drop 5130 rs₀ → length t ≤ 16384 → 65536 ≤ length out → 5130 ≤ length rs₂
+        → out′ ≡ sets out 0 (packed (recordsFrom xs rs₃ 1 count)) → rs₄ ≡ sets rs₃ 10 (finalNumbers xs rs₃ 0 1 count)
         → Holds ds out out′ rs₀ rs₄
     unfolding recordWidth
     packed-all rs₀ out out′ rs₄ b a f c p q =
@@ -139,7 +139,7 @@ module _ (xs : List ℕ) (t : List Marked) (count : ℕ) (low : count ≤ 512) (
             numbers = rw (stored rs₄ q) (front-stored rs₂ _ (numbersOf ds) _ refl (omega (arith, n, count-length)) refl);
           };
           refused = λ h. absurd (omega (arith, count-length));
-          behind = rw (stored rs₄ q) (sets-drop (numbersOf ds) rs₂ 0 4104 (omega (arith, n, count-length))) ∙ (l .behind ∙ b);
+          behind = rw (stored rs₄ q) (sets-drop (numbersOf ds) rs₂ 0 5130 (omega (arith, n, count-length))) ∙ (l .behind ∙ b);
         }
 
 -- the answers
@@ -151,7 +151,7 @@ pub parsed-count : (es : List Declared) (n m : ℕ) → length es ≡ n → m �
 unfolding parsedOf
 parsed-count es n m e f h = rw (e, f, le-ltb 512 n h) refl
 
-pub over-holds : (xs : List ℕ) (t : List Marked) (rs rs₀ out : List ℕ) (r : ℕ) → Gathered xs t rs r → 512 < r → drop 4104 rs ≡ drop 4104 rs₀
+pub over-holds : (xs : List ℕ) (t : List Marked) (rs rs₀ out : List ℕ) (r : ℕ) → Gathered xs t rs r → 512 < r → drop 5130 rs ≡ drop 5130 rs₀
     → Holds (recordsOfSection t) out out rs₀ rs
 unfolding recordsOfSection
 over-holds xs t rs rs₀ out r g h b =

@@ -10,32 +10,24 @@ use lib.ListN.{length, getD, take, drop, length-append, length-drop}
 use lib.Seq.{sets}
 use Rattle.output.proofs.StoreLaws.{sets-append}
 use Rattle.spec.proofs.Choice.{by}
-use Rattle.spec.specs.Declarations.{Declared, textOr, packedRecord, packed, defaultNumbers}
-use Rattle.declared_parts.specs.DeclaredParts.{spaced, valueOf, defaultBy, declaredBy}
+use Rattle.spec.specs.Declarations.{Declared, textOr, packedRecord, packed, defaultNumbers, oneIf}
+use Rattle.declared_parts.specs.DeclaredParts.{spaced, valueOf, isSet, defaultBy, declaredBy}
+use Rattle.declared_parts.proofs.BetweenLaws.{piece-le}
 use Rattle.declared_records.specs.Held.{recordIn, recordsFrom}
 use Rattle.declarations.specs.SectionRecords.{endsOf, otherNumbers, finalNumbers}
 use Rattle.declarations.specs.declared.Ends.{Ends}
 use Rattle.declared_records.proofs.HeldLaws.{sets-behind, record-same}
 
--- a part of a text is not longer than the text
-pub piece-le : (xs : List ℕ) (a n : ℕ) → length (take n (drop a xs)) ≤ length xs
-piece-le xs a n = omega (arith, shorter n (drop a xs), length-drop a xs)
-  where
-    shorter : (n : ℕ) (l : List ℕ) → length (take n l) ≤ length l
-    shorter zero l = omega arith
-    shorter (suc n) [] = omega arith
-    shorter (suc n) (x ∷ l) = omega (arith, shorter n l)
-
 pub name-le : (xs rs : List ℕ) (k : ℕ) → length (recordIn xs rs k .name) ≤ length xs
 unfolding declaredBy
-name-le xs rs k = piece-le xs (getD (drop (8 * k) rs) 1 0) (getD (drop (8 * k) rs) 2 0)
+name-le xs rs k = piece-le xs (getD (drop (10 * k) rs) 1 0) (getD (drop (10 * k) rs) 2 0)
 
 module _ (xs rs : List ℕ) (k : ℕ) where
   abbrev d : Declared
   d = recordIn xs rs k
 
   abbrev number : ℕ → ℕ
-  number j = getD (drop (8 * k) rs) j 0
+  number j = getD (drop (10 * k) rs) j 0
 
   -- the type and the default by their places
   typed : d .type ≡ spaced false (take (number 4) (drop (number 3) xs))
@@ -94,33 +86,49 @@ module _ (xs rs : List ℕ) (k : ℕ) where
       record { first = omega arith; second = omega arith; third = omega arith; last = omega (arith, packed-length n) }
 
   default-places : (p at : ℕ) (text : List ℕ)
-      → cond (eqb p 0) 0 1 ∷ cond (eqb p 0) 0 at ∷ length (textOr (valueOf p text)) ∷ [] ≡ defaultNumbers (valueOf p text) at
+      → oneIf (isSet p) ∷ cond (eqb p 0) 0 at ∷ length (textOr (valueOf p text)) ∷ [] ≡ defaultNumbers (valueOf p text) at
   unfolding defaultNumbers
   default-places p at text = by (eqb p 0) (λ h. rw h refl) (λ h. rw h refl)
 
-  pub numbers : (n p flag at : ℕ) (e : Ends) → p ≡ number 5 → e ≡ endsOf n d → flag ≡ cond (eqb p 0) 0 1 → at ≡ cond (eqb p 0) 0 (e .kind)
-      → n ∷ (e .name - n) ∷ e .name ∷ (e .kind - e .name) ∷ flag ∷ at ∷ (e .value - e .kind) ∷ [] ≡ otherNumbers n d
+  -- the marks by their numbers
+  constant-is : oneIf (isSet (number 8)) ≡ oneIf (d .constant)
+  unfolding declaredBy
+  constant-is = refl
+
+  not-null-is : oneIf (isSet (number 9)) ≡ oneIf (d .notNull)
+  unfolding declaredBy
+  not-null-is = refl
+
+  pub numbers : (n p flag at constant notNull : ℕ) (e : Ends) → p ≡ number 5 → e ≡ endsOf n d
+      → flag ≡ oneIf (isSet (number 5)) → at ≡ cond (eqb p 0) 0 (e .kind) → constant ≡ oneIf (isSet (number 8)) → notNull ≡ oneIf (isSet (number 9))
+      → n ∷ (e .name - n) ∷ e .name ∷ (e .kind - e .name) ∷ flag ∷ at ∷ (e .value - e .kind) ∷ constant ∷ notNull ∷ [] ≡ otherNumbers n d
   unfolding endsOf otherNumbers
-  numbers n p flag at e q r f g =
+  numbers n p flag at constant notNull e q r f g u v =
       let m₁ : e .name ≡ n + length (d .name) = ap (λ (f : Ends). f .name) r in
       let m₂ : e .kind ≡ n + length (d .name) + length (d .type) = ap (λ (f : Ends). f .kind) r in
       let m₃ : e .value ≡ n + length (d .name) + length (d .type) + length (textOr (d .default)) = ap (λ (f : Ends). f .value) r in
       let i₁ : e .name - n ≡ length (d .name) = omega arith in
       let i₂ : e .kind - e .name ≡ length (d .type) = omega arith in
       let i₃ : e .value - e .kind ≡ length (textOr (d .default)) = omega arith in
-      let v : d .default ≡ valueOf p (take (number 7) (drop (number 6) xs)) = valued ∙ rw q refl in
-      let w = default-places p (n + length (d .name) + length (d .type)) (take (number 7) (drop (number 6) xs)) in
-      rw (i₁, i₂, i₃, m₁, f, g, m₂)
-      (ap (λ (l : List ℕ). n ∷ length (d .name) ∷ (n + length (d .name)) ∷ length (d .type) ∷ l)
-      (rw v w))
+      let o : d .default ≡ valueOf p (take (number 7) (drop (number 6) xs)) = valued ∙ rw q refl in
+      let front = n + length (d .name) + length (d .type) in
+      let w : oneIf (isSet p) ∷ cond (eqb p 0) 0 front ∷ length (textOr (d .default)) ∷ [] ≡ defaultNumbers (d .default) front =
+      rw o (default-places p front (take (number 7) (drop (number 6) xs))) in
+      let marks : List ℕ = oneIf (d .constant) ∷ oneIf (d .notNull) ∷ [] in
+      let s : flag ≡ oneIf (isSet p) = f ∙ rw q refl in
+      let c : constant ≡ oneIf (d .constant) = u ∙ constant-is in
+      let z : notNull ≡ oneIf (d .notNull) = v ∙ not-null-is in
+      rw (i₁, i₂, i₃, m₁, s, g, m₂, c, z)
+      (ap (λ (l : List ℕ). n ∷ length (d .name) ∷ (n + length (d .name)) ∷ length (d .type) ∷ (l ++ marks)) w)
 
 -- ---- all records
 
-others-length : (n : ℕ) (d : Declared) → length (otherNumbers n d) ≡ 7
+others-length : (n : ℕ) (d : Declared) → length (otherNumbers n d) ≡ 9
 unfolding otherNumbers defaultNumbers
 others-length n d = go (d .default) (n + length (d .name) + length (d .type))
   where
-    go : (o : Option (List ℕ)) (m : ℕ) → suc (suc (suc (suc (length (defaultNumbers o m))))) ≡ 7
+    go : (o : Option (List ℕ)) (m : ℕ)
+        → suc (suc (suc (suc (length (defaultNumbers o m ++ (oneIf (d .constant) ∷ oneIf (d .notNull) ∷ [])))))) ≡ 9
     go none m = refl
     go (some xs) m = refl
 
@@ -131,21 +139,21 @@ module _ (xs out rs : List ℕ) (count : ℕ) where
 
   -- records below k are written, those from k on are as they were
   pub record Written (k n : ℕ) (out′ rs′ : List ℕ) : Type 0 where
-    pub untouched : (j : ℕ) → 8 * k ≤ j → getD rs′ j 0 ≡ getD rs j 0
+    pub untouched : (j : ℕ) → 10 * k ≤ j → getD rs′ j 0 ≡ getD rs j 0
     pub counted : n + length (packed (left k)) ≡ length (packed (recordsFrom xs rs 1 count))
     pub texts : sets out 0 (packed (recordsFrom xs rs 1 count)) ≡ sets out′ n (packed (left k))
-    pub numbers : sets rs 8 (finalNumbers xs rs 0 1 count) ≡ sets rs′ (8 * k) (finalNumbers xs rs n k (count + 1 - k))
+    pub numbers : sets rs 10 (finalNumbers xs rs 0 1 count) ≡ sets rs′ (10 * k) (finalNumbers xs rs n k (count + 1 - k))
 
   pub written-none : Written 1 0 out rs
   written-none =
       let z : count + 1 - 1 ≡ count = omega arith in
-      let e : 8 * 1 ≡ 8 = omega arith in
+      let e : 10 * 1 ≡ 10 = omega arith in
       record { untouched = λ j h. refl; counted = rw z (omega arith); texts = rw z refl; numbers = rw (z, e) refl }
 
   module _ (k n : ℕ) (out′ rs′ : List ℕ) (h : k ≤ count) (w : Written k n out′ rs′) where
     -- the record that is written is the one that was read
     same : recordIn xs rs′ k ≡ recordIn xs rs k
-    same = record-same xs rs′ rs k (λ i a b. w .untouched (8 * k + i) (omega arith))
+    same = record-same xs rs′ rs k (λ i a b. w .untouched (10 * k + i) (omega arith))
 
     one : left k ≡ recordIn xs rs k ∷ left (k + 1)
     unfolding recordsFrom
@@ -159,7 +167,7 @@ module _ (xs out rs : List ℕ) (count : ℕ) where
     packed-one = rw one refl
 
     final-one : finalNumbers xs rs n k (count + 1 - k)
-        ≡ (getD rs (8 * k) 0 ∷ otherNumbers n (recordIn xs rs k))
+        ≡ (getD rs (10 * k) 0 ∷ otherNumbers n (recordIn xs rs k))
         ++ finalNumbers xs rs (n + length (packedRecord (recordIn xs rs k))) (k + 1) (count + 1 - (k + 1))
     unfolding finalNumbers
     final-one =
@@ -173,18 +181,18 @@ module _ (xs out rs : List ℕ) (count : ℕ) where
 
     pub written-one : (m : ℕ) (out″ rs″ : List ℕ) → m ≡ n + length (packedRecord (recordIn xs rs′ k))
         → out″ ≡ sets out′ n (packedRecord (recordIn xs rs′ k))
-        → rs″ ≡ sets rs′ (8 * k) (getD rs′ (8 * k) 0 ∷ otherNumbers n (recordIn xs rs′ k))
+        → rs″ ≡ sets rs′ (10 * k) (getD rs′ (10 * k) 0 ∷ otherNumbers n (recordIn xs rs′ k))
         → Written (k + 1) m out″ rs″
     written-one m out″ rs″ p q r =
         let d = recordIn xs rs k in
         let m₁ : m ≡ n + length (packedRecord d) = p ∙ rw same refl in
         let q₁ : out″ ≡ sets out′ n (packedRecord d) = q ∙ rw same refl in
-        let vs : List ℕ = getD rs (8 * k) 0 ∷ otherNumbers n d in
-        let r₁ : rs″ ≡ sets rs′ (8 * k) vs = r ∙ rw (same, w .untouched (8 * k) (omega arith)) refl in
-        let l : length vs ≡ 8 = omega (arith, others-length n d) in
-        let e : 8 * k + length vs ≡ 8 * (k + 1) = omega arith in
+        let vs : List ℕ = getD rs (10 * k) 0 ∷ otherNumbers n d in
+        let r₁ : rs″ ≡ sets rs′ (10 * k) vs = r ∙ rw (same, w .untouched (10 * k) (omega arith)) refl in
+        let l : length vs ≡ 10 = omega (arith, others-length n d) in
+        let e : 10 * k + length vs ≡ 10 * (k + 1) = omega arith in
         record {
-          untouched = λ j a. rw r₁ (sets-behind vs rs′ (8 * k) j (omega arith)) ∙ w .untouched j (omega arith);
+          untouched = λ j a. rw r₁ (sets-behind vs rs′ (10 * k) j (omega arith)) ∙ w .untouched j (omega arith);
           counted = omega (arith, w .counted, ap length packed-one, length-append (packedRecord d) (packed (left (k + 1))));
           texts =
               w .texts
@@ -192,15 +200,15 @@ module _ (xs out rs : List ℕ) (count : ℕ) where
               ∙ (sets-append (packedRecord d) (packed (left (k + 1))) out′ n ∙ rw (q₁, m₁) refl));
           numbers =
               w .numbers
-              ∙ (ap (sets rs′ (8 * k)) final-one
-              ∙ (sets-append vs (finalNumbers xs rs (n + length (packedRecord d)) (k + 1) (count + 1 - (k + 1))) rs′ (8 * k) ∙ rw (r₁, m₁, e) refl));
+              ∙ (ap (sets rs′ (10 * k)) final-one
+              ∙ (sets-append vs (finalNumbers xs rs (n + length (packedRecord d)) (k + 1) (count + 1 - (k + 1))) rs′ (10 * k) ∙ rw (r₁, m₁, e) refl));
         }
 
   -- nothing is left
   pub record Done (n : ℕ) (out′ rs′ : List ℕ) : Type 0 where
     pub counted : n ≡ length (packed (recordsFrom xs rs 1 count))
     pub texts : out′ ≡ sets out 0 (packed (recordsFrom xs rs 1 count))
-    pub numbers : rs′ ≡ sets rs 8 (finalNumbers xs rs 0 1 count)
+    pub numbers : rs′ ≡ sets rs 10 (finalNumbers xs rs 0 1 count)
 
   pub written-all : (k n : ℕ) (out′ rs′ : List ℕ) → count < k → Written k n out′ rs′ → Done n out′ rs′
   unfolding recordsFrom packed finalNumbers

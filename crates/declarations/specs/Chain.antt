@@ -35,16 +35,16 @@ pub record NextIs (n : ℕ → List ℕ) (count k j m : ℕ) : Type 0 where
 
 -- the records numbered above k are in the chain
 abbrev pub Chained : (ℕ → List ℕ) → List ℕ → ℕ → ℕ → Type 0
-Chained n rs count k = (j : ℕ) → InChain count k j → NextIs n count k j (getD rs (8 * j) 0)
+Chained n rs count k = (j : ℕ) → InChain count k j → NextIs n count k j (getD rs (10 * j) 0)
 
 -- record p is the last in the chain that record k comes behind
 pub record LastAhead (n : ℕ → List ℕ) (rs : List ℕ) (count k p : ℕ) : Type 0 where
   pub held : InChain count k p
   pub ahead : comesBehind n p k ≡ true
-  pub last : (getD rs (8 * p) 0 ≡ 0 → ⊥) → isBefore (n (getD rs (8 * p) 0)) (n k) ≡ false
+  pub last : (getD rs (10 * p) 0 ≡ 0 → ⊥) → isBefore (n (getD rs (10 * p) 0)) (n k) ≡ false
 
 -- record k is put in; the records' contents are the same
 pub record Inserted (xs rs : List ℕ) (count k : ℕ) (rs′ : List ℕ) : Type 0 where
   pub chained : Chained (nameIn xs rs) rs′ count (k - 1)
   pub same : (j : ℕ) → recordIn xs rs′ j ≡ recordIn xs rs j
-  pub behind : drop 4104 rs′ ≡ drop 4104 rs
+  pub behind : drop 5130 rs′ ≡ drop 5130 rs

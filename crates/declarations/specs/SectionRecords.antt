@@ -9,7 +9,7 @@ use lib.Seq.{sets}
 use Rattle.spec.specs.Bytes.{ascii}
 use Rattle.spec.specs.Map.{Marked}
 use Rattle.spec.specs.Search.{first, keywordHere, byteHere, pieces}
-use Rattle.spec.specs.Declarations.{Declared, declareAll, declareSection, textOr, packedRecord, packed, headNext, nextOf, defaultNumbers, numbersOf}
+use Rattle.spec.specs.Declarations.{Declared, declareAll, declareSection, textOr, packedRecord, packed, headNext, nextOf, defaultNumbers, oneIf, numbersOf}
 use Rattle.spec.specs.Parts.{part}
 use Rattle.declared_records.specs.Held.{recordIn, recordsFrom}
 use Rattle.spec.specs.declared.Found.{Found}
@@ -64,21 +64,25 @@ nextNumber xs rs count k =
 
 -- each of the records has its next, and their contents are the same
 pub record Linked (xs rs : List ℕ) (count : ℕ) (rs′ : List ℕ) : Type 0 where
-  pub next : (k : ℕ) → k ≤ count → getD rs′ (8 * k) 0 ≡ nextNumber xs rs count k
+  pub next : (k : ℕ) → k ≤ count → getD rs′ (10 * k) 0 ≡ nextNumber xs rs count k
   pub same : (k : ℕ) → recordIn xs rs′ k ≡ recordIn xs rs k
-  pub behind : drop 4104 rs′ ≡ drop 4104 rs
+  pub behind : drop 5130 rs′ ≡ drop 5130 rs
 
 -- the numbers of a record but for its next, its texts packed from `at`
 unfoldable pub otherNumbers : ℕ → Declared → List ℕ
 otherNumbers at d =
     let typeAt = at + length (d .name) in
-    at ∷ length (d .name) ∷ typeAt ∷ length (d .type) ∷ defaultNumbers (d .default) (typeAt + length (d .type))
+    at
+    ∷ length (d .name)
+    ∷ typeAt
+    ∷ length (d .type)
+    ∷ (defaultNumbers (d .default) (typeAt + length (d .type)) ++ (oneIf (d .constant) ∷ oneIf (d .notNull) ∷ []))
 
 -- the numbers of n records from record k on, each next as it is
 unfoldable pub finalNumbers : List ℕ → List ℕ → ℕ → ℕ → ℕ → List ℕ
 finalNumbers xs rs at k zero = []
 finalNumbers xs rs at k (suc n) =
-    (getD rs (8 * k) 0 ∷ otherNumbers at (recordIn xs rs k))
+    (getD rs (10 * k) 0 ∷ otherNumbers at (recordIn xs rs k))
     ++ finalNumbers xs rs (at + length (packedRecord (recordIn xs rs k))) (suc k) n
 
 -- what the lent buffers hold of up to 512 records: the texts and nothing else, and the numbers in front
@@ -91,4 +95,4 @@ pub record Packed (ds : List Declared) (declared declared′ records′ : List �
 pub record Holds (ds : List Declared) (declared declared′ records records′ : List ℕ) : Type 0 where
   pub accepted : length ds ≤ 512 → Packed ds declared declared′ records′
   pub refused : 512 < length ds → declared′ ≡ declared
-  pub behind : drop 4104 records′ ≡ drop 4104 records
+  pub behind : drop 5130 records′ ≡ drop 5130 records

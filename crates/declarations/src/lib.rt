@@ -6,6 +6,7 @@ use declared_parts::put_requoted;
 use declared_parts::put_spaced;
 use declared_records::RECORD_LIMIT;
 use declared_records::RECORD_WIDTH;
+use declared_records::flag_of;
 use declared_records::gather;
 use declared_records::name_of;
 use declared_records::number;
@@ -54,7 +55,7 @@ pub struct Ends {
 fn start_of(text: &[u8], records: &[u32], count: usize, k: usize) -> usize
     requires { ⌜ count ≤ 512 ⌝ }
     requires { ⌜ k ≤ count ⌝ }
-    requires { ⌜ 4104 ≤ length (now records) ⌝ }
+    requires { ⌜ 5130 ≤ length (now records) ⌝ }
     ensures { λ r. ⌜ InChain count k r ⌝ }
     ensures { λ r. ⌜ comesBehind (nameIn (now (text .entry)) (now (records .entry))) r k ≡ true ⌝ }
 {
@@ -73,7 +74,7 @@ fn start_of(text: &[u8], records: &[u32], count: usize, k: usize) -> usize
 fn find_place(text: &[u8], records: &[u32], count: usize, k: usize, from: usize) -> usize
     requires { ⌜ count ≤ 512 ⌝ }
     requires { ⌜ k ≤ count ⌝ }
-    requires { ⌜ 4104 ≤ length (now records) ⌝ }
+    requires { ⌜ 5130 ≤ length (now records) ⌝ }
     requires { ⌜ Chained (nameIn (now text) (now records)) (now records) count k ⌝ }
     requires { ⌜ InChain count k from ⌝ }
     requires { ⌜ comesBehind (nameIn (now text) (now records)) from k ≡ true ⌝ }
@@ -100,7 +101,7 @@ fn insert(text: &[u8], records: &mut [u32], count: usize, k: usize)
     requires { ⌜ count ≤ 512 ⌝ }
     requires { ⌜ 1 ≤ k ⌝ }
     requires { ⌜ k ≤ count ⌝ }
-    requires { ⌜ 4104 ≤ length (now records) ⌝ }
+    requires { ⌜ 5130 ≤ length (now records) ⌝ }
     requires { ⌜ Different (nameIn (now text) (now records)) count ⌝ }
     requires { ⌜ Chained (nameIn (now text) (now records)) (now records) count k ⌝ }
     ensures { λ _. ⌜ Inserted (now (text .entry)) (now (records .entry)) count k (now (records .exit)) ⌝ }
@@ -115,7 +116,7 @@ fn insert(text: &[u8], records: &mut [u32], count: usize, k: usize)
 // Each record gets its next. The records are put in from the last to the first.
 fn link(text: &[u8], records: &mut [u32], count: usize)
     requires { ⌜ count ≤ 512 ⌝ }
-    requires { ⌜ 4104 ≤ length (now records) ⌝ }
+    requires { ⌜ 5130 ≤ length (now records) ⌝ }
     requires { ⌜ Different (nameIn (now text) (now records)) count ⌝ }
     ensures { λ _. ⌜ Linked (now (text .entry)) (now (records .entry)) count (now (records .exit)) ⌝ }
 {
@@ -151,7 +152,7 @@ fn if_present(present: usize, n: usize) -> usize
 fn put_texts(text: &[u8], declared: &mut [u8], records: &[u32], k: usize, n: usize) -> Ends
     requires { ⌜ k ≤ 512 ⌝ }
     requires { ⌜ length (now text) ≤ 65536 ⌝ }
-    requires { ⌜ 4104 ≤ length (now records) ⌝ }
+    requires { ⌜ 5130 ≤ length (now records) ⌝ }
     requires { ⌜ n ≤ 65536 ⌝ }
     ensures { λ r. ⌜ r ≡ endsOf n (recordIn (now (text .entry)) (now (records .entry)) k) ⌝ }
     ensures { λ _. ⌜ now (declared .exit) ≡ sets (now (declared .entry)) n (packedRecord (recordIn (now (text .entry)) (now (records .entry)) k)) ⌝ }
@@ -172,16 +173,19 @@ fn put_texts(text: &[u8], declared: &mut [u8], records: &[u32], k: usize, n: usi
 fn write_record(text: &[u8], declared: &mut [u8], records: &mut [u32], k: usize, n: usize) -> usize
     requires { ⌜ k ≤ 512 ⌝ }
     requires { ⌜ length (now text) ≤ 65536 ⌝ }
-    requires { ⌜ 4104 ≤ length (now records) ⌝ }
+    requires { ⌜ 5130 ≤ length (now records) ⌝ }
     requires { ⌜ n + length (packedRecord (recordIn (now text) (now records) k)) ≤ 65536 ⌝ }
+    requires { ⌜ 1 ≤ k ⌝ }
     ensures { λ r. ⌜ r ≡ n + length (packedRecord (recordIn (now (text .entry)) (now (records .entry)) k)) ⌝ }
     ensures { λ _. ⌜ now (declared .exit) ≡ sets (now (declared .entry)) n (packedRecord (recordIn (now (text .entry)) (now (records .entry)) k)) ⌝ }
-    ensures { λ _. ⌜ now (records .exit) ≡ sets (now (records .entry)) (8 * k) (getD (now (records .entry)) (8 * k) 0 ∷ otherNumbers n (recordIn (now (text .entry)) (now (records .entry)) k)) ⌝ }
+    ensures { λ _. ⌜ now (records .exit) ≡ sets (now (records .entry)) (10 * k) (getD (now (records .entry)) (10 * k) 0 ∷ otherNumbers n (recordIn (now (text .entry)) (now (records .entry)) k)) ⌝ }
 {
     let next = records[RECORD_WIDTH * k];
+    let flag = flag_of(records, k, 5);
+    let constant = flag_of(records, k, 8);
+    let not_null = flag_of(records, k, 9);
     let present = number(records, k, 5);
     let ends = put_texts(text, declared, records, k, n);
-    let flag = if_present(present, 1);
     let value_at = if_present(present, ends.kind);
     let name_len = ends.name - n;
     let kind_len = ends.kind - ends.name;
@@ -194,9 +198,11 @@ fn write_record(text: &[u8], declared: &mut [u8], records: &mut [u32], k: usize,
         name_len as u32,
         ends.name as u32,
         kind_len as u32,
-        flag as u32,
+        flag,
         value_at as u32,
         value_len as u32,
+        constant,
+        not_null,
     );
     ends.value
 }
@@ -205,11 +211,11 @@ fn write_record(text: &[u8], declared: &mut [u8], records: &mut [u32], k: usize,
 fn write_records(text: &[u8], declared: &mut [u8], records: &mut [u32], count: usize) -> usize
     requires { ⌜ count ≤ 512 ⌝ }
     requires { ⌜ length (now text) ≤ 65536 ⌝ }
-    requires { ⌜ 4104 ≤ length (now records) ⌝ }
+    requires { ⌜ 5130 ≤ length (now records) ⌝ }
     requires { ⌜ length (packed (recordsFrom (now text) (now records) 1 count)) ≤ 65536 ⌝ }
     ensures { λ r. ⌜ r ≡ length (packed (recordsFrom (now (text .entry)) (now (records .entry)) 1 count)) ⌝ }
     ensures { λ _. ⌜ now (declared .exit) ≡ sets (now (declared .entry)) 0 (packed (recordsFrom (now (text .entry)) (now (records .entry)) 1 count)) ⌝ }
-    ensures { λ _. ⌜ now (records .exit) ≡ sets (now (records .entry)) 8 (finalNumbers (now (text .entry)) (now (records .entry)) 0 1 count) ⌝ }
+    ensures { λ _. ⌜ now (records .exit) ≡ sets (now (records .entry)) 10 (finalNumbers (now (text .entry)) (now (records .entry)) 0 1 count) ⌝ }
 {
     let mut n: usize = 0;
     let mut k: usize = 1;
@@ -265,7 +271,7 @@ fn parse_section(text: &[u8], map: &[u8], declared: &mut [u8], records: &mut [u3
     requires { ⌜ length (now text) ≤ 16384 ⌝ }
     requires { ⌜ length (now text) ≤ length (now map) ⌝ }
     requires { ⌜ 65536 ≤ length (now declared) ⌝ }
-    requires { ⌜ 4104 ≤ length (now records) ⌝ }
+    requires { ⌜ 5130 ≤ length (now records) ⌝ }
     ensures { λ r. ⌜ r ≡ parsedOf (recordsOfSection (marked (now (text .entry)) (now (map .entry)))) ⌝ }
     ensures { λ _. ⌜ Holds (recordsOfSection (marked (now (text .entry)) (now (map .entry)))) (now (declared .entry)) (now (declared .exit)) (now (records .entry)) (now (records .exit)) ⌝ }
 {
@@ -275,7 +281,7 @@ fn parse_section(text: &[u8], map: &[u8], declared: &mut [u8], records: &mut [u3
     }
     link(text, records, count);
     let head = records[0];
-    put_numbers(records, 0, head, 0, 0, 0, 0, 0, 0, 0);
+    put_numbers(records, 0, head, 0, 0, 0, 0, 0, 0, 0, 0, 0);
     let n = write_records(text, declared, records, count);
     Parsed::Count(count, n)
 }
@@ -290,7 +296,7 @@ pub fn parse_declarations(
     requires { ⌜ length (now text) ≤ 16384 ⌝ }
     requires { ⌜ length (now text) ≤ length (now map) ⌝ }
     requires { ⌜ 65536 ≤ length (now declared) ⌝ }
-    requires { ⌜ 4104 ≤ length (now records) ⌝ }
+    requires { ⌜ 5130 ≤ length (now records) ⌝ }
     ensures { λ r. ⌜ r ≡ parsedOf (recordsIn (marked (now (text .entry)) (now (map .entry)))) ⌝ }
     ensures { λ _. ⌜ Holds (recordsIn (marked (now (text .entry)) (now (map .entry)))) (now (declared .entry)) (now (declared .exit)) (now (records .entry)) (now (records .exit)) ⌝ }
 {

@@ -1,8 +1,8 @@
 -- The text between two places: its parts, its front and its end by a test. Assumes nothing.
 use mathlib.Core.Path.{_≡_, refl, _∙_}
 use mathlib.Core.Bool.{Bool}
-use mathlib.Core.List.{List, []}
-use Prim.Native.Nat.{ℕ, _+_, _-_, _≤_}
+use mathlib.Core.List.{List, [], _∷_}
+use Prim.Native.Nat.{ℕ, zero, suc, _+_, _-_, _≤_}
 use native.Mathlib.Omega.{arith}
 use lib.ListN.{length, take, drop, length-drop}
 use lib.Seq.{length-take-le, take-take, drop-drop}
@@ -11,6 +11,15 @@ use Rattle.spec.proofs.EndLaws.{drop-end-take}
 use Rattle.spec.proofs.WalkLaws.{while-drop}
 use Rattle.spec.specs.Lists.{takeWhile, dropWhile, dropEnd}
 use Rattle.spec.specs.Parts.{part}
+
+-- a part of a text is not longer than the text
+pub piece-le : (xs : List ℕ) (a n : ℕ) → length (take n (drop a xs)) ≤ length xs
+piece-le xs a n = omega (arith, shorter n (drop a xs), length-drop a xs)
+  where
+    shorter : (n : ℕ) (l : List ℕ) → length (take n l) ≤ length l
+    shorter zero l = omega arith
+    shorter (suc n) [] = omega arith
+    shorter (suc n) (x ∷ l) = omega (arith, shorter n l)
 
 module _ {A : Type 0} (xs : List A) (a b : ℕ) where
   pub between-length : a ≤ b → b ≤ length xs → length (part a b xs) ≡ b - a

@@ -4,5 +4,10 @@ pub mod DefaultCutLaws
 pub mod WholeLaws
 pub mod SpacedLaws
 pub mod WordsLaws
+pub mod LastWordLaws
+pub mod TypePlaceLaws
+pub mod ConstantPlaces
+pub mod NotNullPlaces
+pub mod TypeLaws
 pub mod ReadLaws
 pub mod SizeLaws

@@ -4,27 +4,27 @@ use mathlib.Core.Bool.{Bool}
 use mathlib.Core.List.{List}
 use Prim.Native.Nat.{ℕ, _+_, _-_, _≤_}
 use native.Mathlib.Omega.{arith}
-use lib.Dec.{eqb}
 use lib.ListN.{length, take, drop}
 use lib.Seq.{take-all}
 use Rattle.spec.proofs.BytesLaws.{while-length-bytes, end-length-bytes}
-use Rattle.spec.proofs.ListLaws.{empty-length}
-use Rattle.spec.proofs.MapLaws.{marked-length}
 use Rattle.spec.proofs.PartLaws.{marked-part, bytes-part}
+use Rattle.spec.proofs.RefusalBounds.{bytes-length}
 use Rattle.spec.proofs.WalkLaws.{while-take}
 use Rattle.spec.specs.Bytes.{isW}
-use Rattle.spec.specs.Lists.{isEmpty, takeWhile, dropWhile, dropEnd}
+use Rattle.spec.specs.Lists.{takeWhile, dropWhile, dropEnd}
 use Rattle.spec.specs.Map.{Marked, bytes, marked, ofByte}
 use Rattle.spec.specs.Search.{first}
 use Rattle.spec.specs.Parts.{trim, trimEnd, part}
 use Rattle.spec.specs.Declarations.{words, declaredOf, defaultHere, partAt, declaration}
 use Rattle.spec.specs.declared.Found.{Found}
 use Rattle.spec.specs.declared.Found.the-variants.{At, Nothing}
-use Rattle.declared_parts.specs.DeclaredParts.{cutOf, cutIn, valueOf, defaultBy, declaredBy, partNumbers, readOf}
+use Rattle.declared_parts.specs.DeclaredParts.{notW, cutOf, cutIn, typeIn, valueOf, defaultBy, declaredBy, partNumbers, readOf}
 use Rattle.declared_parts.specs.declared.Cut.{Cut}
 use Rattle.declared_parts.specs.declared.DeclarationPlaces.{DeclarationPlaces}
+use Rattle.declared_parts.specs.declared.TypePlaces.{TypePlaces}
 use Rattle.declared_parts.proofs.BetweenLaws.{frontEnd, endLen, between-length, drop-between, take-between, behind-front, ahead-of-end}
-use Rattle.declared_parts.proofs.WordsLaws.{space, notW, inWord, declared-words}
+use Rattle.declared_parts.proofs.WordsLaws.{space, inWord}
+use Rattle.declared_parts.proofs.TypeLaws.{type-read, declared-words}
 
 -- ---- a marked text and its bytes
 
@@ -82,7 +82,7 @@ unfolding declaration cutIn
 cut-declaration part t c e k = rw (e, k) (cut-part (first defaultHere 0 t) t)
 
 -- the places that are read, each by the one before
-pub record Places (xs : List ℕ) (from to start end : ℕ) (c : Cut) (p : DeclarationPlaces) : Type 0 where
+pub record Places (xs : List ℕ) (from to start end : ℕ) (c : Cut) (k : TypePlaces) (p : DeclarationPlaces) : Type 0 where
   pub starts : start ≡ frontEnd isW xs from to
   pub ends : end ≡ start + endLen isW xs start to
   pub inside : end ≤ to
@@ -90,41 +90,54 @@ pub record Places (xs : List ℕ) (from to start end : ℕ) (c : Cut) (p : Decla
   pub ordered : start + c .head ≤ end
   pub name : p .name ≡ frontEnd isW xs start (start + c .head)
   pub nameEnd : p .name + p .«name_len» ≡ frontEnd notW xs (p .name) (start + c .head)
-  pub kind : p .kind ≡ frontEnd isW xs (p .name + p .«name_len») (start + c .head)
-  pub kindEnd : p .kind + p .«kind_len» ≡ start + c .head
+  pub nameInside : p .name + p .«name_len» ≤ start + c .head
+  pub typed : k ≡ typeIn (part (p .name + p .«name_len») (start + c .head) xs)
+  pub kind : p .kind ≡ p .name + p .«name_len» + k .from
+  pub kindLen : p .«kind_len» ≡ k .to - k .from
+  pub constant : p .constant ≡ k .constant
+  pub notNull : p .«not_null» ≡ k .«not_null»
   pub present : p .present ≡ c .present
   pub value : p .value ≡ frontEnd isW xs (start + c .rest) end
   pub valueEnd : p .value + p .«value_len» ≡ p .value + endLen isW xs (p .value) end
   pub valueInside : p .value + p .«value_len» ≤ end
 
+-- a part of the text between two places
+piece-between : (xs : List ℕ) (a b i j : ℕ) → a ≤ b → b ≤ length xs → i ≤ j → j ≤ length (part a b xs) → part i j (part a b xs) ≡ take (j - i) (drop (a + i) xs)
+piece-between xs a b i j h l o w =
+    let n = between-length xs a b h l in
+    let k : a + i + (j - i) - (a + i) ≡ j - i = omega arith in
+    ap (take (j - i)) (drop-between xs a b i) ∙ (take-between xs (a + i) b (j - i) (omega arith) ∙ rw k refl)
+
 -- what a part declares
-pub part-read : (xs ms : List ℕ) (from to start end : ℕ) (c : Cut) (p : DeclarationPlaces) → Places xs from to start end c p
+pub part-read : (xs ms : List ℕ) (from to start end : ℕ) (c : Cut) (k : TypePlaces) (p : DeclarationPlaces) → Places xs from to start end c k p
     → c ≡ cutIn (marked (part start end xs) (part start end ms))
     → declaration (part from to (marked xs ms)) ≡ readOf xs p
 unfolding readOf declaredBy defaultBy partNumbers
-part-read xs ms from to start end c p l k =
+part-read xs ms from to start end c k p l cut =
     let m = marked xs ms in
     let t = part start end m in
     let head = start + c .head in
     let nameEnd = p .name + p .«name_len» in
-    let i₁ : head - p .kind ≡ p .«kind_len» = omega (arith, l .kindEnd) in
-    let i₂ : nameEnd - p .name ≡ p .«name_len» = omega arith in
-    let i₃ : p .value + p .«value_len» - p .value ≡ p .«value_len» = omega arith in
+    let rest = part nameEnd head m in
+    let o = valueOf (c .present) (bytes (trim (drop (c .rest) t))) in
+    let i₁ : nameEnd - p .name ≡ p .«name_len» = omega arith in
+    let i₂ : p .value + p .«value_len» - p .value ≡ p .«value_len» = omega arith in
     let h : take (c .head) t ≡ part start head m = take-between m start end (c .head) (l .ordered) in
     let v : part (p .name) head m ≡ dropWhile space (part start head m) = rw (l .name) (sym (skipped xs ms start head isW)) in
-    let r : part nameEnd head m ≡ dropWhile inWord (part (p .name) head m) = rw (l .nameEnd) (sym (skipped xs ms (p .name) head notW)) in
-    let d : part (p .kind) head m ≡ dropWhile space (part nameEnd head m) = rw (l .kind) (sym (skipped xs ms nameEnd head isW)) in
-    let e : isEmpty (part (p .kind) head m) ≡ eqb (p .«kind_len») 0 =
-    empty-length (part (p .kind) head m) ∙ ap (λ n. eqb n 0) (between-length m (p .kind) head (omega (arith, l .kindEnd)) (omega (arith, l .within, l .inside, l .ordered, marked-length xs ms)) ∙ i₁) in
+    let r : rest ≡ dropWhile inWord (part (p .name) head m) = rw (l .nameEnd) (sym (skipped xs ms (p .name) head notW)) in
+    let b : bytes rest ≡ part nameEnd head xs = bytes-between xs ms nameEnd head in
+    let q : typeIn (bytes rest) ≡ k = ap typeIn b ∙ sym (l .typed) in
+    let w = rw q at (type-read rest) in
     let n : bytes (takeWhile inWord (part (p .name) head m)) ≡ take (p .«name_len») (drop (p .name) xs) =
-    front-text xs ms (p .name) head notW nameEnd (l .nameEnd) (omega (arith, l .kindEnd, l .kind)) ∙ ap (λ i. take i (drop (p .name) xs)) i₂ in
-    let y : bytes (part (p .kind) head m) ≡ take (p .«kind_len») (drop (p .kind) xs) =
-    bytes-between xs ms (p .kind) head ∙ ap (λ i. take i (drop (p .kind) xs)) i₁ in
+    front-text xs ms (p .name) head notW nameEnd (l .nameEnd) (l .nameInside) ∙ ap (λ i. take i (drop (p .name) xs)) i₁ in
+    let y : part (k .from) (k .to) (part nameEnd head xs) ≡ take (k .to - k .from) (drop (nameEnd + k .from) xs) =
+    piece-between xs nameEnd head (k .from) (k .to) (l .nameInside) (omega (arith, l .within, l .inside, l .ordered)) (w .ordered)
+    (omega (arith, w .within, bytes-length rest, ap length b)) in
     let z : bytes (trim (drop (c .rest) t)) ≡ take (p .«value_len») (drop (p .value) xs) =
     ap (λ u. bytes (trim u)) (drop-between m start end (c .rest))
     ∙ (ap bytes (trimmed xs ms (start + c .rest) end (p .value) (p .value + p .«value_len») (l .value) (l .valueEnd) (l .valueInside))
-    ∙ (bytes-between xs ms (p .value) (p .value + p .«value_len») ∙ ap (λ i. take i (drop (p .value) xs)) i₃)) in
-    cut-declaration (part from to m) t c (trimmed xs ms from to start end (l .starts) (l .ends) (l .inside)) (k ∙ ap cutIn (marked-between xs ms start end))
-    ∙ (ap (λ u. declaredOf (words u) (valueOf (c .present) (bytes (trim (drop (c .rest) t))))) h
-    ∙ (declared-words (valueOf (c .present) (bytes (trim (drop (c .rest) t)))) (part start head m) (part (p .name) head m) (part nameEnd head m) (part (p .kind) head m) v r d
-    ∙ rw (e, n, y, z, sym (l .present)) refl))
+    ∙ (bytes-between xs ms (p .value) (p .value + p .«value_len») ∙ ap (λ i. take i (drop (p .value) xs)) i₂)) in
+    cut-declaration (part from to m) t c (trimmed xs ms from to start end (l .starts) (l .ends) (l .inside)) (cut ∙ ap cutIn (marked-between xs ms start end))
+    ∙ (ap (λ u. declaredOf (words u) o) h
+    ∙ (declared-words o (part start head m) (part (p .name) head m) rest v r
+    ∙ rw (q, n, b, y, z, l .kind, l .kindLen, l .present, l .constant, l .notNull) refl))

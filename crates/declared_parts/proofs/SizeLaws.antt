@@ -10,20 +10,21 @@ use lib.ListN.{length, take, drop, length-append, length-drop}
 use lib.Seq.{length-take-le}
 use Rattle.spec.proofs.RefusalBounds.{bytes-length}
 use Rattle.spec.proofs.RequotedLength.{long-quoted, doubled-le}
-use Rattle.spec.proofs.Apart.{apart}
-use Rattle.spec.proofs.Choice.{by, cond-case}
+use Rattle.spec.proofs.Choice.{by, cond-case, made-some}
 use Rattle.spec.proofs.LengthLaws.{trim-le}
 use Rattle.spec.proofs.ListLaws.{while-sum, drop-while-le}
-use Rattle.spec.specs.Lists.{isEmpty, takeWhile, dropWhile}
+use Rattle.spec.specs.Lists.{takeWhile, dropWhile}
 use Rattle.spec.specs.Map.{Marked, bytes}
-use Rattle.spec.specs.Parts.{trim}
+use Rattle.spec.specs.Parts.{trim, part}
 use Rattle.spec.specs.Declarations.{Declared, delimiterOf, requotedDefault, words, declaredOf, declaration, textOr, packedRecord}
-use Rattle.declared_parts.specs.DeclaredParts.{cutIn, valueOf, isWhole, spaced}
+use Rattle.declared_parts.specs.DeclaredParts.{cutIn, typeIn, valueOf, isWhole, spaced}
+use Rattle.declared_parts.proofs.BetweenLaws.{piece-le}
 use Rattle.declared_parts.proofs.DefaultCutLaws.{cut-fits}
 use Rattle.declared_parts.proofs.ReadLaws.{cut-declaration}
 use Rattle.declared_parts.proofs.SpacedLaws.{spaced-le}
 use Rattle.declared_parts.proofs.WholeLaws.{delimiter-length, whole-long, whole-text, other-text}
-use Rattle.declared_parts.proofs.WordsLaws.{space, inWord, declared-words}
+use Rattle.declared_parts.proofs.WordsLaws.{space, inWord}
+use Rattle.declared_parts.proofs.TypeLaws.{declaredAt, declared-words}
 
 requoted-le : (xs : List ℕ) → length (requotedDefault xs) ≤ 2 * length xs
 requoted-le xs =
@@ -56,26 +57,21 @@ words-le : (t : List Marked) (o : Option (List ℕ)) (d : Declared) → declared
 words-le t o d h =
     let v = dropWhile space t in
     let r = dropWhile inWord v in
-    let k = dropWhile space r in
-    let e : Declared = record { name = bytes (takeWhile inWord v); type = spaced false (bytes k); default = o } in
-    let q : cond (isEmpty k) none (some e) ≡ some d = sym (declared-words o t v r k refl refl refl) ∙ h in
-    let s : Short (length t) o e = record {
-      front = omega (
-        arith,
-        bytes-length (takeWhile inWord v),
-        spaced-le false (bytes k),
-        bytes-length k,
-        while-sum inWord v,
-        drop-while-le space r,
-        drop-while-le space t,
-      );
-      default = refl;
-    } in
-    choice (isEmpty k) e q s
-  where
-    choice : (b : Bool) (e : Declared) → cond b none (some e) ≡ some d → Short (length t) o e → Short (length t) o d
-    choice true e q s = absurd (apart (cc))
-    choice false e q s = let z : e ≡ d = cc in rw z at s
+    let p = typeIn (bytes r) in
+    let xs = part (p .from) (p .to) (bytes r) in
+    let q : declaredAt o (bytes (takeWhile inWord v)) (bytes r) p ≡ some d = sym (declared-words o t v r refl refl) ∙ h in
+    let front : length (bytes (takeWhile inWord v)) + length (spaced false xs) ≤ length t =
+    omega (
+      arith,
+      bytes-length (takeWhile inWord v),
+      spaced-le false xs,
+      piece-le (bytes r) (p .from) (p .to - p .from),
+      bytes-length r,
+      while-sum inWord v,
+      drop-while-le space t,
+    ) in
+    let m = made-some (eqb (p .to - p .from) 0) _ d q in
+    rw (← m .1) (record { front = front; default = refl })
 
 pub packed-part : (part : List Marked) (d : Declared) → declaration part ≡ some d → length (packedRecord d) ≤ 2 * length part
 unfolding packedRecord

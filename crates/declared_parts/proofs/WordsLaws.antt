@@ -2,23 +2,21 @@
 use mathlib.Core.Path.{_≡_, refl, sym, ap, _∙_}
 use mathlib.Core.Bool.{Bool, true, false, cond, not}
 use mathlib.Core.List.{List, [], _∷_, _++_}
-use mathlib.Core.Option.{Option, none, some}
-use Prim.Native.Nat.{ℕ}
-use lib.ListN.{drop}
+use Prim.Native.Nat.{ℕ, suc}
+use native.Mathlib.Omega.{arith}
+use lib.ListN.{length, drop}
 use Rattle.spec.proofs.Choice.{by}
+use Rattle.spec.proofs.ListLaws.{drop-while-le}
 use Rattle.spec.specs.Bytes.{isW}
 use Rattle.spec.specs.Lists.{isEmpty, takeWhile, dropWhile, keep}
 use Rattle.spec.specs.Map.{Marked, byte, bytes, frontByte, ofByte}
 use Rattle.spec.specs.Search.{Test, ontoFirst, piecesFrom, pieces}
-use Rattle.spec.specs.Declarations.{Declared, words, joinWords, declaredOf}
-use Rattle.declared_parts.specs.DeclaredParts.{spaced}
+use Rattle.spec.specs.Declarations.{words, joinWords}
+use Rattle.declared_parts.specs.DeclaredParts.{notW, spaced}
 
 -- the tests on marked bytes
 abbrev pub space : Marked → Bool
 space x = ofByte isW x
-
-abbrev pub notW : ℕ → Bool
-notW b = not (isW b)
 
 abbrev pub inWord : Marked → Bool
 inWord x = ofByte notW x
@@ -132,6 +130,50 @@ words-front (x ∷ t) =
     (λ e. rw (skip-w x t e, words-w x t e) (words-front t))
     (λ e. rw (skip-byte x t e) (words-byte x t e ∙ some-front x t (takeWhile inWord (x ∷ t) ∷ words (dropWhile inWord (x ∷ t)))))
 
+pub none-behind : (f : Marked → Bool) → dropWhile f [] ≡ []
+unfolding dropWhile
+none-behind f = refl
+
+pub nothing : words [] ≡ []
+unfolding words pieces piecesFrom keep isEmpty
+nothing = refl
+
+-- ---- a text cut at W
+
+cuts-none : cuts [] [] ≡ [] ∷ []
+unfolding piecesFrom
+cuts-none = refl
+
+-- the pieces on both sides
+cuts-cut : (u : List Marked) (x : Marked) (t : List Marked) → isW (byte x) ≡ true → cuts [] (u ++ (x ∷ t)) ≡ cuts [] u ++ cuts [] t
+unfolding ontoFirst
+cuts-cut [] x t e = cuts-w [] x t e ∙ rw cuts-none refl
+cuts-cut (y ∷ u) x t e =
+    by (isW (byte y))
+    (λ w. rw (cuts-w [] y (u ++ (x ∷ t)) w, cuts-w [] y u w, cuts-cut u x t e) refl)
+    (λ w. rw (cuts-byte [] y (u ++ (x ∷ t)) w, cuts-byte [] y u w, cuts-cut u x t e, first-piece u) refl)
+
+keep-append : (s t : List (List Marked)) → keep full (s ++ t) ≡ keep full s ++ keep full t
+unfolding keep
+keep-append [] t = refl
+keep-append (p ∷ s) t = by (full p) (λ e. rw (e, keep-append s t) refl) (λ e. rw (e, keep-append s t) refl)
+
+-- and the words
+pub words-cut : (u : List Marked) (x : Marked) (t : List Marked) → isW (byte x) ≡ true → words (u ++ (x ∷ t)) ≡ words u ++ words t
+words-cut u x t e =
+    sym (words-cuts (u ++ (x ∷ t)))
+    ∙ (ap (keep full) (cuts-cut u x t e) ∙ (keep-append (cuts [] u) (cuts [] t) ∙ rw (words-cuts u, words-cuts t) refl))
+
+-- a text without W is one word
+pub words-one : (x : Marked) (t : List Marked) → isW (byte x) ≡ false → takeWhile inWord t ≡ t → dropWhile inWord t ≡ [] → words (x ∷ t) ≡ (x ∷ t) ∷ []
+words-one x t e w d = words-byte x t e ∙ rw (while-byte x t e, behind-byte x t e, w, d, nothing) refl
+
+-- W in front of the words does not matter
+pub words-skip : (t : List Marked) → words (dropWhile space t) ≡ words t
+words-skip [] = ap words (none-behind space)
+words-skip (x ∷ t) =
+    by (isW (byte x)) (λ e. rw (skip-w x t e, words-w x t e) (words-skip t)) (λ e. rw (skip-byte x t e) refl)
+
 -- a space and the words, if there are any
 abbrev more : List (List Marked) → List ℕ
 more [] = []
@@ -196,47 +238,24 @@ walk (x ∷ t) =
       behind = rw (words-byte x t e, join-more (takeWhile inWord (x ∷ t)) (words (dropWhile inWord (x ∷ t))), i) (sym (spaced-gap x t e));
     })
 
-none-behind : (f : Marked → Bool) → dropWhile f [] ≡ []
-unfolding dropWhile
-none-behind f = refl
+-- what is behind W at the front is shorter
+pub shorter : (x : Marked) (t : List Marked) → dropWhile space t ≡ x ∷ t → ⊥
+shorter x t h = omega (arith, ap length h, drop-while-le space t)
 
-no-words : (o : Option (List ℕ)) → declaredOf [] o ≡ none
-unfolding declaredOf
-no-words o = refl
+-- the words of a text that does not start with W, joined by single spaces
+pub joined-words : (t : List Marked) → dropWhile space t ≡ t → joinWords (words t) ≡ spaced false (bytes t)
+unfolding joinWords spaced bytes
+joined-words [] h = rw nothing refl
+joined-words (x ∷ t) h =
+    by (isW (byte x))
+    (λ e. absurd (shorter x t (sym (skip-w x t e) ∙ h)))
+    (λ e.
+    rw (words-byte x t e)
+    (join-more (takeWhile inWord (x ∷ t)) (words (dropWhile inWord (x ∷ t))) ∙ walk (x ∷ t) .inside))
 
-one-word : (n : List Marked) (o : Option (List ℕ)) → declaredOf (n ∷ []) o ≡ none
-unfolding declaredOf
-one-word n o = refl
-
-two-words : (n w : List Marked) (ws : List (List Marked)) (o : Option (List ℕ))
-    → declaredOf (n ∷ w ∷ ws) o ≡ some record { name = bytes n; type = joinWords (w ∷ ws); default = o }
-unfolding declaredOf
-two-words n w ws o = refl
-
-module _ (o : Option (List ℕ)) where
-  -- what is declared by the name's text v and the type's text k
-  abbrev result : List Marked → List Marked → Option Declared
-  result v k = cond (isEmpty k) none (some record { name = bytes (takeWhile inWord v); type = spaced false (bytes k); default = o })
-
-  typed : (v r k : List Marked) → k ≡ dropWhile space r → declaredOf (takeWhile inWord v ∷ words r) o ≡ result v k
-  unfolding isEmpty
-  typed v r [] s =
-      let e : words r ≡ [] = words-front r ∙ rw (sym s) refl in
-      rw e (one-word (takeWhile inWord v) o)
-  typed v r (x ∷ k) s =
-      let e : words r ≡ takeWhile inWord (x ∷ k) ∷ words (dropWhile inWord (x ∷ k)) = words-front r ∙ rw (sym s) refl in
-      rw e
-      (two-words (takeWhile inWord v) (takeWhile inWord (x ∷ k)) (words (dropWhile inWord (x ∷ k))) o
-      ∙ rw (join-more (takeWhile inWord (x ∷ k)) (words (dropWhile inWord (x ∷ k))), walk (x ∷ k) .inside) refl)
-
-  -- name, then type, by the fronts of the text
-  pub declared-words : (t v r k : List Marked) → v ≡ dropWhile space t → r ≡ dropWhile inWord v → k ≡ dropWhile space r
-      → declaredOf (words t) o ≡ cond (isEmpty k) none (some record { name = bytes (takeWhile inWord v); type = spaced false (bytes k); default = o })
-  unfolding isEmpty
-  declared-words t [] r k p q s =
-      let e : words t ≡ [] = words-front t ∙ rw (sym p) refl in
-      let d : k ≡ [] = s ∙ (ap (dropWhile space) (q ∙ none-behind inWord) ∙ none-behind space) in
-      rw (e, d) (no-words o)
-  declared-words t (x ∷ v) r k p q s =
-      let e : words t ≡ takeWhile inWord (x ∷ v) ∷ words (dropWhile inWord (x ∷ v)) = words-front t ∙ rw (sym p) refl in
-      rw (e, sym q) (typed (x ∷ v) r k s)
+-- there are none exactly if it is empty
+pub empty-words : (t : List Marked) → dropWhile space t ≡ t → isEmpty (words t) ≡ isEmpty t
+unfolding isEmpty
+empty-words [] h = rw nothing refl
+empty-words (x ∷ t) h =
+    by (isW (byte x)) (λ e. absurd (shorter x t (sym (skip-w x t e) ∙ h))) (λ e. rw (words-byte x t e) refl)

@@ -11,6 +11,7 @@ use runs::Set;
 use runs::run_end;
 use runs::run_start;
 use scanner::keyword_at;
+use scanner::starts_ignoring_case;
 ghost use mathlib.Core.Path.{_≡_};
 ghost use mathlib.Core.Bool.{false};
 ghost use mathlib.Core.List.{List, reverse};
@@ -20,10 +21,10 @@ ghost use lib.Seq.{sets};
 ghost use Rattle.spec.specs.Bytes.{isW, isSame, isBefore};
 ghost use Rattle.spec.specs.Lists.{takeWhile, dropEnd};
 ghost use Rattle.spec.specs.Map.{Marked, marked, bytes};
-ghost use Rattle.spec.specs.Declarations.{delimiterOf, requotedDefault, isLone, declaration};
+ghost use Rattle.spec.specs.Declarations.{delimiterOf, requotedDefault, isLone, declaration, oneIf};
 ghost use Rattle.runs.specs.Sets.{inSet};
 ghost use Rattle.spec.specs.Parts.{part};
-ghost use Rattle.declared_parts.specs.DeclaredParts.{spaced, startsKey, keyAt, cutIn, readOf, Within, isWhole};
+ghost use Rattle.declared_parts.specs.DeclaredParts.{spaced, startsKey, keyAt, cutIn, isText, constantLen, lastWord, typeLen, typeIn, readOf, Within, isWhole};
 
 // Where a part ends ahead of its default, where the default begins, and 1 if there is one, else 0.
 pub struct Cut {
@@ -32,7 +33,22 @@ pub struct Cut {
     pub present: usize,
 }
 
-// Places in a text: the name, the type's words, and the default if `present` is 1. A part that has no type declares nothing.
+// Where the last word of a text stands.
+pub struct LastWord {
+    pub from: usize,
+    pub to: usize,
+}
+
+// Where the type's words stand, and 1 or 0 for CONSTANT ahead of them and for NOT NULL behind them.
+pub struct TypePlaces {
+    pub from: usize,
+    pub to: usize,
+    pub constant: usize,
+    pub not_null: usize,
+}
+
+// Places in a text: the name, the type's words, and the default if `present` is 1; then 1 or 0 for CONSTANT ahead of the
+// type and for NOT NULL behind it. A part that has no type declares nothing.
 pub struct DeclarationPlaces {
     pub name: usize,
     pub name_len: usize,
@@ -41,6 +57,8 @@ pub struct DeclarationPlaces {
     pub present: usize,
     pub value: usize,
     pub value_len: usize,
+    pub constant: usize,
+    pub not_null: usize,
 }
 
 // Where the bytes of the set end that stand at the front of the text between the two places.
@@ -139,6 +157,88 @@ fn find_default(text: &[u8], map: &[u8]) -> Cut
     }
 }
 
+// Whether the text is this word, in any letter case.
+fn is_text(text: &[u8], word: &[u8]) -> bool
+    ensures { λ r. ⌜ r ≡ isText (now (word .entry)) (now (text .entry)) ⌝ }
+{
+    if text.len() == word.len() {
+        starts_ignoring_case(text, word)
+    } else {
+        false
+    }
+}
+
+// 1 if so, else 0.
+fn one_if(b: bool) -> usize
+    ensures { λ r. ⌜ r ≡ oneIf b ⌝ }
+{
+    if b { 1 } else { 0 }
+}
+
+// How many bytes CONSTANT and the W behind it take at the front of a text; 0 if its first word is another.
+fn constant_len(text: &[u8]) -> usize
+    ensures { λ r. ⌜ r ≡ constantLen (now (text .entry)) ⌝ }
+    ensures { λ r. ⌜ r ≤ length (now (text .entry)) ⌝ }
+{
+    let end = run_end(text, Set::NotW, 0);
+    if is_text(&text[..end], b"CONSTANT") {
+        run_end(text, Set::W, end)
+    } else {
+        0
+    }
+}
+
+// The last word of a text; empty if there is none.
+fn last_word(text: &[u8]) -> LastWord
+    ensures { λ r. ⌜ r ≡ lastWord (now (text .entry)) ⌝ }
+    ensures { λ r. ⌜ (r .from ≤ r .to) × (r .to ≤ length (now (text .entry))) ⌝ }
+{
+    let end = run_start(text, Set::W, text.len());
+    let start = run_start(text, Set::NotW, end);
+    LastWord {
+        from: start,
+        to: end,
+    }
+}
+
+// How many bytes of a text stand ahead of NOT NULL; all of them if its last two words are others.
+fn ahead_of_not_null(text: &[u8]) -> usize
+    ensures { λ r. ⌜ r ≡ typeLen (now (text .entry)) ⌝ }
+    ensures { λ r. ⌜ r ≤ length (now (text .entry)) ⌝ }
+{
+    let last = last_word(text);
+    let from = last.from;
+    let to = last.to;
+    if is_text(&text[from..to], b"NULL") {
+        let front = &text[..from];
+        let second = last_word(front);
+        let start = second.from;
+        let end = second.to;
+        if is_text(&front[start..end], b"NOT") {
+            return start;
+        }
+    }
+    text.len()
+}
+
+// The type in what stands behind a name.
+fn read_type(text: &[u8]) -> TypePlaces
+    ensures { λ r. ⌜ r ≡ typeIn (now (text .entry)) ⌝ }
+    ensures { λ r. ⌜ (r .from ≤ r .to) × (r .to ≤ length (now (text .entry))) × (r .constant ≤ 1) × (r .«not_null» ≤ 1) ⌝ }
+{
+    let start = run_end(text, Set::W, 0);
+    let front = constant_len(&text[start..]);
+    let from = start + front;
+    let rest = text.len() - from;
+    let n = ahead_of_not_null(&text[from..]);
+    TypePlaces {
+        from: from,
+        to: from + n,
+        constant: one_if(front != 0),
+        not_null: one_if(n != rest),
+    }
+}
+
 // The part of a text between the two places.
 pub fn read_part(text: &[u8], map: &[u8], from: usize, to: usize) -> DeclarationPlaces
     requires { ⌜ from ≤ to ⌝ }
@@ -153,17 +253,19 @@ pub fn read_part(text: &[u8], map: &[u8], from: usize, to: usize) -> Declaration
     let head = start + cut.head;
     let name = run_end_between(text, Set::W, start, head);
     let name_end = run_end_between(text, Set::NotW, name, head);
-    let kind = run_end_between(text, Set::W, name_end, head);
+    let kind = read_type(&text[name_end..head]);
     let value = run_end_between(text, Set::W, start + cut.rest, end);
     let value_end = trim_end(text, value, end);
     DeclarationPlaces {
         name: name,
         name_len: name_end - name,
-        kind: kind,
-        kind_len: head - kind,
+        kind: name_end + kind.from,
+        kind_len: kind.to - kind.from,
         present: cut.present,
         value: value,
         value_len: value_end - value,
+        constant: kind.constant,
+        not_null: kind.not_null,
     }
 }
 

@@ -28,7 +28,7 @@ use Rattle.declared_records.proofs.HeldLaws.{sets-drop, record-other, r
 -- ---- where a name stands
 
 -- a record whose name has another hash has another name
-pub other-hash : (xs rs : List ℕ) (k : ℕ) (n : List ℕ) → HashIn xs rs k → (getD (drop (8 * k) rs) 0 0 ≡ nameHash n → ⊥) → false ≡ isSame n (recordIn xs rs k .name)
+pub other-hash : (xs rs : List ℕ) (k : ℕ) (n : List ℕ) → HashIn xs rs k → (getD (drop (10 * k) rs) 0 0 ≡ nameHash n → ⊥) → false ≡ isSame n (recordIn xs rs k .name)
 other-hash xs rs k n h other = not-same n _ (λ e. other (h ∙ ap nameHash (sym e)))
 
 pub place-le : (n : List ℕ) (ds : List Declared) → placeOf n ds ≤ length ds
@@ -88,6 +88,8 @@ within-more n m p h w =
       present = w .present;
       value = omega (arith, w .value);
       valueLen = omega (arith, w .valueLen);
+      constant = w .constant;
+      notNull = w .notNull;
     }
 
 module _ (xs rs : List ℕ) (count : ℕ) (p : DeclarationPlaces) where
@@ -132,16 +134,16 @@ module _ (xs rs : List ℕ) (count : ℕ) (p : DeclarationPlaces) where
     pub add-full : count ≤ 512 → k ≡ 512 → Added xs rs count p rs 513
     add-full h f = record { number = omega (arith, low, made-length); records = λ g. absurd (omega arith); hashed = λ g. absurd (omega arith); behind = refl }
 
-    module _ (room : 8 * (k + 1) + 8 ≤ length rs) (within : k < 512) (keeps : Hashed xs rs count) where
+    module _ (room : 10 * (k + 1) + 10 ≤ length rs) (within : k < 512) (keeps : Hashed xs rs count) where
       abbrev numbers : List ℕ
       numbers = heldNumbers (nameHash (take (p .«name_len») (drop (p .name) xs))) p
 
       abbrev stored : List ℕ
-      stored = sets rs (8 * (k + 1)) numbers
+      stored = sets rs (10 * (k + 1)) numbers
 
-      eight : length numbers ≡ 8
+      ten : length numbers ≡ 10
       unfolding partNumbers
-      eight = refl
+      ten = refl
 
       at : recordIn xs stored (1 + k) ≡ new
       at =
@@ -149,17 +151,17 @@ module _ (xs rs : List ℕ) (count : ℕ) (p : DeclarationPlaces) where
           rw z (record-put xs rs (k + 1) _ p room)
 
       others : (j : ℕ) → (j ≡ 1 + k → ⊥) → recordIn xs stored j ≡ recordIn xs rs j
-      others j n = record-other xs rs numbers (k + 1) j eight (λ r. n (omega arith))
+      others j n = record-other xs rs numbers (k + 1) j ten (λ r. n (omega arith))
 
-      past : drop 4104 stored ≡ drop 4104 rs
-      past = sets-drop numbers rs (8 * (k + 1)) 4104 (omega (arith, eight))
+      past : drop 5130 stored ≡ drop 5130 rs
+      past = sets-drop numbers rs (10 * (k + 1)) 5130 (omega (arith, ten))
 
       -- the new record and those kept have their hashes
       all-hashed : (r : ℕ) → ((j : ℕ) → j ≤ r → (j ≡ k + 1 → ⊥) → j ≤ count) → Hashed xs stored r
       all-hashed r f j a b =
           by (eqb j (k + 1))
           (λ e. subst (λ (i : ℕ). HashIn xs stored i) (sym (eqb-true j (k + 1) e)) (hash-put xs rs (k + 1) p room))
-          (λ e. let n = eqb-false j (k + 1) e in hash-other xs rs numbers (k + 1) j eight n (keeps j a (f j b n)))
+          (λ e. let n = eqb-false j (k + 1) e in hash-other xs rs numbers (k + 1) j ten n (keeps j a (f j b n)))
 
       -- a repeated name
       pub add-replaced : k < count → Added xs rs count p stored count

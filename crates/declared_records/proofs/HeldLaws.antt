@@ -41,7 +41,7 @@ sets-there vs l i h =
     assoc (x ∷ a) b c = ap (λ t. x ∷ t) (assoc a b c)
 
 -- numbers that agree in all places but the first declare the same
-pub declared-same : (xs ns ms : List ℕ) → ((i : ℕ) → 0 < i → i < 8 → getD ns i 0 ≡ getD ms i 0) → declaredBy xs ns ≡ declaredBy xs ms
+pub declared-same : (xs ns ms : List ℕ) → ((i : ℕ) → 0 < i → i < 10 → getD ns i 0 ≡ getD ms i 0) → declaredBy xs ns ≡ declaredBy xs ms
 unfolding declaredBy defaultBy
 declared-same xs ns ms h =
     rw (
@@ -52,26 +52,28 @@ declared-same xs ns ms h =
       h 5 (omega arith) (omega arith),
       h 6 (omega arith) (omega arith),
       h 7 (omega arith) (omega arith),
+      h 8 (omega arith) (omega arith),
+      h 9 (omega arith) (omega arith),
     ) refl
 
-pub record-same : (xs rs rs′ : List ℕ) (k : ℕ) → ((i : ℕ) → 0 < i → i < 8 → getD rs (8 * k + i) 0 ≡ getD rs′ (8 * k + i) 0) → recordIn xs rs k ≡ recordIn xs rs′ k
+pub record-same : (xs rs rs′ : List ℕ) (k : ℕ) → ((i : ℕ) → 0 < i → i < 10 → getD rs (10 * k + i) 0 ≡ getD rs′ (10 * k + i) 0) → recordIn xs rs k ≡ recordIn xs rs′ k
 record-same xs rs rs′ k h =
-    declared-same xs (drop (8 * k) rs) (drop (8 * k) rs′) (λ i a b. getD-drop (8 * k) rs i 0 ∙ (h i a b ∙ sym (getD-drop (8 * k) rs′ i 0)))
+    declared-same xs (drop (10 * k) rs) (drop (10 * k) rs′) (λ i a b. getD-drop (10 * k) rs i 0 ∙ (h i a b ∙ sym (getD-drop (10 * k) rs′ i 0)))
 
 -- stores as another record leave a record's numbers as they are, and the record
-number-other : (rs vs : List ℕ) (k j i : ℕ) → length vs ≡ 8 → (j ≡ k → ⊥) → i < 8 → getD (sets rs (8 * k) vs) (8 * j + i) 0 ≡ getD rs (8 * j + i) 0
+number-other : (rs vs : List ℕ) (k j i : ℕ) → length vs ≡ 10 → (j ≡ k → ⊥) → i < 10 → getD (sets rs (10 * k) vs) (10 * j + i) 0 ≡ getD rs (10 * j + i) 0
 number-other rs vs k j i l n b =
     by (ltb j k)
-    (λ e. let h : j < k = ltb-true j k e in sets-ahead vs rs (8 * k) (8 * j + i) (omega arith))
-    (λ e. let h : k ≤ j = ltb-false j k e in let m : k < j = omega (arith, n) in sets-behind vs rs (8 * k) (8 * j + i) (omega arith))
+    (λ e. let h : j < k = ltb-true j k e in sets-ahead vs rs (10 * k) (10 * j + i) (omega arith))
+    (λ e. let h : k ≤ j = ltb-false j k e in let m : k < j = omega (arith, n) in sets-behind vs rs (10 * k) (10 * j + i) (omega arith))
 
-pub record-other : (xs rs vs : List ℕ) (k j : ℕ) → length vs ≡ 8 → (j ≡ k → ⊥) → recordIn xs (sets rs (8 * k) vs) j ≡ recordIn xs rs j
-record-other xs rs vs k j l n = record-same xs (sets rs (8 * k) vs) rs j (λ i a b. number-other rs vs k j i l n b)
+pub record-other : (xs rs vs : List ℕ) (k j : ℕ) → length vs ≡ 10 → (j ≡ k → ⊥) → recordIn xs (sets rs (10 * k) vs) j ≡ recordIn xs rs j
+record-other xs rs vs k j l n = record-same xs (sets rs (10 * k) vs) rs j (λ i a b. number-other rs vs k j i l n b)
 
 -- the numbers of a part as record k declare what the part declares
-pub record-put : (xs rs : List ℕ) (k h : ℕ) (p : DeclarationPlaces) → 8 * k + 8 ≤ length rs → recordIn xs (sets rs (8 * k) (heldNumbers h p)) k ≡ declaredBy xs (partNumbers p)
+pub record-put : (xs rs : List ℕ) (k h : ℕ) (p : DeclarationPlaces) → 10 * k + 10 ≤ length rs → recordIn xs (sets rs (10 * k) (heldNumbers h p)) k ≡ declaredBy xs (partNumbers p)
 unfolding partNumbers declaredBy defaultBy
-record-put xs rs k h p m = rw (sets-there (heldNumbers h p) rs (8 * k) m) refl
+record-put xs rs k h p m = rw (sets-there (heldNumbers h p) rs (10 * k) m) refl
 
 -- ---- hashes
 
@@ -84,17 +86,17 @@ unfolding hashFrom
 hash-end h xs i m = rw (drop-of-length-le xs m) refl
 
 -- the hash of a part's name is stored with it
-pub hash-put : (xs rs : List ℕ) (k : ℕ) (p : DeclarationPlaces) → 8 * k + 8 ≤ length rs
-    → HashIn xs (sets rs (8 * k) (heldNumbers (nameHash (take (p .«name_len») (drop (p .name) xs))) p)) k
+pub hash-put : (xs rs : List ℕ) (k : ℕ) (p : DeclarationPlaces) → 10 * k + 10 ≤ length rs
+    → HashIn xs (sets rs (10 * k) (heldNumbers (nameHash (take (p .«name_len») (drop (p .name) xs))) p)) k
 unfolding partNumbers declaredBy defaultBy
-hash-put xs rs k p m = rw (sets-there (heldNumbers (nameHash (take (p .«name_len») (drop (p .name) xs))) p) rs (8 * k) m) refl
+hash-put xs rs k p m = rw (sets-there (heldNumbers (nameHash (take (p .«name_len») (drop (p .name) xs))) p) rs (10 * k) m) refl
 
 -- and the others keep theirs
-pub hash-other : (xs rs vs : List ℕ) (k j : ℕ) → length vs ≡ 8 → (j ≡ k → ⊥) → HashIn xs rs j → HashIn xs (sets rs (8 * k) vs) j
+pub hash-other : (xs rs vs : List ℕ) (k j : ℕ) → length vs ≡ 10 → (j ≡ k → ⊥) → HashIn xs rs j → HashIn xs (sets rs (10 * k) vs) j
 hash-other xs rs vs k j l n e =
-    getD-drop (8 * j) (sets rs (8 * k) vs) 0 0
+    getD-drop (10 * j) (sets rs (10 * k) vs) 0 0
     ∙ (number-other rs vs k j 0 l n (omega arith)
-    ∙ (sym (getD-drop (8 * j) rs 0 0) ∙ (e ∙ ap (λ (d : Declared). nameHash (d .name)) (sym (record-other xs rs vs k j l n)))))
+    ∙ (sym (getD-drop (10 * j) rs 0 0) ∙ (e ∙ ap (λ (d : Declared). nameHash (d .name)) (sym (record-other xs rs vs k j l n)))))
 
 -- ---- several records
 

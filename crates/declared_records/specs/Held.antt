@@ -1,4 +1,4 @@
--- The records while they are read: eight numbers each, as of a record, but the places are in the text of the section, and
+-- The records while they are read: ten numbers each, as of a record, but the places are in the text of the section, and
 -- the first number is the name's hash. Assumes nothing.
 use mathlib.Core.Path.{_≡_}
 use Prim.Native.Nat.{ℕ, zero, suc, _+_, _*_, _%_, _≤_, _<_}
@@ -14,7 +14,7 @@ use Rattle.declared_parts.specs.declared.DeclarationPlaces.{DeclarationPlaces}
 
 -- record k, and n records from record k on
 abbrev pub recordIn : List ℕ → List ℕ → ℕ → Declared
-recordIn xs rs k = declaredBy xs (drop (8 * k) rs)
+recordIn xs rs k = declaredBy xs (drop (10 * k) rs)
 
 unfoldable pub recordsFrom : List ℕ → List ℕ → ℕ → ℕ → List Declared
 recordsFrom xs rs k zero = []
@@ -42,7 +42,7 @@ heldNumbers hash p = hash ∷ drop 1 (partNumbers p)
 
 -- record k, and each of `count` records, has its name's hash in front
 abbrev pub HashIn : List ℕ → List ℕ → ℕ → Type 0
-HashIn xs rs k = getD (drop (8 * k) rs) 0 0 ≡ nameHash (recordIn xs rs k .name)
+HashIn xs rs k = getD (drop (10 * k) rs) 0 0 ≡ nameHash (recordIn xs rs k .name)
 
 abbrev pub Hashed : List ℕ → List ℕ → ℕ → Type 0
 Hashed xs rs count = (k : ℕ) → 1 ≤ k → k ≤ count → HashIn xs rs k
@@ -52,7 +52,7 @@ pub record Added (xs rs : List ℕ) (count : ℕ) (p : DeclarationPlaces) (rs′
   pub number : r ≡ length (declareMaybe (readOf xs p) (recordsFrom xs rs 1 count))
   pub records : r ≤ 512 → recordsFrom xs rs′ 1 r ≡ declareMaybe (readOf xs p) (recordsFrom xs rs 1 count)
   pub hashed : r ≤ 512 → Hashed xs rs′ r
-  pub behind : drop 4104 rs′ ≡ drop 4104 rs
+  pub behind : drop 5130 rs′ ≡ drop 5130 rs
 
 -- r records are those of the section t; over 512, too many are declared
 pub record Gathered (xs : List ℕ) (t : List Marked) (rs : List ℕ) (r : ℕ) : Type 0 where

@@ -13,11 +13,12 @@ ghost use lib.ListN.{length, getD, drop, replicate};
 ghost use lib.Seq.{sets};
 ghost use Rattle.spec.specs.Bytes.{isSame};
 ghost use Rattle.spec.specs.Map.{marked};
-ghost use Rattle.declared_parts.specs.DeclaredParts.{Within};
+ghost use Rattle.spec.specs.Declarations.{oneIf};
+ghost use Rattle.declared_parts.specs.DeclaredParts.{isSet, Within};
 ghost use Rattle.declared_records.specs.Held.{recordIn, recordsFrom, placeOf, nameHash, heldNumbers, HashIn, Hashed, Added, Gathered};
 
 // How many numbers a record has, how many records there may be, and how many numbers they and the head take.
-pub const RECORD_WIDTH: usize = 8;
+pub const RECORD_WIDTH: usize = 10;
 
 pub const RECORD_LIMIT: usize = 512;
 
@@ -29,18 +30,28 @@ const TOO_MANY: usize = RECORD_LIMIT + 1;
 // Number j of record k.
 pub fn number(records: &[u32], k: usize, j: usize) -> usize
     requires { ⌜ k ≤ 512 ⌝ }
-    requires { ⌜ j < 8 ⌝ }
-    requires { ⌜ 4104 ≤ length (now records) ⌝ }
-    ensures { λ r. ⌜ r ≡ getD (drop (8 * k) (now (records .entry))) j 0 ⌝ }
+    requires { ⌜ j < 10 ⌝ }
+    requires { ⌜ 5130 ≤ length (now records) ⌝ }
+    ensures { λ r. ⌜ r ≡ getD (drop (10 * k) (now (records .entry))) j 0 ⌝ }
     ensures { λ r. ⌜ r < 2 ^ 32 ⌝ }
 {
     records[RECORD_WIDTH * k + j] as usize
 }
 
+// 1 if number j of record k is set, else 0.
+pub fn flag_of(records: &[u32], k: usize, j: usize) -> u32
+    requires { ⌜ k ≤ 512 ⌝ }
+    requires { ⌜ j < 10 ⌝ }
+    requires { ⌜ 5130 ≤ length (now records) ⌝ }
+    ensures { λ r. ⌜ r ≡ oneIf (isSet (getD (drop (10 * k) (now (records .entry))) j 0)) ⌝ }
+{
+    if number(records, k, j) == 0 { 0 } else { 1 }
+}
+
 // The name of record k.
 pub fn name_of<'a>(text: &'a [u8], records: &[u32], k: usize) -> &'a [u8]
     requires { ⌜ k ≤ 512 ⌝ }
-    requires { ⌜ 4104 ≤ length (now records) ⌝ }
+    requires { ⌜ 5130 ≤ length (now records) ⌝ }
     ensures { λ r. ⌜ now r ≡ recordIn (now (text .entry)) (now (records .entry)) k .name ⌝ }
 {
     let at = number(records, k, 1);
@@ -48,7 +59,7 @@ pub fn name_of<'a>(text: &'a [u8], records: &[u32], k: usize) -> &'a [u8]
     piece(text, at, n)
 }
 
-// The eight numbers of record k.
+// The ten numbers of record k.
 pub fn put_numbers(
     records: &mut [u32],
     k: usize,
@@ -60,10 +71,12 @@ pub fn put_numbers(
     present: u32,
     value: u32,
     value_len: u32,
+    constant: u32,
+    not_null: u32,
 )
     requires { ⌜ k ≤ 512 ⌝ }
-    requires { ⌜ 4104 ≤ length (now records) ⌝ }
-    ensures { λ _. ⌜ now (records .exit) ≡ sets (now (records .entry)) (8 * k) (next ∷ name ∷ «name_len» ∷ kind ∷ «kind_len» ∷ present ∷ value ∷ «value_len» ∷ []) ⌝ }
+    requires { ⌜ 5130 ≤ length (now records) ⌝ }
+    ensures { λ _. ⌜ now (records .exit) ≡ sets (now (records .entry)) (10 * k) (next ∷ name ∷ «name_len» ∷ kind ∷ «kind_len» ∷ present ∷ value ∷ «value_len» ∷ constant ∷ «not_null» ∷ []) ⌝ }
 {
     let at = RECORD_WIDTH * k;
     records[at] = next;
@@ -74,6 +87,8 @@ pub fn put_numbers(
     records[at + 5] = present;
     records[at + 6] = value;
     records[at + 7] = value_len;
+    records[at + 8] = constant;
+    records[at + 9] = not_null;
 }
 
 // Zeros in place of the numbers from `from` up to `to`, as far as the buffer reaches.
@@ -109,10 +124,10 @@ fn hash_of(name: &[u8]) -> usize
 // The places of a part as record k, and a hash where the next will stand.
 fn put_part(records: &mut [u32], k: usize, hash: usize, p: DeclarationPlaces)
     requires { ⌜ k ≤ 512 ⌝ }
-    requires { ⌜ 4104 ≤ length (now records) ⌝ }
+    requires { ⌜ 5130 ≤ length (now records) ⌝ }
     requires { ⌜ hash < 2 ^ 32 ⌝ }
     requires { ⌜ Within 65536 p ⌝ }
-    ensures { λ _. ⌜ now (records .exit) ≡ sets (now (records .entry)) (8 * k) (heldNumbers hash p) ⌝ }
+    ensures { λ _. ⌜ now (records .exit) ≡ sets (now (records .entry)) (10 * k) (heldNumbers hash p) ⌝ }
 {
     put_numbers(
         records,
@@ -125,13 +140,15 @@ fn put_part(records: &mut [u32], k: usize, hash: usize, p: DeclarationPlaces)
         p.present as u32,
         p.value as u32,
         p.value_len as u32,
+        p.constant as u32,
+        p.not_null as u32,
     );
 }
 
 // Whether record k has this name; the hashes tell most names apart.
 fn is_named(text: &[u8], records: &[u32], k: usize, name: &[u8], hash: usize) -> bool
     requires { ⌜ k ≤ 512 ⌝ }
-    requires { ⌜ 4104 ≤ length (now records) ⌝ }
+    requires { ⌜ 5130 ≤ length (now records) ⌝ }
     requires { ⌜ hash ≡ nameHash (now name) ⌝ }
     requires { ⌜ HashIn (now text) (now records) k ⌝ }
     ensures { λ r. ⌜ r ≡ isSame (now (name .entry)) (recordIn (now (text .entry)) (now (records .entry)) k .name) ⌝ }
@@ -147,7 +164,7 @@ fn is_named(text: &[u8], records: &[u32], k: usize, name: &[u8], hash: usize) ->
 // How many records stand ahead of the first one of this name.
 fn find_name(text: &[u8], records: &[u32], count: usize, name: &[u8], hash: usize) -> usize
     requires { ⌜ count ≤ 512 ⌝ }
-    requires { ⌜ 4104 ≤ length (now records) ⌝ }
+    requires { ⌜ 5130 ≤ length (now records) ⌝ }
     requires { ⌜ hash ≡ nameHash (now name) ⌝ }
     requires { ⌜ Hashed (now text) (now records) count ⌝ }
     ensures { λ r. ⌜ r ≡ placeOf (now (name .entry)) (recordsFrom (now (text .entry)) (now (records .entry)) 1 count) ⌝ }
@@ -167,7 +184,7 @@ fn find_name(text: &[u8], records: &[u32], count: usize, name: &[u8], hash: usiz
 // The records with what a part declares; 513 if there would be more than 512.
 fn add_part(text: &[u8], records: &mut [u32], count: usize, p: DeclarationPlaces) -> usize
     requires { ⌜ count ≤ 512 ⌝ }
-    requires { ⌜ 4104 ≤ length (now records) ⌝ }
+    requires { ⌜ 5130 ≤ length (now records) ⌝ }
     requires { ⌜ Within 65536 p ⌝ }
     requires { ⌜ Hashed (now text) (now records) count ⌝ }
     ensures { λ r. ⌜ Added (now (text .entry)) (now (records .entry)) count p (now (records .exit)) r ⌝ }
@@ -189,9 +206,9 @@ fn add_part(text: &[u8], records: &mut [u32], count: usize, p: DeclarationPlaces
 pub fn gather(text: &[u8], map: &[u8], records: &mut [u32]) -> usize
     requires { ⌜ length (now text) ≤ 65536 ⌝ }
     requires { ⌜ length (now text) ≤ length (now map) ⌝ }
-    requires { ⌜ 4104 ≤ length (now records) ⌝ }
+    requires { ⌜ 5130 ≤ length (now records) ⌝ }
     ensures { λ r. ⌜ Gathered (now (text .entry)) (marked (now (text .entry)) (now (map .entry))) (now (records .exit)) r ⌝ }
-    ensures { λ _. ⌜ drop 4104 (now (records .exit)) ≡ drop 4104 (now (records .entry)) ⌝ }
+    ensures { λ _. ⌜ drop 5130 (now (records .exit)) ≡ drop 5130 (now (records .entry)) ⌝ }
 {
     let mut count: usize = 0;
     let mut at: usize = 0;

@@ -69,10 +69,10 @@ texts-held ds (accepted ys) d h = h
 texts-held ds (refused f) d h = refl
 
 pub numbers-held : (ds : List Declared) (w : Rewriting) (rs : List ℕ) → take (length (numbersOf ds)) rs ≡ numbersOf ds
-    → take (ifAccepted (resultOf [] w .answer) (8 * length ds + 8)) rs ≡ resultOf ds w .records
+    → take (ifAccepted (resultOf [] w .answer) (10 * length ds + 10)) rs ≡ resultOf ds w .records
 unfolding resultOf recordWidth
 numbers-held ds (accepted ys) rs h =
-    let n : 8 * length ds + 8 ≡ length (numbersOf ds) = omega (arith, numbers-length ds) in
+    let n : 10 * length ds + 10 ≡ length (numbersOf ds) = omega (arith, numbers-length ds) in
     rw n h
 numbers-held ds (refused f) rs h = refl
 
@@ -132,7 +132,7 @@ module _ (xs work work′ : List ℕ) (m : work′ ≡ keptBehind (mapOf xs) wor
     pub count-small : c ≤ 512
     count-small = omega (arith, told .0, told .1)
 
-    pub numbers-small : 8 * c + 8 ≤ 4104
+    pub numbers-small : 10 * c + 10 ≤ 5130
     numbers-small = omega (arith, count-small)
 
     pub texts-small : length xs ≤ 16384 → n ≤ 65536
@@ -158,7 +158,7 @@ module _ (xs work work′ : List ℕ) (m : work′ ≡ keptBehind (mapOf xs) wor
             rw (← told .2, a)
             (texts-held (recordsOf xs) (rewriting actionOf (drop start xs)) d′ (packed-as .front) ∙ sym (ap (λ (f : Result). f .declared) result))
 
-        pub numbers-are : take (ifAccepted r (8 * c + 8)) rs′ ≡ functionResult xs .records
+        pub numbers-are : take (ifAccepted r (10 * c + 10)) rs′ ≡ functionResult xs .records
         unfolding bodyResult
         numbers-are =
             rw (← told .1, a)

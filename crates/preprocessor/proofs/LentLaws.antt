@@ -16,7 +16,7 @@ three-lent a b c e =
     )
 
 -- and the declarations' text and numbers
-pub two-lent : (a : Bool) (d n : ℕ) → (a && (leb 65536 d && leb 4104 n)) ≡ true → (a ≡ true) × (65536 ≤ d) × (4104 ≤ n)
+pub two-lent : (a : Bool) (d n : ℕ) → (a && (leb 65536 d && leb 5130 n)) ≡ true → (a ≡ true) × (65536 ≤ d) × (5130 ≤ n)
 two-lent a d n e =
     let r = and-right a _ e in
-    (and-left a _ e, leb-true 65536 d (and-left (leb 65536 d) _ r), leb-true 4104 n (and-right (leb 65536 d) _ r))
+    (and-left a _ e, leb-true 65536 d (and-left (leb 65536 d) _ r), leb-true 5130 n (and-right (leb 65536 d) _ r))

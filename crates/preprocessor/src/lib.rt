@@ -63,7 +63,7 @@ pub fn transform_body(
 
 // Whether all five buffers are long enough.
 fn all_lent(output: usize, work: usize, spare: usize, declared: usize, records: usize) -> bool
-    ensures { λ r. ⌜ r ≡ ((leb 65536 output && (leb 65536 work && leb 65536 spare)) && (leb 65536 declared && leb 4104 records)) ⌝ }
+    ensures { λ r. ⌜ r ≡ ((leb 65536 output && (leb 65536 work && leb 65536 spare)) && (leb 65536 declared && leb 5130 records)) ⌝ }
 {
     if are_lent(output, work, spare) {
         if declared < BUFFER_SIZE {
@@ -140,7 +140,7 @@ fn run_function(
     numbers: usize,
 ) -> Rewritten
     requires { ⌜ size ≡ 65536 ⌝ }
-    requires { ⌜ numbers ≡ 4104 ⌝ }
+    requires { ⌜ numbers ≡ 5130 ⌝ }
     requires { ⌜ length (now text) ≤ 16384 ⌝ }
     requires { ⌜ size ≤ length (now output) ⌝ }
     requires { ⌜ size ≤ length (now work) ⌝ }

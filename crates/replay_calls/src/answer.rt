@@ -21,7 +21,7 @@ use stored_list::same_front;
 const SIZE: usize = 65536;
 
 // How many record numbers the function call fills.
-const RECORD_NUMBERS: usize = 4104;
+const RECORD_NUMBERS: usize = 5130;
 
 // The numbers of the lent buffers in a line that changes a place.
 const OUTPUT: usize = 0;

@@ -10,10 +10,10 @@ ghost use mathlib.Core.Path.{_≡_};
 ghost use lib.ListN.{length};
 
 // What the call is lent for the numbers of the records.
-fn record_numbers() -> [u32; 4104]
-    ensures { λ r. ⌜ 4104 ≡ length r ⌝ }
+fn record_numbers() -> [u32; 5130]
+    ensures { λ r. ⌜ 5130 ≡ length r ⌝ }
 {
-    [0; 4104]
+    [0; 5130]
 }
 
 // Makes the function call and prints its answer; whether all was written.

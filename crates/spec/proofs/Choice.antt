@@ -1,10 +1,12 @@
 -- Choices by a Bool, and by the order of two numbers. Assumes nothing.
 use mathlib.Core.Path.{_≡_, refl, sym}
 use mathlib.Core.Bool.{Bool, true, false, cond, _&&_, _||_, false≢true}
+use mathlib.Core.Option.{none, some}
 use Prim.Native.Nat.{ℕ, _≤_, _<_}
 use native.Mathlib.Omega.{arith}
 use borrow.Author.Tests.{ltb-true, ltb-false}
 use lib.Dec.{ltb}
+use Rattle.spec.proofs.Apart.{apart}
 
 -- a proof by the two cases of a test, each with its equation
 pub by : {P : Type 0} (b : Bool) → (b ≡ true → P) → (b ≡ false → P) → P
@@ -21,6 +23,15 @@ neither-less m n a b =
 pub cond-case : {A : Type 0} (P : A → Type 0) (b : Bool) (x y : A) → (b ≡ true → P x) → (b ≡ false → P y) → P (cond b x y)
 cond-case P true x y p q = p refl
 cond-case P false x y p q = q refl
+
+-- of something that is made unless b: made, b is false; not made, b is true
+pub made-some : {A : Type 0} (b : Bool) (x d : A) → cond b none (some x) ≡ some d → (b ≡ false) × (x ≡ d)
+made-some true x d e = absurd (apart (cc))
+made-some false x d e = (refl, cc)
+
+pub made-none : {A : Type 0} (b : Bool) (x : A) → cond b none (some x) ≡ none → b ≡ true
+made-none true x e = refl
+made-none false x e = absurd (apart (cc))
 
 -- a choice is within a bound that both arms are within
 pub cond-le : (b : Bool) (x y n : ℕ) → x ≤ n → y ≤ n → cond b x y ≤ n

@@ -12,7 +12,7 @@ use lib.Dec.{eqb}
 use lib.ListN.{length, take, drop, getD}
 use Rattle.spec.proofs.Apart.{apart}
 use Rattle.spec.proofs.AssignTargets.{assign-says}
-use Rattle.spec.proofs.Choice.{and-left, and-right, and-both, or-cases, or-first, or-second}
+use Rattle.spec.proofs.Choice.{made-some, and-left, and-right, and-both, or-cases, or-first, or-second}
 use Rattle.spec.proofs.EqualsTargets.{lone-says}
 use Rattle.spec.proofs.FirstLaws.{Says, found-least, least-found, found-none, none-found}
 use Rattle.spec.proofs.MarkingWords.{word-says}
@@ -22,10 +22,11 @@ use Rattle.spec.proofs.TargetPlaces.{flags, byteAt, IsLiveAt, IsAssignA
 use Rattle.spec.proofs.WalkLaws.{passesAt, live-at, live-inside}
 use Rattle.spec.specs.Bytes.{ascii, upper, isLower, within}
 use Rattle.spec.specs.Map.{Marked, bytes, frontByte, frontLive}
+use Rattle.spec.specs.Lists.{isEmpty}
 use Rattle.spec.specs.Parts.{trim}
 use Rattle.spec.specs.Search.{first, keywordHere}
 use Rattle.spec.specs.Assignments.{assignHere, loneEquals}
-use Rattle.spec.specs.Declarations.{Declared, requotedDefault, words, joinWords, declaredOf, isLone, equalsHere, defaultHere, keyLength, partAt, declaration}
+use Rattle.spec.specs.Declarations.{Declared, requotedDefault, words, behindConstant, aheadOfNotNull, declaredOf, isLone, equalsHere, defaultHere, keyLength, partAt, declaration}
 use Rattle.spec.specs.declared.Found.{Found}
 use Rattle.spec.specs.declared.Found.the-variants.{At, Nothing}
 
@@ -153,8 +154,9 @@ key-says t =
 declared-default : (ws : List (List Marked)) (o : Option (List ℕ)) (d : Declared) → declaredOf ws o ≡ some d → d .default ≡ o
 unfolding declaredOf
 declared-default [] o d e = absurd (apart (cc))
-declared-default (n ∷ []) o d e = absurd (apart (cc))
-declared-default (n ∷ w ∷ ws) o d e = let z : record { name = bytes n; type = joinWords (w ∷ ws); default = o } ≡ d = cc in ap (λ (x : Declared). x .default) (sym z)
+declared-default (n ∷ ws) o d e =
+    let m = made-some (isEmpty (aheadOfNotNull (behindConstant ws))) _ d e in
+    ap (λ (x : Declared). x .default) (sym (m .1))
 
 module _ (part : List Marked) where
   abbrev t : List Marked

@@ -1,22 +1,19 @@
 -- Rows for Note 2, each by computation: where a default begins. Assumes nothing.
 use Prim.Native.String.{String}
 use mathlib.Core.Path.{_≡_, refl}
+use mathlib.Core.Bool.{false}
 use mathlib.Core.List.{List, [], _∷_, _++_}
 use mathlib.Core.Option.{none, some}
 use Rattle.spec.specs.Bytes.{ascii}
-use Rattle.spec.specs.Declarations.{Declared, recordsOf}
-use Rattle.spec.proofs.RowForms.{function, functionRow, tabled}
+use Rattle.spec.specs.Declarations.{Declared}
+use Rattle.spec.proofs.RowForms.{recordOf, oneRecord, function, functionRow, tabled}
 
--- the records of a function with this one declaration
-abbrev recordOf : String → List Declared
-recordOf part = recordsOf (ascii "DECLARE " ++ (ascii part ++ ascii ";BEGIN"))
-
--- one record: name, type, default
+-- one record with no mark: name, type, default
 abbrev with : String → String → String → List Declared
-with n k v = record { name = ascii n; type = ascii k; default = some (ascii v) } ∷ []
+with n k v = oneRecord n k (some (ascii v)) false false
 
 abbrev without : String → String → List Declared
-without n k = record { name = ascii n; type = ascii k; default = none } ∷ []
+without n k = oneRecord n k none false false
 
 -- each of the three
 behind-assign : recordOf "a b := 1" ≡ with "a" "b" "1"

@@ -41,11 +41,11 @@ module _ {A : Type 0} (f : A → Bool) where
   drop-end-kept (x ∷ a) b h = rw (drop-end-kept a b h, some-behind a (dropEnd f b) h, and-false (f x)) refl
 
   -- by its last element
-  last-passes : (x : A) (l : List A) → f x ≡ true → dropEnd f (l ++ (x ∷ [])) ≡ dropEnd f l
+  pub last-passes : (x : A) (l : List A) → f x ≡ true → dropEnd f (l ++ (x ∷ [])) ≡ dropEnd f l
   unfolding dropEnd isEmpty
   last-passes x l e = drop-end-gone l (x ∷ []) (simp e)
 
-  last-fails : (x : A) (l : List A) → f x ≡ false → dropEnd f (l ++ (x ∷ [])) ≡ l ++ (x ∷ [])
+  pub last-fails : (x : A) (l : List A) → f x ≡ false → dropEnd f (l ++ (x ∷ [])) ≡ l ++ (x ∷ [])
   unfolding dropEnd isEmpty
   last-fails x l e =
       let one : dropEnd f (x ∷ []) ≡ x ∷ [] = simp e in

@@ -3,6 +3,7 @@ pub mod Rows
 pub mod ClosedRows
 pub mod RequoteRows
 pub mod DefaultRows
+pub mod ConstantRows
 pub mod Choice
 pub mod ByteSets
 pub mod SpanLaws
@@ -54,3 +55,4 @@ pub mod StatementTargets
 pub mod QualifiedExactly
 pub mod TargetRows
 pub mod DefaultLaws
+pub mod ConstantLaws

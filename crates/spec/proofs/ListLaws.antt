@@ -1,6 +1,6 @@
 -- Lists by a test on their elements, and sums over lists. Assumes nothing.
 use mathlib.Core.Path.{_≡_, refl, sym, ap, _∙_}
-use mathlib.Core.Bool.{Bool, true, _&&_}
+use mathlib.Core.Bool.{Bool, true, _&&_, false≢true}
 use mathlib.Core.List.{List, [], _∷_, _++_, map, reverse, reverseAux, append-assoc}
 use Prim.Native.Nat.{ℕ, suc, _+_, _*_, _≤_, zero-le, suc-le-suc}
 use native.Mathlib.Nat.{mul-zero, mul-suc, add-comm}
@@ -15,6 +15,11 @@ module _ {A : Type 0} where
   unfolding isEmpty
   empty-length [] = refl
   empty-length (x ∷ l) = sym (eqb·suc-zero (length l))
+
+  pub empty-nil : (l : List A) → isEmpty l ≡ true → l ≡ []
+  unfolding isEmpty
+  empty-nil [] h = refl
+  empty-nil (x ∷ l) h = absurd (false≢true h)
 
   -- the front that passes the test and what stands behind it are the list
   pub while-split : (f : A → Bool) (t : List A) → takeWhile f t ++ dropWhile f t ≡ t

@@ -14,7 +14,7 @@ use Rattle.spec.specs.Bytes.{ascii, isSame}
 use Rattle.spec.specs.Lists.{any}
 use Rattle.spec.specs.Map.{Marked, markedText}
 use Rattle.spec.specs.Search.{first, keywordHere, byteHere, pieces}
-use Rattle.spec.specs.Declarations.{Declared, declaration, declare, declareMaybe, declareAll, declareSection, recordsOf, recordWidth, packedRecord, packed, textOr, headNext, nextOf, defaultNumbers, recordAt, recordsAt, numbersOf}
+use Rattle.spec.specs.Declarations.{Declared, declaration, declare, declareMaybe, declareAll, declareSection, recordsOf, recordWidth, packedRecord, packed, textOr, headNext, nextOf, defaultNumbers, oneIf, recordAt, recordsAt, numbersOf}
 
 -- the record has this name
 abbrev pub named : List ℕ → Declared → Bool
@@ -237,12 +237,13 @@ numberAt ds k j = getD (numbersOf ds) (recordWidth * k + j) 0
 unfoldable pub startOf : List Declared → ℕ → ℕ
 startOf ds i = length (packed (take i ds))
 
--- a record has eight numbers
+-- a record has ten numbers
 pub record-length : (all : List Declared) (at : ℕ) (d : Declared) → length (recordAt all at d) ≡ recordWidth
 unfolding recordAt recordWidth defaultNumbers
 record-length all at d = go (d .default) (at + length (d .name) + length (d .type))
   where
-    go : (o : Option (List ℕ)) (n : ℕ) → suc (suc (suc (suc (suc (length (defaultNumbers o n)))))) ≡ 8
+    go : (o : Option (List ℕ)) (n : ℕ)
+        → suc (suc (suc (suc (suc (length (defaultNumbers o n ++ (oneIf (d .constant) ∷ oneIf (d .notNull) ∷ []))))))) ≡ 10
     go none n = refl
     go (some xs) n = refl
 
@@ -270,14 +271,14 @@ unfolding recordsAt recordWidth startOf packed
 records-number all at [] i j d h l = let z : _≡_ {A = ℕ} 0 1 = cc in absurd (omega arith)
 records-number all at (e ∷ es) zero j d h l =
     let q : e ≡ d = cc in
-    let n : 8 * 0 + j ≡ j = omega arith in
+    let n : 10 * 0 + j ≡ j = omega arith in
     let m : at + 0 ≡ at = omega arith in
     rw (n, m, q) (List·getD-append (recordAt all at d) _ 0 j (rw (record-length all at d) l))
 records-number all at (e ∷ es) (suc i) j d h l =
-    let n : 8 * suc i + j ≡ length (recordAt all at e) + (8 * i + j) = omega (arith, record-length all at e) in
+    let n : 10 * suc i + j ≡ length (recordAt all at e) + (10 * i + j) = omega (arith, record-length all at e) in
     let m : at + length (packedRecord e ++ packed (take i es)) ≡ at + length (packedRecord e) + length (packed (take i es)) =
     omega (arith, length-append (packedRecord e) (packed (take i es))) in
-    rw (n, m, getD-append-add (recordAt all at e) (recordsAt all (at + length (packedRecord e)) es) (8 * i + j) 0)
+    rw (n, m, getD-append-add (recordAt all at e) (recordsAt all (at + length (packedRecord e)) es) (10 * i + j) 0)
     (records-number all (at + length (packedRecord e)) es i j d h l)
 
 -- the numbers of record i + 1 are those of the element at index i
@@ -285,10 +286,10 @@ pub number-of : (ds : List Declared) (i j : ℕ) (d : Declared) → getElem? ds 
     → numberAt ds (suc i) j ≡ getD (recordAt ds (startOf ds i) d) j 0
 unfolding numberAt numbersOf recordWidth
 number-of ds i j d h l =
-    let front : List ℕ = headNext ds ∷ replicate 7 0 in
-    let n : 8 * suc i + j ≡ 8 + (8 * i + j) = omega arith in
+    let front : List ℕ = headNext ds ∷ replicate 9 0 in
+    let n : 10 * suc i + j ≡ 10 + (10 * i + j) = omega arith in
     let m : 0 + startOf ds i ≡ startOf ds i = omega arith in
-    rw (n, ← m) (getD-append-add front (recordsAt ds 0 ds) (8 * i + j) 0 ∙ records-number ds 0 ds i j d h l)
+    rw (n, ← m) (getD-append-add front (recordsAt ds 0 ds) (10 * i + j) 0 ∙ records-number ds 0 ds i j d h l)
 
 -- the packed texts, cut around the element at index i
 packed-around : (ds : List Declared) (i : ℕ) (d : Declared) → getElem? ds i ≡ some d
@@ -354,10 +355,17 @@ module _ (ds : List Declared) (i : ℕ) (d : Declared) (h : getElem? ds i ≡ so
 
   default-numbers : (j : ℕ) → j < 3
       → numberAt ds (suc i) (5 + j) ≡ getD (defaultNumbers (d .default) (startOf ds i + length (d .name) + length (d .type))) j 0
-  unfolding recordAt recordWidth
+  unfolding recordAt recordWidth defaultNumbers
   default-numbers j l =
+      let at = startOf ds i + length (d .name) + length (d .type) in
+      let marks = oneIf (d .constant) ∷ oneIf (d .notNull) ∷ [] in
       number-of ds i (5 + j) d h (omega arith)
-      ∙ getD-append-add (take 5 (recordAt ds (startOf ds i) d)) (defaultNumbers (d .default) (startOf ds i + length (d .name) + length (d .type))) j 0
+      ∙ (getD-append-add (take 5 (recordAt ds (startOf ds i) d)) (defaultNumbers (d .default) at ++ marks) j 0
+      ∙ List·getD-append (defaultNumbers (d .default) at) marks 0 j (rw (three (d .default) at) l))
+    where
+      three : (o : Option (List ℕ)) (n : ℕ) → length (defaultNumbers o n) ≡ 3
+      three none n = refl
+      three (some xs) n = refl
 
   -- 1, start and length where a default is present, empty or not
   pub default-flag : (xs : List ℕ) → d .default ≡ some xs → numberAt ds (suc i) 5 ≡ 1
@@ -393,6 +401,26 @@ module _ (ds : List Declared) (i : ℕ) (d : Declared) (h : getElem? ds i ≡ so
   pub no-default : d .default ≡ none → (j : ℕ) → j < 3 → numberAt ds (suc i) (5 + j) ≡ 0
   unfolding defaultNumbers
   no-default e j l = (rw e at (default-numbers j l)) ∙ getD-replicate 3 j 0 0 l
+
+  -- Note 5: its last two numbers are its marks
+  mark-numbers : (j : ℕ) → j < 2 → numberAt ds (suc i) (8 + j) ≡ getD (oneIf (d .constant) ∷ oneIf (d .notNull) ∷ []) j 0
+  unfolding recordAt recordWidth defaultNumbers
+  mark-numbers j l =
+      number-of ds i (8 + j) d h (omega arith)
+      ∙ go (d .default) (nextOf ds (d .name)) (startOf ds i) (length (d .name)) (startOf ds i + length (d .name)) (length (d .type))
+    where
+      go : (o : Option (List ℕ)) (a b c e f : ℕ)
+          → getD (a ∷ b ∷ c ∷ e ∷ f ∷ (defaultNumbers o (e + f) ++ (oneIf (d .constant) ∷ oneIf (d .notNull) ∷ []))) (8 + j) 0
+          ≡ getD (oneIf (d .constant) ∷ oneIf (d .notNull) ∷ []) j 0
+      go none a b c e f = getD-append-add (a ∷ b ∷ c ∷ e ∷ f ∷ 0 ∷ 0 ∷ 0 ∷ []) (oneIf (d .constant) ∷ oneIf (d .notNull) ∷ []) j 0
+      go (some xs) a b c e f =
+          getD-append-add (a ∷ b ∷ c ∷ e ∷ f ∷ 1 ∷ (e + f) ∷ length xs ∷ []) (oneIf (d .constant) ∷ oneIf (d .notNull) ∷ []) j 0
+
+  pub number-constant : numberAt ds (suc i) 8 ≡ oneIf (d .constant)
+  number-constant = mark-numbers 0 (omega arith)
+
+  pub number-not-null : numberAt ds (suc i) 9 ≡ oneIf (d .notNull)
+  number-not-null = mark-numbers 1 (omega arith)
 
   -- no gaps: the type stands behind the name
   pub type-start : numberAt ds (suc i) 3 ≡ numberAt ds (suc i) 1 + numberAt ds (suc i) 2
@@ -435,5 +463,5 @@ head-next ds = refl
 pub head-zeros : (ds : List Declared) (j : ℕ) → suc j < recordWidth → numberAt ds 0 (suc j) ≡ 0
 unfolding numberAt numbersOf recordWidth
 head-zeros ds j h =
-    let n : 8 * 0 + suc j ≡ suc j = omega arith in
-    rw n (List·getD-append (replicate 7 0) (recordsAt ds 0 ds) 0 j (omega arith) ∙ getD-replicate 7 j 0 0 (omega arith))
+    let n : 10 * 0 + suc j ≡ suc j = omega arith in
+    rw n (List·getD-append (replicate 9 0) (recordsAt ds 0 ds) 0 j (omega arith) ∙ getD-replicate 9 j 0 0 (omega arith))

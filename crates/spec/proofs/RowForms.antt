@@ -4,11 +4,12 @@ use Prim.Native.Nat.{ℕ, _+_, _*_}
 use Prim.Native.String.{String}
 use mathlib.Core.Bool.{Bool, cond, not, _&&_}
 use mathlib.Core.List.{List, [], _∷_, _++_}
+use mathlib.Core.Option.{Option}
 use lib.Dec.{eqb}
 use lib.ListN.{getD, take, drop}
 use Rattle.spec.specs.Bytes.{ascii, isSame}
 use Rattle.spec.specs.Closed.{isClosed}
-use Rattle.spec.specs.Declarations.{recordWidth, recordLimit, chainFrom}
+use Rattle.spec.specs.Declarations.{Declared, recordsOf, recordWidth, recordLimit, chainFrom}
 use Rattle.spec.specs.Computed.{computed}
 use Rattle.spec.specs.Answers.{CallNumbers, callNumbers, Result, bodyResult, functionResult}
 
@@ -25,14 +26,23 @@ body s = record { numbers = callNumbers (bodyResult (ascii s) .answer); output =
 abbrev pub row : ℕ → ℕ → ℕ → ℕ → String → Row
 row n p l r s = record { numbers = record { number = n; place = p; length = l; records = r }; output = ascii s }
 
--- a declaration as its name, 256, its type, then 257 and the default or 258 for none, and 259; read off the numbers of
--- record i and the packed text
+-- the records of a function that declares this, one declaration or several with `;` between them
+abbrev pub recordOf : String → List Declared
+recordOf part = recordsOf (ascii "DECLARE " ++ (ascii part ++ ascii ";BEGIN"))
+
+-- one record: name, type, default, marked CONSTANT, marked NOT NULL
+abbrev pub oneRecord : String → String → Option (List ℕ) → Bool → Bool → List Declared
+oneRecord n k v c m = record { name = ascii n; type = ascii k; default = v; constant = c; notNull = m } ∷ []
+
+-- a declaration as its name, 256, its type, then 257 and the default or 258 for none, 260 if it is marked CONSTANT, 261 if
+-- NOT NULL, and 259; read off the numbers of record i and the packed text
 unfoldable pub unpacked : List ℕ → List ℕ → ℕ → List ℕ
 unpacked numbers text i =
     let at : ℕ → ℕ = λ k. getD numbers (recordWidth * i + k) 0 in
     let slice : ℕ → List ℕ = λ k. take (at (k + 1)) (drop (at k) text) in
     let default : List ℕ = 257 ∷ slice 6 in
-    slice 1 ++ (256 ∷ (slice 3 ++ (cond (eqb (at 5) 1) default (258 ∷ []) ++ (259 ∷ []))))
+    let marked : ℕ → ℕ → List ℕ = λ k n. cond (eqb (at k) 1) (n ∷ []) [] in
+    slice 1 ++ (256 ∷ (slice 3 ++ (cond (eqb (at 5) 1) default (258 ∷ []) ++ (marked 8 260 ++ (marked 9 261 ++ (259 ∷ []))))))
 
 unfoldable pub unpackedAll : List ℕ → List ℕ → List ℕ → List ℕ
 unpackedAll numbers text [] = []

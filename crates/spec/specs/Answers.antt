@@ -252,7 +252,7 @@ bodyOutput xs out work spare = exitOf (bodyCheck xs out work spare) (zeroedTo bu
 unfoldable pub workExit : Check → List ℕ → List ℕ
 workExit c lent = exitOf c (zeroedTo bufferSize [] lent) lent
 
--- the function call lends declaration text of 65,536 bytes and 4,104 record numbers or more besides
+-- the function call lends declaration text of 65,536 bytes and 5,130 record numbers or more besides
 unfoldable pub functionCheck : List ℕ → List ℕ → List ℕ → List ℕ → List ℕ → List ℕ → Check
 functionCheck xs out work spare text numbers =
     checkOf

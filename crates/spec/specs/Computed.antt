@@ -70,7 +70,7 @@ unfolding body.bufferSize body.requotePass body.elsifPass body.assignPass body.s
 inBody = tt
 
 unfoldable inDeclarations : Unit {0}
-unfolding declarations.recordWidth declarations.recordLimit declarations.recordNumbers declarations.requotedBy declarations.delimiterOf declarations.requotedDefault declarations.words declarations.joinWords declarations.declaredOf declarations.isLone declarations.equalsHere declarations.defaultHere declarations.keyLength declarations.partAt declarations.declaration declarations.declare declarations.declareMaybe declarations.declareAll declarations.declareSection declarations.recordsOf declarations.bodyFrom declarations.bodyOf declarations.packedRecord declarations.packed declarations.firstInOrder declarations.headNext declarations.nextOf declarations.defaultNumbers declarations.recordAt declarations.recordsAt declarations.numbersOf declarations.chainFrom declarations.chain
+unfolding declarations.recordWidth declarations.recordLimit declarations.recordNumbers declarations.requotedBy declarations.delimiterOf declarations.requotedDefault declarations.words declarations.joinWords declarations.areWords declarations.isConstant declarations.isNotNull declarations.behindConstant declarations.aheadOfNotNull declarations.declaredOf declarations.isLone declarations.equalsHere declarations.defaultHere declarations.keyLength declarations.partAt declarations.declaration declarations.declare declarations.declareMaybe declarations.declareAll declarations.declareSection declarations.recordsOf declarations.bodyFrom declarations.bodyOf declarations.packedRecord declarations.packed declarations.firstInOrder declarations.headNext declarations.nextOf declarations.defaultNumbers declarations.recordAt declarations.recordsAt declarations.numbersOf declarations.chainFrom declarations.chain
 inDeclarations = tt
 
 unfoldable inClosed : Unit {0}

@@ -1,6 +1,7 @@
--- Document 01, "The declaration records", and Note 2, where a default begins. Assumes nothing.
+-- Document 01, "The declaration records", Note 2, where a default begins, and Note 5, the words around a type. Assumes
+-- nothing.
 use Prim.Native.Nat.{ℕ, zero, suc, _+_, _-_, _*_}
-use mathlib.Core.Bool.{Bool, true, cond, not, _&&_, _||_}
+use mathlib.Core.Bool.{Bool, true, false, cond, not, _&&_, _||_}
 use mathlib.Core.List.{List, [], _∷_, _++_}
 use mathlib.Core.Option.{Option, none, some}
 use lib.Dec.{eqb, ltb, leb}
@@ -8,16 +9,16 @@ use lib.ListN.{length, getD, take, drop, replicate}
 use Rattle.spec.specs.Bytes.{ascii, isIdent, isW, isPrefix, isSame, isBefore}
 use Rattle.spec.specs.Lists.{isEmpty, takeWhile, keep}
 use Rattle.spec.specs.Map.{Marked, bytes, markedText, frontByte, frontLive}
-use Rattle.spec.specs.Search.{Test, first, keywordHere, byteHere, pieces}
+use Rattle.spec.specs.Search.{Test, first, keywordHere, byteHere, pieces, isWordText}
 use Rattle.spec.specs.Requote.{singleQuoted}
 use Rattle.spec.specs.Assignments.{assignHere, loneEquals}
 use Rattle.spec.specs.Parts.{trim, part}
 use Rattle.spec.specs.declared.Found.{Found}
 use Rattle.spec.specs.declared.Found.the-variants.{At, Nothing}
 
--- how many numbers a record has, and how many records may be declared
+-- how many numbers a record has (Note 5: ten), and how many records may be declared
 unfoldable pub recordWidth : ℕ
-recordWidth = 8
+recordWidth = 10
 
 unfoldable pub recordLimit : ℕ
 recordLimit = 512
@@ -26,11 +27,13 @@ recordLimit = 512
 unfoldable pub recordNumbers : ℕ
 recordNumbers = recordWidth * (recordLimit + 1)
 
--- a declared variable; the default may be absent, or present and empty
+-- a declared variable; the default may be absent, or present and empty; CONSTANT stood before the type, NOT NULL closed it
 pub record Declared : Type 0 where
   pub name : List ℕ
   pub type : List ℕ
   pub default : Option (List ℕ)
+  pub constant : Bool
+  pub notNull : Bool
 
 -- a default that is wholly `$tag$..$tag$`, its delimiter d in front: the tag may start with a digit and the inside may
 -- hold `$tag$` again
@@ -59,11 +62,44 @@ joinWords [] = []
 joinWords (w ∷ []) = bytes w
 joinWords (w ∷ v ∷ ws) = bytes w ++ (32 ∷ joinWords (v ∷ ws))
 
--- name, then type; fewer than two words, no record
+-- the words are these, in any letter case
+unfoldable pub areWords : List (List ℕ) → List (List Marked) → Bool
+areWords [] [] = true
+areWords [] (w ∷ ws) = false
+areWords (a ∷ texts) [] = false
+areWords (a ∷ texts) (w ∷ ws) =
+    let more = areWords texts ws in
+    isWordText a w && more
+
+-- Note 5: CONSTANT stood before the type: it is the first word behind the name
+unfoldable pub isConstant : List (List Marked) → Bool
+isConstant ws = areWords (ascii "CONSTANT" ∷ []) (take 1 ws)
+
+-- Note 5: NOT NULL closed it: these are the last two words of what is left
+unfoldable pub isNotNull : List (List Marked) → Bool
+isNotNull ws = areWords (ascii "NOT" ∷ ascii "NULL" ∷ []) (drop (length ws - 2) ws)
+
+-- Note 5: those words leave the type
+unfoldable pub behindConstant : List (List Marked) → List (List Marked)
+behindConstant ws = cond (isConstant ws) (drop 1 ws) ws
+
+unfoldable pub aheadOfNotNull : List (List Marked) → List (List Marked)
+aheadOfNotNull ws = cond (isNotNull ws) (take (length ws - 2) ws) ws
+
+-- name, then type; Note 5: where no type is left there is no record
 unfoldable pub declaredOf : List (List Marked) → Option (List ℕ) → Option Declared
 declaredOf [] d = none
-declaredOf (n ∷ []) d = none
-declaredOf (n ∷ w ∷ ws) d = some record { name = bytes n; type = joinWords (w ∷ ws); default = d }
+declaredOf (n ∷ ws) d =
+    let rest = behindConstant ws in
+    let type = aheadOfNotNull rest in
+    let made : Declared = record {
+      name = bytes n;
+      type = joinWords type;
+      default = d;
+      constant = isConstant ws;
+      notNull = isNotNull rest;
+    } in
+    cond (isEmpty type) none (some made)
 
 -- Note 2: lone here means no `=` on either side and no `>` behind; what is behind is pass 3's question too
 unfoldable pub isLone : Test
@@ -167,7 +203,12 @@ unfoldable pub defaultNumbers : Option (List ℕ) → ℕ → List ℕ
 defaultNumbers none at = 0 ∷ 0 ∷ 0 ∷ []
 defaultNumbers (some xs) at = 1 ∷ at ∷ length xs ∷ []
 
--- a record whose texts are packed from this offset: next, name start and length, type start and length, the default's three
+-- 1 if so, else 0
+abbrev pub oneIf : Bool → ℕ
+oneIf b = cond b 1 0
+
+-- a record whose texts are packed from this offset: next, name start and length, type start and length, the default's three;
+-- Note 5: at its end 1 if CONSTANT stood before the type, and 1 if NOT NULL closed it, else 0
 unfoldable pub recordAt : List Declared → ℕ → Declared → List ℕ
 recordAt all at d =
     let typeAt = at + length (d .name) in
@@ -176,7 +217,7 @@ recordAt all at d =
     ∷ length (d .name)
     ∷ typeAt
     ∷ length (d .type)
-    ∷ defaultNumbers (d .default) (typeAt + length (d .type))
+    ∷ (defaultNumbers (d .default) (typeAt + length (d .type)) ++ (oneIf (d .constant) ∷ oneIf (d .notNull) ∷ []))
 
 unfoldable pub recordsAt : List Declared → ℕ → List Declared → List ℕ
 recordsAt all at [] = []

@@ -62,7 +62,8 @@ fn numbers(answer: &Answer, output: &[u8]) -> String {
     format!("{number} {place} {length} {count} {output}")
 }
 
-/// The fields of the records along the chain, which leads through them in byte order of names.
+/// The fields of the records along the chain, which leads through them in byte order of names: name,
+/// type, default, and the marks for CONSTANT and NOT NULL.
 fn declarations(declared: &[u8], numbers: &[u32]) -> String {
     let records: Vec<&[u32]> = numbers.chunks(RECORD).collect();
     let mut line = String::new();
@@ -80,5 +81,6 @@ fn fields(declared: &[u8], record: &[u32]) -> String {
         hex::encode(&declared[start..start + length as usize])
     };
     let default = if record[5] == 1 { text(record[6], record[7]) } else { ABSENT.to_string() };
-    format!(" {} {} {default}", text(record[1], record[2]), text(record[3], record[4]))
+    let (name, data_type) = (text(record[1], record[2]), text(record[3], record[4]));
+    format!(" {name} {data_type} {default} {} {}", record[8], record[9])
 }

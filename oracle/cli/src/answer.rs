@@ -1,10 +1,11 @@
 //! The answer of the reference to one question, in the line format.
 
+use reference::constants::Variable;
 use reference::context::PlPgSqlContext;
 use reference::declarations::Declaration;
-use reference::defaults::Reasons;
 use reference::preprocessor::PlPgSqlPreprocessor;
 use reference::reading::Reading;
+use reference::reasons::Reasons;
 use reference::records::Records;
 use reference::scanner::{Region, Scanner};
 use reference::Error;
@@ -64,7 +65,7 @@ fn function(text: &str) -> Result<String, String> {
     }
 }
 
-/// A function with the answer and the records that Note 2 wants. `None` if the reference cannot tell
+/// A function with the answer and the records that Notes 2 and 5 want. `None` if the reference cannot tell
 /// them: the text is no longer compared, and it cannot be respelled.
 pub fn preprocessed(text: &str) -> Result<Option<Function>, String> {
     Reading::wanted(text)?.map(|reading| stored(text, reading)).transpose()
@@ -72,7 +73,10 @@ pub fn preprocessed(text: &str) -> Result<Option<Function>, String> {
 
 fn stored(text: &str, Reading { output, list, order }: Reading) -> Result<Function, String> {
     let (answer, records) = match output {
-        Ok(output) => (Answer::accepted(&output), Records::new(&order, &list)),
+        Ok(output) => {
+            let variables = Variable::all(&list).ok_or("a declaration has no type left")?;
+            (Answer::accepted(&output), Records::new(&order, &variables))
+        }
         Err(error) => (refused(&error)?, Records::default()),
     };
     Ok(Function { text: Runs::one(text.as_bytes()), answer, records })

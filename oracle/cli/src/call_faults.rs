@@ -9,7 +9,7 @@ use crate::stored_call::{Answer, Body, Function, Stored, BODY_LONGER, FUNCTION_L
 use crate::wrong_calls::declaring;
 
 /// More than the least, and another length for each buffer.
-const LENT: [usize; 5] = [70_000, 70_001, 70_002, 70_003, 5_000];
+const LENT: [usize; 5] = [70_000, 70_001, 70_002, 70_003, 6_000];
 
 /// A buffer, by its number in a line `z`, and a place in it.
 type Place = (usize, usize);
@@ -70,7 +70,7 @@ mod tests {
             [0, 65_535, 65_536, 70_000],
             [0, 65_535, 65_536, 70_001],
             [6, 65_535, 65_536, 70_002],
-            [24, 4_103, 4_104, 4_999],
+            [30, 5_129, 5_130, 5_999],
         ];
         assert_eq!(places, expected.concat());
         assert_eq!(ends().len(), 10);

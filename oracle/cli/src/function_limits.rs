@@ -3,15 +3,13 @@
 
 use std::io::{self, Write};
 
-use reference::declarations::Declaration;
+use reference::constants::Variable;
+use sizes::NAMES;
 
 use crate::body_limits::{self, select_into, set_lines};
 use crate::lent::{enough, short};
 use crate::runs::{Run, Runs, LONGEST};
 use crate::stored_call::{write_all, Answer, Function, FUNCTION_LEAST, FUNCTION_LONGER, LIMIT};
-
-/// The most names that are declared.
-const NAMES: usize = 512;
 
 pub fn write(out: &mut impl Write) -> io::Result<()> {
     let enough = enough(FUNCTION_LEAST, FUNCTION_LONGER);
@@ -25,27 +23,26 @@ pub fn write(out: &mut impl Write) -> io::Result<()> {
 /// Functions that pass the checks.
 fn checked() -> impl Iterator<Item = Function> {
     let bodies = body_limits::checked().map(Function::from);
-    bodies.chain(names_pass()).chain([longest_default()]).chain(long_results()).chain(orders())
+    let names = names_pass().chain(marked_names()).chain(uncounted_names());
+    bodies.chain(names).chain([longest_default()]).chain(long_results()).chain(orders())
 }
 
 /// So many names, not in the order of their bytes.
-fn names(count: usize) -> Vec<Declaration> {
+fn names(count: usize) -> Vec<Variable> {
     let name = |index: usize| format!("v{}", index * 7_919 % count);
-    (0..count).map(|index| declaration(name(index), "t", None)).collect()
-}
-
-fn declaration(name: String, data_type: &str, default: Option<&str>) -> Declaration {
-    Declaration { name, data_type: data_type.to_string(), default: default.map(str::to_string) }
+    (0..count).map(|index| Variable::unmarked(&name(index), "t", None)).collect()
 }
 
 /// The declarations as a text, each with a semicolon behind it.
-fn block(declared: &[Declaration]) -> String {
+fn block(declared: &[Variable]) -> String {
     declared.iter().map(part).collect()
 }
 
-fn part(Declaration { name, data_type, default }: &Declaration) -> String {
+fn part(Variable { name, data_type, default, is_constant, is_not_null }: &Variable) -> String {
+    let constant = if *is_constant { "CONSTANT " } else { "" };
+    let not_null = if *is_not_null { " NOT NULL" } else { "" };
     let default = default.as_ref().map_or(String::new(), |default| format!(":={default}"));
-    format!("{name} {data_type}{default};")
+    format!("{name} {constant}{data_type}{not_null}{default};")
 }
 
 /// A block of declarations, and a body behind it that begins with BEGIN.
@@ -57,7 +54,7 @@ fn text(block: &str, body: &[Run]) -> Runs {
 }
 
 /// An accepted function whose body passes as it is.
-fn accepted(block: &str, body: &[Run], declared: &[Declaration]) -> Function {
+fn accepted(block: &str, body: &[Run], declared: &[Variable]) -> Function {
     let answer = Answer { number: 0, place: 0, output: Runs::new(body) };
     Function::new(text(block, body), answer, declared)
 }
@@ -70,13 +67,14 @@ fn names_pass() -> impl Iterator<Item = Function> {
     let most_block = block(&most);
     // All declared again, with a default.
     let again: Vec<_> =
-        most.iter().map(|one| declaration(one.name.clone(), "u", Some("1"))).collect();
+        most.iter().map(|one| Variable::unmarked(&one.name, "u", Some("1"))).collect();
     // One of them declared again as the declaration of number 513.
     let mut repeated = names(NAMES);
     repeated[NAMES / 2].data_type = "w".to_string();
     let last = part(&repeated[NAMES / 2]);
+    let long_name = |index: usize| format!("v{index:0>22}");
     let long: Vec<_> =
-        (0..NAMES).map(|index| declaration(format!("v{index:0>22}"), "int", Some("1"))).collect();
+        (0..NAMES).map(|index| Variable::unmarked(&long_name(index), "int", Some("1"))).collect();
     let spaces = (LIMIT - "DECLARE BEGIN".len() - most_block.len(), &b" "[..]);
     [
         accepted(&block(&names(NAMES - 1)), &[BEGIN], &names(NAMES - 1)),
@@ -91,12 +89,50 @@ fn names_pass() -> impl Iterator<Item = Function> {
     .into_iter()
 }
 
+/// As many names with both marks, and with one each.
+fn marked_names() -> [Function; 2] {
+    let both = names(NAMES).into_iter().map(|one| Variable {
+        is_constant: true,
+        is_not_null: true,
+        ..one
+    });
+    let one_each = names(NAMES).into_iter().enumerate().map(|(index, one)| Variable {
+        is_constant: index % 2 == 0,
+        is_not_null: index % 2 == 1,
+        ..one
+    });
+    [both.collect(), one_each.collect()]
+        .map(|marked: Vec<_>| accepted(&block(&marked), &[BEGIN], &marked))
+}
+
+/// A declaration that has no type left does not count, and leaves an earlier one of its name.
+fn uncounted_names() -> [Function; 6] {
+    let most = names(NAMES);
+    let most_block = block(&most);
+    let [first, last] = [&most[0].name, &most[NAMES - 1].name];
+    // One of 513 names does not count.
+    let over = names(NAMES + 1);
+    let (front, behind) = over.split_at(NAMES / 2);
+    let [uncounted, behind @ ..] = behind else { unreachable!("there are over 512 names") };
+    let one_less = [front, behind].concat();
+    let among = format!("{}{} CONSTANT;{}", block(front), uncounted.name, block(behind));
+    let alone: String = (0..600).map(|index| format!("x{index} NOT NULL;")).collect();
+    [
+        accepted(&format!("{most_block}x CONSTANT;"), &[BEGIN], &most),
+        accepted(&format!("{most_block}x NOT NULL:=1;y CONSTANT NOT NULL;"), &[BEGIN], &most),
+        accepted(&format!("x constant;{most_block}"), &[BEGIN], &most),
+        accepted(&format!("{most_block}{first} CONSTANT;{last} NOT NULL;"), &[BEGIN], &most),
+        accepted(&among, &[BEGIN], &one_less),
+        accepted(&alone, &[BEGIN], &[]),
+    ]
+}
+
 /// The longest default, whose quotes are doubled.
 fn longest_default() -> Function {
     let count = LIMIT - "DECLARE a b := $1$$1$;BEGIN ".len();
     let default = "'".repeat(2 * count + 2);
     let block = format!("a b := $1${}$1$;", "'".repeat(count));
-    accepted(&block, &[(1, b"BEGIN ")], &[declaration("a".to_string(), "b", Some(&default))])
+    accepted(&block, &[(1, b"BEGIN ")], &[Variable::unmarked("a", "b", Some(&default))])
 }
 
 /// Results of 65,536 bytes and of one more behind declarations: 6 for BEGIN and its semicolon, 65,519
@@ -124,6 +160,9 @@ fn orders() -> impl Iterator<Item = Function> {
         too_many(text(&over, &[BEGIN])),
         too_many(text(&block(&names(1_500)), &[BEGIN])),
         too_many(text(&format!("{most}x y "), &[BEGIN])),
+        // The last name counts though it was declared with no type left before.
+        too_many(text(&format!("{most}x CONSTANT;x y "), &[BEGIN])),
+        too_many(text(&format!("{over}x CONSTANT;"), &[BEGIN])),
         too_many(text(&over, &[BEGIN, target])),
         too_many(text(&over, &[BEGIN, clause])),
         too_many(select_into(1_873, &[]).after(&[(1, front.as_bytes())])),
@@ -166,8 +205,8 @@ fn not_ascii() -> impl Iterator<Item = Function> {
 mod tests {
     use super::*;
     use crate::answer::preprocessed;
-    use reference::defaults::Reasons;
-    use reference::records::first_declared;
+    use reference::reading::Reading;
+    use reference::reasons::Reasons;
     use sizes::BUFFER_SIZE;
 
     fn text_of(function: &Function) -> String {
@@ -176,13 +215,14 @@ mod tests {
         text
     }
 
-    /// The reference has no limits, so it gives the same where none is met. Note 2 takes none of
-    /// these texts out of the comparison.
+    /// The reference has no limits, so it gives the same where none is met. Of these texts only those
+    /// with a declaration that has no type left are respelled for it.
     #[test]
     fn the_reference_agrees_up_to_the_limits() {
         for expected in checked() {
             let text = text_of(&expected);
-            assert!(Reasons::of(&text).is_none(), "{text}");
+            let reasons = Reasons { no_type_left: false, ..Reasons::of(&text) };
+            assert!(reasons.is_none(), "{text}");
             let got = preprocessed(&text).unwrap().unwrap();
             if ![6, 7].contains(&expected.answer.number) {
                 assert_eq!(got.answer.number, expected.answer.number, "{text}");
@@ -197,7 +237,8 @@ mod tests {
     #[test]
     fn over_512_names_are_declared_exactly_at_7() {
         for function in checked() {
-            let is_over = first_declared(&text_of(&function)).len() > NAMES;
+            let read = Reading::wanted(&text_of(&function)).unwrap().unwrap();
+            let is_over = read.order.len() > NAMES;
             assert_eq!(is_over, function.answer.number == 7, "{}", function.text);
         }
     }

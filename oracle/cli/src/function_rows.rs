@@ -1,7 +1,7 @@
 //! Functions whose answers the scope paper gives, by its sentences about declarations as Note 2 left
-//! them.
+//! them. None of their records is marked; `constant_rows` has those of Note 5.
 
-use reference::declarations::Declaration;
+use reference::constants::Variable;
 
 use crate::runs::Runs;
 use crate::stored_call::{Answer, Function};
@@ -26,16 +26,10 @@ pub fn all() -> Vec<Function> {
 }
 
 fn function(text: &str, answer: Answer, declared: &[Declared]) -> Function {
-    let declared: Vec<Declaration> = declared.iter().map(declaration).collect();
+    let unmarked =
+        |(name, data_type, default): &Declared| Variable::unmarked(name, data_type, *default);
+    let declared: Vec<Variable> = declared.iter().map(unmarked).collect();
     Function::new(Runs::one(text.as_bytes()), answer, &declared)
-}
-
-fn declaration((name, data_type, default): &Declared) -> Declaration {
-    Declaration {
-        name: name.to_string(),
-        data_type: data_type.to_string(),
-        default: default.map(str::to_string),
-    }
 }
 
 /// Texts, the outputs, and the declarations in order of first declaration.
@@ -63,7 +57,11 @@ const ACCEPTED: &[(&str, &str, &[Declared])] = &[
     ("DECLARE a b -- ;\n; c d; BEGIN", "BEGIN", &[("a", "b -- ;", None), ("c", "d", None)]),
     ("DECLARE a.b := 1; c d; BEGIN", "BEGIN", &[("c", "d", None)]),
     // Name and type; fewer than two words give no record.
-    ("DECLARE a\t CONSTANT\n\x0bint  NULL; BEGIN", "BEGIN", &[("a", "CONSTANT int NULL", None)]),
+    (
+        "DECLARE a\t double\n\x0bprecision  NULL; BEGIN",
+        "BEGIN",
+        &[("a", "double precision NULL", None)],
+    ),
     ("DECLARE a int = 1; BEGIN", "BEGIN", &[("a", "int", Some("1"))]),
     ("DECLARE tag text DEFAULT ':='; BEGIN", "BEGIN", &[("tag", "text", Some("':='"))]),
     ("DECLARE \":=\" t = 1; BEGIN", "BEGIN", &[("\":=\"", "t", Some("1"))]),
@@ -205,7 +203,7 @@ const DEFAULTS: &[(&str, &str, &str)] = &[
 mod tests {
     use super::*;
     use crate::answer::preprocessed;
-    use reference::defaults::Reasons;
+    use reference::reasons::Reasons;
 
     /// On the text itself while it is still compared, else on the respelled one. Both occur.
     #[test]
@@ -232,10 +230,10 @@ mod tests {
         let declared = [("b", "int", None), ("c", "t u", Some("")), ("a", "text", Some("12"))];
         let records = function("", Answer::accepted(""), &declared).records;
         assert_eq!(records.text, b"bintct uatext12");
-        let head = [3, 0, 0, 0, 0, 0, 0, 0];
-        let b = [2, 0, 1, 1, 3, 0, 0, 0];
-        let c = [0, 4, 1, 5, 3, 1, 8, 0];
-        let a = [1, 8, 1, 9, 4, 1, 13, 2];
+        let head = [3, 0, 0, 0, 0, 0, 0, 0, 0, 0];
+        let b = [2, 0, 1, 1, 3, 0, 0, 0, 0, 0];
+        let c = [0, 4, 1, 5, 3, 1, 8, 0, 0, 0];
+        let a = [1, 8, 1, 9, 4, 1, 13, 2, 0, 0];
         assert_eq!(records.numbers, [head, b, c, a].concat());
     }
 }

@@ -5,6 +5,7 @@ mod answers;
 mod body_limits;
 mod body_rows;
 mod call_faults;
+mod constant_rows;
 mod function_limits;
 mod function_rows;
 mod generate;

@@ -75,6 +75,8 @@ fn whether_a_function_is_compared() {
     check("compared", "DECLARE a b = 1; BEGIN", "", "0");
     check("compared", "DECLARE a b; tag text DEFAULT ':='; BEGIN", "", "0");
     check("compared", "DECLARE a b DEFAULT 1 := 2 BEGIN", "", "0");
+    check("compared", "DECLARE a b; c CONSTANT := 1; BEGIN", "", "0");
+    check("compared", "DECLARE a CONSTANT b NOT NULL := 1; BEGIN", "", "1");
 }
 
 #[test]

@@ -3,7 +3,7 @@
 
 use std::io::{self, Write};
 
-use reference::declarations::Declaration;
+use reference::constants::Variable;
 use reference::records::Records;
 use sizes::{BUFFER_SIZE, RECORD_NUMBERS};
 
@@ -21,7 +21,7 @@ pub const FUNCTION_LEAST: [usize; 5] =
 
 /// Longer than the buffers must be.
 pub const BODY_LONGER: [usize; 3] = [70_000; 3];
-pub const FUNCTION_LONGER: [usize; 5] = [70_000, 70_000, 70_000, 70_000, 5_000];
+pub const FUNCTION_LONGER: [usize; 5] = [70_000, 70_000, 70_000, 70_000, 6_000];
 
 pub struct Body {
     pub text: Runs,
@@ -123,7 +123,7 @@ pub struct Function {
 
 impl Function {
     /// A function that declares these, in order of first declaration, or is refused.
-    pub fn new(text: Runs, answer: Answer, declared: &[Declaration]) -> Self {
+    pub fn new(text: Runs, answer: Answer, declared: &[Variable]) -> Self {
         let order: Vec<String> = declared.iter().map(|one| one.name.clone()).collect();
         let records = match answer.number {
             0 => Records::new(&order, declared),

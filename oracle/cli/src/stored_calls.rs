@@ -1,7 +1,7 @@
 //! The command `stored-calls`: the list that the program `replay_calls` runs. For each rewriting
-//! call random texts with the reference's answers, which are those to the respelled text where Note 2
-//! took a function out of the comparison, texts for the scope paper's sentences, the limits, and wrong
-//! answers.
+//! call random texts with the reference's answers, which are those to the respelled text where Note 2 or
+//! 5 took a function out of the comparison, texts for the sentences of the scope paper and of these notes,
+//! the limits, and wrong answers.
 
 use std::io::Write;
 
@@ -12,6 +12,7 @@ use crate::answer::{preprocessed, rewritten};
 use crate::body_limits;
 use crate::body_rows;
 use crate::call_faults;
+use crate::constant_rows;
 use crate::function_limits;
 use crate::function_rows;
 use crate::generate::number;
@@ -62,14 +63,15 @@ fn write_functions(count: u64, seed: u64, out: &mut impl Write) -> Result<(), St
         function.write_calls(&[any_lent(FUNCTION_LEAST, &mut lengths)], out)?;
     }
     writeln!(out, "s {FUNCTION_ROWS}")?;
-    let rows = body_rows::all().into_iter().map(Function::from).chain(function_rows::all());
+    let bodies = body_rows::all().into_iter().map(Function::from);
+    let rows = bodies.chain(function_rows::all()).chain(constant_rows::all());
     let longer = [BUFFER_SIZE + 1, 70_000, BUFFER_SIZE + 9, BUFFER_SIZE + 3, RECORD_NUMBERS + 1];
     write_all(rows, &[FUNCTION_LEAST, longer], out)?;
     writeln!(out, "s {FUNCTION_LIMITS}")?;
     Ok(function_limits::write(out)?)
 }
 
-/// A random function with the answer that Note 2 wants; one that the reference cannot tell is passed
+/// A random function with the answer that the notes want; one that the reference cannot tell is passed
 /// over.
 fn any_function(random: &mut Random) -> Result<Function, Stop> {
     loop {

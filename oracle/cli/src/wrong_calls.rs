@@ -3,8 +3,8 @@
 
 use std::io::{self, Write};
 
-use reference::declarations::Declaration;
-use sizes::BUFFER_SIZE;
+use reference::constants::Variable;
+use sizes::{BUFFER_SIZE, RECORD};
 
 use crate::body_limits::{select_into, set_lines};
 use crate::runs::Runs;
@@ -14,6 +14,9 @@ use crate::wrong::{beside, changed_bytes};
 /// How many pairs and letters behind them give the longest result.
 const PAIRS: usize = 1_872;
 const BEHIND: usize = 17;
+
+/// The marks at the end of a record.
+const MARKS: usize = 2;
 
 pub fn write(out: &mut impl Write) -> io::Result<()> {
     for (body, lent) in bodies() {
@@ -46,16 +49,14 @@ fn bodies() -> [(Body, [usize; 5]); 8] {
     ]
 }
 
-/// A function with two records, whose last number is not 0.
+/// A function with two records, each with one of the marks, so that the last number is not 0.
 pub fn declaring() -> Function {
-    let declared = [declaration("b", None), declaration("a", Some("12"))];
-    let text = Runs::one(b"DECLARE b t; a t := 12; BEGIN x");
+    let declared = [
+        Variable { is_constant: true, ..Variable::unmarked("b", "t", None) },
+        Variable { is_not_null: true, ..Variable::unmarked("a", "t", Some("12")) },
+    ];
+    let text = Runs::one(b"DECLARE b CONSTANT t; a t NOT NULL := 12; BEGIN x");
     Function::new(text, Answer::accepted("BEGIN x"), &declared)
-}
-
-fn declaration(name: &str, default: Option<&str>) -> Declaration {
-    let default = default.map(str::to_string);
-    Declaration { name: name.to_string(), data_type: "t".to_string(), default }
 }
 
 /// Refusal 7.
@@ -106,18 +107,22 @@ impl Said {
         texts.map(|declared| Self { declared, ..self.clone() }).collect()
     }
 
-    /// Each record number wrong, one more, the last one missing, and the last record missing.
+    /// Each record number wrong, each mark that is set as one that is not, one number more, the last one
+    /// missing, and the last record missing.
     fn wrong_records(&self) -> Vec<Self> {
         let numbers = &self.records;
-        let mut lists = vec![[&numbers[..], &[1]].concat()];
-        for index in 0..numbers.len() {
+        let with = |index: usize, number: u32| {
             let mut list = numbers.clone();
-            list[index] += 1;
-            lists.push(list);
-        }
+            list[index] = number;
+            list
+        };
+        let mut lists = vec![[&numbers[..], &[1]].concat()];
+        lists.extend((0..numbers.len()).map(|index| with(index, numbers[index] + 1)));
+        let is_mark = |index: &usize| index % RECORD >= RECORD - MARKS && numbers[*index] == 1;
+        lists.extend((0..numbers.len()).filter(is_mark).map(|index| with(index, 0)));
         // Without records there are zeros alone, and fewer of them say the same.
         if numbers.iter().any(|number| *number > 0) {
-            lists.extend([1, 8].map(|missing| numbers[..numbers.len() - missing].to_vec()));
+            lists.extend([1, RECORD].map(|missing| numbers[..numbers.len() - missing].to_vec()));
         }
         lists.into_iter().map(|records| Self { records, ..self.clone() }).collect()
     }
@@ -183,9 +188,9 @@ fn write_wrong(
 mod tests {
     use super::*;
     use crate::answer::preprocessed;
-    use reference::defaults::Reasons;
+    use reference::reasons::Reasons;
 
-    /// The answers are right before they are changed, and Note 2 takes no text out of the comparison.
+    /// The answers are right before they are changed, and no text has left the comparison.
     #[test]
     fn the_reference_agrees() {
         let bodies = bodies().into_iter().map(|(body, _)| Function::from(body));

@@ -1,15 +1,37 @@
-//! Every text up to a length over a few bytes.
+//! Every text up to a length over a few pieces.
 
-/// The bytes that texts are made of.
-pub struct Every(&'static [u8; 12]);
+/// How many pieces the texts of a list are made of.
+const PIECES: usize = 12;
 
-/// What opens, closes or hides quoted text.
-pub const QUOTING: Every = Every(b"'\"$-/*\\;a1 \n");
+/// The pieces that texts are made of, and what stands between two of them.
+pub struct Every {
+    pieces: [&'static str; PIECES],
+    between: &'static str,
+}
 
-/// What begins a default, looks like it, or hides it.
-pub const DEFAULTS: Every = Every(b":=>'$ a;-\n/*");
+/// Bytes that open, close or hide quoted text.
+pub const QUOTING: Every =
+    Every { pieces: ["'", "\"", "$", "-", "/", "*", "\\", ";", "a", "1", " ", "\n"], between: "" };
 
-/// How many texts there are of up to `longest` bytes, with either alphabet.
+/// Bytes that begin a default, look like it, or hide it.
+pub const DEFAULTS: Every =
+    Every { pieces: [":", "=", ">", "'", "$", " ", "a", ";", "-", "\n", "/", "*"], between: "" };
+
+/// The words of Note 5 in two letter cases, and what else a declaration is made of.
+const WORDS: [&str; 8] = ["a", "int", "CONSTANT", "constant", "NOT", "nOt", "NULL", "null"];
+
+/// Words with a space between them.
+pub const SPACED_WORDS: Every = Every { pieces: with_words([":=", ";", "--", "'"]), between: " " };
+
+/// Words that may touch.
+pub const TOUCHING_WORDS: Every = Every { pieces: with_words([":=", ";", " ", "\n"]), between: "" };
+
+const fn with_words([a, b, c, d]: [&'static str; 4]) -> [&'static str; PIECES] {
+    let [e, f, g, h, i, j, k, l] = WORDS;
+    [e, f, g, h, i, j, k, l, a, b, c, d]
+}
+
+/// How many texts there are of up to `longest` pieces, in any list.
 pub fn count(longest: u32) -> u64 {
     (0..=longest).map(of_length).sum()
 }
@@ -22,16 +44,15 @@ impl Every {
             number -= of_length(length);
             length += 1;
         }
-        let mut text = String::new();
+        let mut pieces = Vec::new();
         for _ in 0..length {
-            let digit = number % self.0.len() as u64;
-            text.push(char::from(self.0[digit as usize]));
-            number /= self.0.len() as u64;
+            pieces.push(self.pieces[number as usize % PIECES]);
+            number /= PIECES as u64;
         }
-        text
+        pieces.join(self.between)
     }
 }
 
 fn of_length(length: u32) -> u64 {
-    (QUOTING.0.len() as u64).pow(length)
+    (PIECES as u64).pow(length)
 }

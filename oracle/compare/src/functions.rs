@@ -1,14 +1,16 @@
 //! The function call: the four numbers, and every byte and number of its five buffers.
 //!
-//! A text that Note 2 takes out of the comparison is compared with what the reference reads in the
-//! respelled text.
+//! The records must be exactly those that Note 5 makes of the reference's declarations, and besides, by
+//! that note's own words, the words put back into the types must give the reference's. A text that has
+//! left the comparison is compared with what the reference reads in the respelled text.
 
 use library::Answer;
+use reference::constants::{self, Variable};
 use reference::declarations::Declaration;
-use reference::defaults::Reasons;
 use reference::reading::Reading;
+use reference::reasons::Reasons;
 use reference::records::{chain_leads_through, first_declared, Records};
-use sizes::{BUFFER_SIZE, RECORD_NUMBERS};
+use sizes::{BUFFER_SIZE, NAMES, RECORD_NUMBERS};
 use texts::random::Random;
 
 use crate::bodies::numbered;
@@ -16,51 +18,84 @@ use crate::lent::Lent;
 use crate::report::Row;
 use crate::subject::{Outcome, Subject};
 
-/// The most names that are declared.
-const NAMES: usize = 512;
-
 const READABLE: &str = "a readable context";
 
-/// The texts that are still compared, and how many of them declare a name; those taken out, with how
-/// many have each reason; those of them that are compared after respelling, and those that do not give
-/// what the reference gives as written.
-pub const ROWS: [&str; 8] = [
-    "preprocess", "  with a declared name", "taken out", "  a quoted :=", "  a lone = first",
-    "  a DEFAULT ahead of a :=", "taken out, respelled", "taken out, unlike the Rust",
+const TYPED: &str = "each declaration has a type left";
+
+const ROW_MISSING: &str = "a row for each name";
+
+/// The texts that are still compared, with how many of them declare a name, how many have a word of Note 5
+/// in a declaration, and how many of their records have each mark; those taken out, with how many have each
+/// reason; those of them that are compared after respelling, and those that do not give what the reference
+/// gives as written.
+pub const ROWS: [&str; 12] = [
+    "preprocess", "  with a declared name", "  with CONSTANT, NOT or NULL",
+    "  records marked CONSTANT", "  records marked NOT NULL", "taken out", "  a quoted :=",
+    "  a lone = first", "  a DEFAULT ahead of a :=", "  no type left", "taken out, respelled",
+    "taken out, unlike the Rust",
 ];
 
+/// How many rows behind the first one count what is in the texts that are still compared.
+const COMPARED_COUNTS: usize = 4;
+
 pub fn preprocess(subject: &mut Subject, rows: &mut [Row]) {
-    let [compared, declaring, taken_out, quoted, equals, keyword, after_respelling, unlike] = rows
-    else {
-        panic!("a row for each name");
-    };
+    let [compared, counts @ .., respelled, unlike] = rows else { panic!("{ROW_MISSING}") };
+    let (compared_counts, reason_counts) = counts.split_at_mut(COMPARED_COUNTS);
     let least = [BUFFER_SIZE, BUFFER_SIZE, BUFFER_SIZE, BUFFER_SIZE, RECORD_NUMBERS];
     let lengths = least.map(|length| length + subject.random.below(4));
     let mut made = Made::new(subject.bytes(), &lengths);
     let published = Reading::published(subject.text).expect(READABLE);
     let declares = !published.order.is_empty();
-    let as_written = made.outcome(&Expected::new(published));
+    // Nothing is expected of a text as written that has a declaration with no type left.
+    let as_written = Expected::new(published);
+    let outcome = as_written.as_ref().map(|expected| made.outcome(expected));
 
     let reasons = Reasons::of(subject.text);
-    declaring.count(reasons.is_none() && declares);
+    let is_compared = reasons.is_none();
+    count_reasons(&reasons, reason_counts);
+    count_compared(subject, declares, as_written.filter(|_| is_compared), compared_counts);
+    unlike.count(!is_compared && !outcome.as_ref().is_some_and(Outcome::agrees));
+    if is_compared {
+        subject.judge(compared, format_args!(""), outcome.expect(TYPED));
+    } else if let Some(reading) = Reading::respelled(subject.text).expect(READABLE) {
+        let outcome = made.outcome(&Expected::new(reading).expect(TYPED));
+        subject.judge(respelled, format_args!("respelled"), outcome);
+    }
+}
+
+/// Counts what is in a text of which this is expected; in one that has left the comparison, nothing.
+fn count_compared(subject: &Subject, declares: bool, expected: Option<Expected>, rows: &mut [Row]) {
+    let [declaring, with_words, constant, not_null] = rows else { panic!("{ROW_MISSING}") };
+    declaring.count(expected.is_some() && declares);
+    with_words.count(expected.is_some() && constants::occur_in(subject.text));
+    let [constants, not_nulls] = expected.map_or([0; 2], |expected| expected.records.marked());
+    constant.count_all(constants);
+    not_null.count_all(not_nulls);
+}
+
+fn count_reasons(reasons: &Reasons, rows: &mut [Row]) {
+    let [taken_out, quoted, equals, keyword, no_type] = rows else { panic!("{ROW_MISSING}") };
     taken_out.count(!reasons.is_none());
     quoted.count(reasons.quoted_assign);
     equals.count(reasons.equals_first);
     keyword.count(reasons.keyword_first);
-    unlike.count(!reasons.is_none() && !as_written.agrees());
-    if reasons.is_none() {
-        subject.judge(compared, format_args!(""), as_written);
-    } else if let Some(reading) = Reading::respelled(subject.text).expect(READABLE) {
-        let outcome = made.outcome(&Expected::new(reading));
-        subject.judge(after_respelling, format_args!("respelled"), outcome);
-    }
+    no_type.count(reasons.no_type_left);
 }
 
 /// A function that is still compared and declares a name; its body is BEGIN alone.
 pub fn declaring(random: &mut Random) -> String {
+    random_compared(random, |text| !first_declared(text).is_empty())
+}
+
+/// The same with CONSTANT, NOT or NULL in a declaration, ahead of its default.
+pub fn with_words(random: &mut Random) -> String {
+    random_compared(random, constants::occur_in)
+}
+
+fn random_compared(random: &mut Random, is_sought: fn(&str) -> bool) -> String {
     loop {
         let text = format!("DECLARE {}BEGIN", texts::declarations(random));
-        if Reasons::of(&text).is_none() && !first_declared(&text).is_empty() {
+        if Reasons::of(&text).is_none() && is_sought(&text) {
             return text;
         }
     }
@@ -69,10 +104,12 @@ pub fn declaring(random: &mut Random) -> String {
 /// The outcomes of a text that gives this number, with new buffers of each of these lengths. The
 /// reference is not asked where a pass gives 6.
 pub fn limited(text: &str, lengths: &[Vec<usize>], number: u32) -> Vec<Outcome> {
-    assert!(Reasons::of(text).is_none(), "a text at the limits is still compared");
     let expected = match number {
         6 => Expected::refused([6, 0, 0, 0], Vec::new()),
-        _ => Expected::new(Reading::published(text).expect(READABLE)),
+        _ => {
+            let reading = Reading::wanted(text).expect(READABLE);
+            Expected::new(reading.expect("a text that can be respelled")).expect(TYPED)
+        }
     };
     let outcome = |lengths: &Vec<usize>| Made::new(text.as_bytes(), lengths).outcome(&expected);
     lengths.iter().map(outcome).collect()
@@ -83,21 +120,23 @@ struct Expected {
     answer: Answer,
     output: Vec<u8>,
     records: Records,
-    /// The declarations in byte order of names.
+    /// The reference's declarations in byte order of names.
     list: Vec<Declaration>,
 }
 
 impl Expected {
-    fn new(Reading { output, list, order }: Reading) -> Self {
+    /// `None` if a declaration has no type left.
+    fn new(Reading { output, list, order }: Reading) -> Option<Self> {
         if order.len() > NAMES {
-            return Self::refused([7, 0, 0, 0], Vec::new());
+            return Some(Self::refused([7, 0, 0, 0], Vec::new()));
         }
         let (mut answer, output) = numbered(output);
         if answer[0] != 0 {
-            return Self::refused(answer, output);
+            return Some(Self::refused(answer, output));
         }
         answer[3] = list.len() as u32;
-        Self { answer, output, records: Records::new(&order, &list), list }
+        let records = Records::new(&order, &Variable::all(&list)?);
+        Some(Self { answer, output, records, list })
     }
 
     /// A refusal leaves no records and no declaration text.

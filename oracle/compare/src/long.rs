@@ -1,7 +1,7 @@
 //! Texts of the greatest length that a search or a call takes, and of one byte less.
 
 use reference::block::Block;
-use reference::defaults::Reasons;
+use reference::reasons::Reasons;
 use texts::random::Random;
 
 use crate::bodies;
@@ -79,13 +79,14 @@ pub const FUNCTION_TEXTS: Long = Long {
         "a", ";", "a b;", "a b:=1;", "a b DEFAULT 1;", "a b;b c;", "DECLARE ", "-- c\n", "a ",
         "a b := $1$'$1$;", "a b := $t$;$t$;", ":=", "DEFAULT ", "a b := ''''''''''';", "a b=1;",
         "a b DEFAULT 1:=2;", "a b DEFAULT ':=';", "a b==1;", "a b=>1;", "=", "= ", "':='",
-        "':' = ",
+        "':' = ", "a CONSTANT b NOT NULL;", "a CONSTANT;", "a b;a NOT NULL;", "CONSTANT ",
+        "NOT NULL ", "null not\n", "a CONSTANT b NOT NULL:=1;c d;",
     ],
     mixed: 12,
     piece: texts::any,
 };
 
-/// Many declarations that Note 2 leaves in the comparison.
+/// Many declarations that are still compared.
 pub const DECLARING_TEXTS: Long = Long {
     limit: TEXT_LIMIT,
     front: "DECLARE ",

@@ -86,16 +86,32 @@ const TYPE_FRAMES: &[Frame] = &[
     ["DECLARE a b'", "' := 1\nBEGIN"],
 ];
 
+/// The words stand behind a name: alone, with another declaration of it ahead, ahead of NOT NULL, or with
+/// a further declaration behind.
+const WORD_FRAMES: &[Frame] = &[
+    ["DECLARE a ", "\nBEGIN"],
+    ["DECLARE a CONSTANT t NOT NULL; a ", "\nBEGIN"],
+    ["DECLARE a ", "\nNOT NULL\nBEGIN"],
+    ["DECLARE a ", "; b CONSTANT t\nBEGIN"],
+];
+
+/// The words stand behind a name, or behind a type.
+const TOUCHING_FRAMES: &[Frame] =
+    &[["DECLARE a ", "\nBEGIN"], ["DECLARE a int ", " DEFAULT 1\nBEGIN"]];
+
 fn run_functions(run: &mut Run) {
     run.long(FUNCTIONS, &long::FUNCTION_TEXTS);
     run.long(FUNCTIONS, &long::DECLARING_TEXTS);
     run.framed("quotes", &every::QUOTING, FRAMES);
     run.framed("what begins a default", &every::DEFAULTS, TYPE_FRAMES);
+    run.framed("words around a type", &every::SPACED_WORDS, WORD_FRAMES);
+    run.framed("words that may touch", &every::TOUCHING_WORDS, TOUCHING_FRAMES);
     run.random(FUNCTIONS, "texts", |random| match random.percent(90) {
         true => texts::function(random),
         false => texts::any(random),
     });
     run.random(FUNCTIONS, "functions with a declared name", functions::declaring);
+    run.random(FUNCTIONS, "functions with CONSTANT, NOT or NULL", functions::with_words);
 }
 
 fn run_joined(run: &mut Run) {
@@ -171,10 +187,10 @@ impl Run<'_> {
         self.texts(list, title, count, 4096, |number, _| every::QUOTING.text(number));
     }
 
-    /// Functions with every text of up to one byte less in each of the frames.
-    fn framed(&mut self, bytes: &str, every: &Every, frames: &[Frame]) {
+    /// Functions with every text of up to one piece less in each of the frames.
+    fn framed(&mut self, pieces: &str, every: &Every, frames: &[Frame]) {
         let count = frames.len() as u64 * every::count(self.options.longest - 1);
-        let title = format!("{} functions with all short texts of {bytes}", grouped(count));
+        let title = format!("{} functions with all short texts of {pieces}", grouped(count));
         self.texts(FUNCTIONS, title, count, 4096, |number, _| {
             let [front, back] = frames[number as usize % frames.len()];
             format!("{front}{}{back}", every.text(number / frames.len() as u64))

@@ -34,8 +34,13 @@ impl Row {
 
     /// Counts a text or an answer of another row, if something holds for it.
     pub fn count(&mut self, holds: bool) {
+        self.count_all(usize::from(holds));
+    }
+
+    /// Counts so many of what other rows compare.
+    pub fn count_all(&mut self, number: usize) {
         self.counts = true;
-        self.compared += u64::from(holds);
+        self.compared += number as u64;
     }
 
     fn add(&mut self, other: Row) {

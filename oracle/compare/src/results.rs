@@ -17,8 +17,8 @@ use crate::subject::Outcome;
 /// One of the two calls.
 struct Rewriting {
     call: &'static Call,
-    /// For each buffer a length that is too short, the least one, and a longer one.
-    lengths: &'static [[usize; 3]],
+    /// For each buffer a length that is too short, the least one, and longer ones.
+    lengths: &'static [&'static [usize]],
     cases: fn() -> Vec<Case>,
     /// The outcomes of a text that gives this number, with buffers of each of these lengths.
     outcomes: fn(&str, &[Vec<usize>], u32) -> Vec<Outcome>,
@@ -31,9 +31,9 @@ struct Case {
     text: String,
 }
 
-const BYTES: [usize; 3] = [BUFFER_SIZE - 1, BUFFER_SIZE, 70_000];
+const BYTES: &[usize] = &[BUFFER_SIZE - 1, BUFFER_SIZE, 70_000];
 
-const NUMBERS: [usize; 3] = [RECORD_NUMBERS - 1, RECORD_NUMBERS, 5_000];
+const NUMBERS: &[usize] = &[RECORD_NUMBERS - 1, RECORD_NUMBERS, RECORD_NUMBERS + 1, 6_000];
 
 const REWRITINGS: [Rewriting; 2] = [
     Rewriting {
@@ -87,7 +87,7 @@ impl Rewriting {
     /// The same text too long, or with bytes over 127 at its front, at its end or alone.
     fn refused_ahead(&self, case: &Case, row: &mut Row) {
         let bytes = case.text.as_bytes();
-        let enough: Vec<usize> = self.lengths.iter().map(|[_, least, _]| *least).collect();
+        let enough: Vec<usize> = self.lengths.iter().map(|lengths| lengths[1]).collect();
         let too_long = [bytes, &vec![b';'; TEXT_LIMIT + 1 - bytes.len()]].concat();
         self.untouched(&too_long, &enough, [1, 0, 0, 0], case, row);
         let (mut first, mut last) = (bytes.to_vec(), bytes.to_vec());
@@ -120,12 +120,12 @@ impl Rewriting {
     }
 
     fn is_short(&self, lengths: &[usize]) -> bool {
-        lengths.iter().zip(self.lengths).any(|(length, [_, least, _])| length < least)
+        lengths.iter().zip(self.lengths).any(|(length, lengths)| *length < lengths[1])
     }
 }
 
 /// Every choice of one length for each buffer.
-fn choices(lengths: &[[usize; 3]]) -> Vec<Vec<usize>> {
+fn choices(lengths: &[&[usize]]) -> Vec<Vec<usize>> {
     let Some((first, rest)) = lengths.split_first() else {
         return vec![vec![]];
     };
@@ -173,32 +173,63 @@ fn body_cases() -> Vec<Case> {
 
 /// The same texts, which hold no DECLARE and no BEGIN, and functions with declarations.
 fn function_cases() -> Vec<Case> {
-    let case = |number, title, text| Case { number, title, text };
-    let using = "RAISE EXCEPTION USING x;";
-    let (most, over) = (declared(512), declared(513));
-    let quotes = "'".repeat(16_000);
     let mut cases = body_cases();
-    cases.extend([
+    cases.extend(name_cases());
+    cases.extend(no_type_cases());
+    cases.extend(order_cases());
+    cases
+}
+
+/// Up to 512 names and over, and long texts of names.
+fn name_cases() -> [Case; 8] {
+    let case = |number, title, text| Case { number, title, text };
+    let most = declared(512);
+    let quotes = "'".repeat(16_000);
+    [
         case(0, "511 names", declared(511)),
         case(0, "512 names", most.clone()),
+        case(0, "512 names with both marks", most.replace(" t;", " CONSTANT t NOT NULL;")),
         case(0, "512 names, all declared again", most.replace("BEGIN", &names(512)) + "BEGIN"),
         case(
             0,
             "names up to the longest text",
             format!("{most}{}", " ".repeat(TEXT_LIMIT - most.len())),
         ),
-        case(7, "513 names", over.clone()),
+        case(7, "513 names", declared(513)),
         case(7, "1,500 names", declared(1_500)),
+        case(0, "a default of 32,002 bytes", format!("DECLARE a b := $1${quotes}$1$;\nBEGIN")),
+    ]
+}
+
+/// A declaration that has no type left does not count as a name.
+fn no_type_cases() -> [Case; 5] {
+    let case = |number, title, text| Case { number, title, text };
+    let (most, over) = (declared(512), declared(513));
+    let behind = |text: &str, parts: &str| text.replace("BEGIN", &format!("{parts}BEGIN"));
+    let three = "x NOT NULL;v0 CONSTANT NOT NULL;y constant := 1;";
+    [
+        case(0, "512 names and one with no type left", behind(&most, "x CONSTANT;")),
+        case(0, "512 names and three with no type left", behind(&most, three)),
+        case(0, "513 names, one with no type left", over.replace("v300 t;", "v300 CONSTANT;")),
+        case(7, "513 names, the last first with no type left", behind(&most, "x CONSTANT;x t;")),
+        case(7, "513 names and one with no type left", behind(&over, "x NOT NULL;")),
+    ]
+}
+
+/// Which refusal comes first, and results at the limit behind declarations.
+fn order_cases() -> [Case; 7] {
+    let case = |number, title, text| Case { number, title, text };
+    let using = "RAISE EXCEPTION USING x;";
+    let (most, over) = (declared(512), declared(513));
+    [
         case(7, "7 before 4", format!("{over} NEW.v := 1;")),
         case(7, "7 before 5", format!("{over} {using}")),
-        case(7, "7 before 6", over.clone() + ";SELECT " + &pairs(1_000, 5_000)),
+        case(7, "7 before 6", over + ";SELECT " + &pairs(1_000, 5_000)),
         case(4, "4 behind 512 names", format!("{most} NEW.v := 1;")),
         case(5, "5 behind 512 names", format!("{most} {using}")),
         case(6, "6 behind 300 names", declared(300) + ";" + &blown(BUFFER_SIZE - 5, "")),
         case(0, "names and a result of 65,536", declared(300) + ";" + &blown(BUFFER_SIZE - 6, "")),
-        case(0, "a default of 32,002 bytes", format!("DECLARE a b := $1${quotes}$1$;\nBEGIN")),
-    ]);
-    cases
+    ]
 }
 
 /// A function that declares so many names, not in the order of their bytes.

@@ -1,44 +1,13 @@
-//! Where a default begins by Note 2, and which functions leave the comparison for it.
+//! Where a default begins by Note 2, and where the published source may begin it elsewhere.
 //!
 //! The published source begins a default behind the first `:=` of a part, quoted or not, and only
 //! without one behind the first live DEFAULT. By Note 2 the leftmost live default key
 //! decides: `:=`, DEFAULT or a lone `=`.
 
-use crate::block;
 use crate::scanner::{Region, Scanner};
 
 const ASSIGN: &str = ":=";
 const KEYWORD: &str = "DEFAULT";
-
-/// Why a function leaves the comparison: each holds if it holds for a part of its block. Without
-/// any of them the published source reads each part as Note 2 does.
-#[derive(Clone, Copy, Debug, Default, PartialEq, Eq)]
-pub struct Reasons {
-    /// A `:=` whose colon is quoted, wherever it stands in the part.
-    pub quoted_assign: bool,
-    /// A live lone `=` ahead of every live `:=` and every live DEFAULT, if there are any.
-    pub equals_first: bool,
-    /// A live DEFAULT ahead of a live `:=`, even if the default begins ahead of both.
-    pub keyword_first: bool,
-}
-
-impl Reasons {
-    /// The reasons of a function's text.
-    pub fn of(text: &str) -> Self {
-        let parts = block::parts(text).into_iter();
-        let all: Vec<Self> = parts.map(|part| DefaultKeys::of(part).reasons()).collect();
-        Self {
-            quoted_assign: all.iter().any(|one| one.quoted_assign),
-            equals_first: all.iter().any(|one| one.equals_first),
-            keyword_first: all.iter().any(|one| one.keyword_first),
-        }
-    }
-
-    /// Whether there is none, so that the function is still compared.
-    pub fn is_none(&self) -> bool {
-        *self == Self::default()
-    }
-}
 
 /// The places in a part that matter for its default.
 pub(crate) struct DefaultKeys {
@@ -70,14 +39,26 @@ impl DefaultKeys {
         [assign, equals, keyword].into_iter().flatten().min()
     }
 
-    fn reasons(&self) -> Reasons {
+    /// What stands ahead of the default, or all of the part without one.
+    pub(crate) fn ahead<'a>(&self, part: &'a str) -> &'a str {
+        let end = self.leftmost().map_or(part.len(), |(place, _)| place);
+        &part[..end]
+    }
+
+    pub(crate) fn has_quoted_assign(&self) -> bool {
+        !self.quoted_assigns.is_empty()
+    }
+
+    /// A live lone `=` ahead of every live `:=` and every live DEFAULT, if there are any.
+    pub(crate) fn is_equals_first(&self) -> bool {
         let mut others = self.live_assigns.iter().chain(&self.keyword);
+        self.equals.is_some_and(|place| others.all(|other| place < *other))
+    }
+
+    /// A live DEFAULT ahead of a live `:=`.
+    pub(crate) fn is_keyword_first(&self) -> bool {
         let last_assign = self.live_assigns.last();
-        Reasons {
-            quoted_assign: !self.quoted_assigns.is_empty(),
-            equals_first: self.equals.is_some_and(|place| others.all(|other| place < *other)),
-            keyword_first: self.keyword.is_some_and(|place| last_assign > Some(&place)),
-        }
+        self.keyword.is_some_and(|place| last_assign > Some(&place))
     }
 }
 
@@ -91,12 +72,6 @@ fn is_lone_equals(bytes: &[u8], place: usize) -> bool {
 #[cfg(test)]
 mod tests {
     use super::*;
-
-    const NONE: Reasons =
-        Reasons { quoted_assign: false, equals_first: false, keyword_first: false };
-    const QUOTED: Reasons = Reasons { quoted_assign: true, ..NONE };
-    const EQUALS: Reasons = Reasons { equals_first: true, ..NONE };
-    const KEYWORD_FIRST: Reasons = Reasons { keyword_first: true, ..NONE };
 
     /// Parts, and what their defaults stand behind.
     fn beginnings(parts: &[(&str, Option<(usize, usize)>)]) {
@@ -146,71 +121,11 @@ mod tests {
         ]);
     }
 
-    fn check(expected: Reasons, parts: &[&str]) {
-        for part in parts {
-            let text = format!("DECLARE x y; {part}; z t := 1;\nBEGIN v := 1;");
-            assert_eq!(Reasons::of(&text), expected, "{part:?}");
-        }
-    }
-
     #[test]
-    fn each_reason_takes_a_function_out() {
-        check(
-            QUOTED,
-            &[
-                "tag text DEFAULT ':='", "a b := ':='", "a b /* := */", "a b -- :=\n := 1",
-                "a \":=\" := 1", "a b := $$:=$$", "\":=\"",
-            ],
-        );
-        check(
-            EQUALS,
-            &[
-                "a b = 1", "a b=1", "a b>=1", "a b!=1", "a b=:=1", "a b = 1 := 2", "a = 1", "=",
-                "a b = 1 DEFAULT 2", "a b==1=2", "a b = '='", "a b : = 1",
-            ],
-        );
-        check(
-            KEYWORD_FIRST,
-            &[
-                "a b DEFAULT 1 := 2", "a b default:=2", "a DEFAULT := 1", "DEFAULT :=",
-                "a b := 1 DEFAULT 2 := 3", "a b DEFAULT 1 = 2 := 3",
-            ],
-        );
-    }
-
-    #[test]
-    fn near_misses_stay() {
-        check(
-            NONE,
-            &[
-                "a b := 1", "a b:==1", "a b==1", "a b=>1", "a b := 1 = 2", "a b := 1 DEFAULT 2",
-                "a b DEFAULT 1", "a b DEFAULT 1 = 2", "a b DEFAULTS 1 := 2", "a b '='", "a b ''",
-                "a b 'DEFAULT' := 1", "a b $DEFAULT := 1", "a b DEFAULT ': ='", "a b : := 1", ":",
-                "a b /* DEFAULT */ := 1", "a b -- =\n := 1", "a b := 1 := 2",
-            ],
-        );
-    }
-
-    #[test]
-    fn a_function_has_the_reasons_of_all_its_parts() {
-        let all = Reasons { quoted_assign: true, equals_first: true, keyword_first: true };
-        assert_eq!(Reasons::of("DECLARE a b=':='; c d DEFAULT 1:=2; BEGIN"), all);
-        assert_eq!(
-            Reasons::of("DECLARE a b DEFAULT ':=' := 1 BEGIN"),
-            Reasons { equals_first: false, ..all }
-        );
-    }
-
-    /// Only the block matters, and its parts one by one.
-    #[test]
-    fn text_outside_the_block_does_not_count() {
-        let texts = [
-            "", "a = 1", "DECLARE a = 1;", "BEGIN DECLARE a b = 1; BEGIN",
-            "a = ':=' DECLARE BEGIN", "DECLARE a b; BEGIN v = ':=';",
-            "DECLARE a b DEFAULT 1; c d := 2; BEGIN", "'DECLARE' a b = 1; BEGIN",
-        ];
-        for text in texts {
-            assert!(Reasons::of(text).is_none(), "{text:?}");
+    fn what_stands_ahead_ends_at_the_key() {
+        let parts = [("a b := 1", "a b "), (" a b DEFAULT := 1", " a b "), ("a b==1", "a b==1")];
+        for (part, ahead) in parts {
+            assert_eq!(DefaultKeys::of(part).ahead(part), ahead);
         }
     }
 }

@@ -6,9 +6,11 @@
 extern crate alloc;
 
 pub mod block;
+pub mod constants;
 pub mod declarations;
 pub mod defaults;
 pub mod reading;
+pub mod reasons;
 pub mod records;
 pub mod respelling;
 

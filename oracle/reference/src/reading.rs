@@ -1,8 +1,8 @@
-//! What is read in a function: by the published source, and as Note 2 wants it.
+//! What is read in a function: by the published source, and as Notes 2 and 5 want it.
 
 use crate::declarations::{self, Declaration};
-use crate::defaults::Reasons;
 use crate::preprocessor::PlPgSqlPreprocessor;
+use crate::reasons::Reasons;
 use crate::records::first_declared;
 use crate::respelling::{put_back, respelled};
 use crate::Error;
@@ -40,7 +40,8 @@ impl Reading {
         Ok(Some(Self { output, list, order }))
     }
 
-    /// As Note 2 wants it: of the text itself while it is still compared, else of the respelled one.
+    /// As the notes want it: of the text itself while it is still compared, else of the respelled one.
+    /// Each declaration has a type left.
     pub fn wanted(text: &str) -> Result<Option<Self>, String> {
         match Reasons::of(text).is_none() {
             true => Self::published(text).map(Some),

@@ -1,10 +1,15 @@
-//! The records and the packed text that the scope paper wants for declarations.
+//! The records and the packed text that the scope paper and Note 5 want for declarations.
 
 use sizes::RECORD;
 
 use crate::block;
+use crate::constants::{is_put_back, Variable};
 use crate::declarations::{self, Declaration};
 use crate::preprocessor::PlPgSqlPreprocessor;
+
+/// The places of the marks in a record.
+const CONSTANT: usize = 8;
+const NOT_NULL: usize = 9;
 
 /// What the declaration text and the record numbers hold in front of their zeros.
 #[derive(Debug, Default, PartialEq)]
@@ -14,12 +19,12 @@ pub struct Records {
 }
 
 impl Records {
-    /// The head, then a record for each name in this order. The declarations are in order of names.
-    pub fn new(order: &[String], list: &[Declaration]) -> Self {
+    /// The head, then a record for each name in this order.
+    pub fn new(order: &[String], variables: &[Variable]) -> Self {
         let mut records = Self { text: Vec::new(), numbers: vec![0; RECORD] };
         for name in order {
-            let declaration = list.iter().find(|one| one.name == *name);
-            records.add(declaration.expect("each name in the order is declared"));
+            let variable = variables.iter().find(|one| one.name == *name);
+            records.add(variable.expect("each name in the order is declared"));
         }
         records.chain(order);
         records
@@ -30,12 +35,20 @@ impl Records {
         (self.numbers.len() / RECORD).saturating_sub(1)
     }
 
-    fn add(&mut self, declaration: &Declaration) {
-        let name = self.pack(&declaration.name);
-        let data_type = self.pack(&declaration.data_type);
-        let default = declaration.default.as_ref().map_or([0; 2], |text| self.pack(text));
-        let is_present = u32::from(declaration.default.is_some());
-        self.numbers.extend([&[0], &name[..], &data_type, &[is_present], &default].concat());
+    /// How many records have the mark for CONSTANT, and for NOT NULL.
+    pub fn marked(&self) -> [usize; 2] {
+        let records = self.numbers.chunks(RECORD);
+        [CONSTANT, NOT_NULL].map(|mark| records.clone().filter(|record| record[mark] == 1).count())
+    }
+
+    fn add(&mut self, variable: &Variable) {
+        let name = self.pack(&variable.name);
+        let data_type = self.pack(&variable.data_type);
+        let default = variable.default.as_ref().map_or([0; 2], |text| self.pack(text));
+        let is_present = u32::from(variable.default.is_some());
+        let marks = [variable.is_constant, variable.is_not_null].map(u32::from);
+        let numbers = [&[0], &name[..], &data_type, &[is_present], &default, &marks];
+        self.numbers.extend(numbers.concat());
     }
 
     /// Packs one text; the answer is its start and length.
@@ -73,7 +86,8 @@ pub fn first_declared(text: &str) -> Vec<String> {
     order
 }
 
-/// Whether the chain from the head leads through exactly these declarations, in this order.
+/// Whether the chain from the head leads through exactly the published source's declarations, in this
+/// order, with CONSTANT and NOT NULL put back into the types of the marked records.
 pub fn chain_leads_through(text: &[u8], numbers: &[u32], list: &[Declaration]) -> bool {
     let mut place = numbers[0] as usize;
     for expected in list {
@@ -94,7 +108,14 @@ fn is_record_of(record: &[u32], text: &[u8], expected: &Declaration) -> bool {
         text.get(start..start + length)
     };
     let default = if record[5] == 1 { part(6) } else { None };
+    let is_type = |data_type: &[u8]| match [record[CONSTANT], record[NOT_NULL]] {
+        marks @ [0 | 1, 0 | 1] => {
+            let [is_constant, is_not_null] = marks.map(|mark| mark == 1);
+            is_put_back(&expected.data_type, data_type, is_constant, is_not_null)
+        }
+        _ => false,
+    };
     part(1) == Some(expected.name.as_bytes())
-        && part(3) == Some(expected.data_type.as_bytes())
+        && part(3).is_some_and(is_type)
         && default == expected.default.as_ref().map(String::as_bytes)
 }

@@ -1,4 +1,5 @@
-//! The texts that left the comparison, respelled so that the published source reads them as Note 2 does.
+//! The texts that left the comparison, respelled so that the published source reads them as Notes 2 and 5
+//! do.
 //!
 //! What a default stands behind becomes `:=`. All other bytes stay as live or quoted as they were:
 //! a live `=` or DEFAULT opens no span, and none can be part of a dollar literal's tag, since DEFAULT
@@ -8,14 +9,19 @@
 //! The published source would begin a default at a quoted `:=` ahead of it, so there the colon becomes
 //! another byte, which is put back in the names and types that are read. Inside a span neither of the
 //! two bytes means anything.
+//!
+//! A part that has no type left becomes spaces, which declare nothing. It begins and ends outside of any
+//! span, so the other parts keep their regions.
 
 use crate::block::Block;
+use crate::constants::has_no_type_left;
 use crate::defaults::DefaultKeys;
 
 /// Stands for a quoted colon. It is no white space, and the scanner knows it no more than a colon.
 const STAND_IN: &str = "\x01";
 
-/// The text with every default behind its first `:=`. `None` if it holds the byte that stands in.
+/// The text with every default behind its first `:=`, and without the parts that have no type left.
+/// `None` if it holds the byte that stands in.
 pub fn respelled(text: &str) -> Option<String> {
     if text.contains(STAND_IN) {
         return None;
@@ -28,8 +34,12 @@ pub fn respelled(text: &str) -> Option<String> {
 }
 
 fn respelled_part(part: &str) -> String {
+    let keys = DefaultKeys::of(part);
+    if has_no_type_left(keys.ahead(part)) {
+        return " ".repeat(part.len());
+    }
     let hidden = |ahead: &str| ahead.replace(":=", &format!("{STAND_IN}="));
-    match DefaultKeys::of(part).leftmost() {
+    match keys.leftmost() {
         Some((place, length)) => {
             format!("{}:={}", hidden(&part[..place]), &part[place + length..])
         }
@@ -45,8 +55,8 @@ pub fn put_back(read: &str) -> String {
 #[cfg(test)]
 mod tests {
     use super::*;
-    use crate::defaults::Reasons;
     use crate::reading::Reading;
+    use crate::reasons::Reasons;
     use crate::scanner::{Region, Scanner};
     use texts::random::Random;
 
@@ -63,10 +73,24 @@ mod tests {
             ("DECLARE a b /* := */ = ':='; BEGIN", "DECLARE a b /* \x01= */ := ':='; BEGIN"),
             ("DECLARE \":=\" b -- :=\nBEGIN", "DECLARE \"\x01=\" b -- \x01=\nBEGIN"),
         ];
-        for (text, expected) in texts {
-            assert_eq!(respelled(text).as_deref(), Some(expected));
-        }
+        check(&texts);
         assert_eq!(respelled("DECLARE a b = \x01; BEGIN"), None);
+    }
+
+    #[test]
+    fn parts_with_no_type_left_become_spaces() {
+        check(&[
+            ("DECLARE a CONSTANT;a b;BEGIN", "DECLARE           ;a b;BEGIN"),
+            ("DECLARE a b;c\nnot NULL BEGIN", "DECLARE a b;           BEGIN"),
+            ("DECLARE'a' CONSTANT:=';';b c=1 BEGIN", "DECLARE                 ;b c:=1 BEGIN"),
+            ("DECLARE a CONSTANT b;c NOT BEGIN", "DECLARE a CONSTANT b;c NOT BEGIN"),
+        ]);
+    }
+
+    fn check(texts: &[(&str, &str)]) {
+        for (text, expected) in texts {
+            assert_eq!(respelled(text).as_deref(), Some(*expected));
+        }
     }
 
     fn random_functions() -> impl Iterator<Item = String> {
@@ -74,7 +98,8 @@ mod tests {
         (0..20_000).map(move |_| texts::function(&mut random))
     }
 
-    /// The bytes and their regions, but for what the defaults stand behind.
+    /// The bytes and their regions, but for what the defaults stand behind, and for parts that are blank
+    /// or have no type left.
     fn rest(text: &str) -> Vec<(u8, Region)> {
         let regions = Scanner::new(text).regions();
         let mut rest: Vec<_> = put_back(text).bytes().zip(regions).map(Some).collect();
@@ -83,8 +108,12 @@ mod tests {
         };
         let mut start = block.front.len();
         for part in block.parts {
-            if let Some((place, length)) = DefaultKeys::of(part).leftmost() {
-                rest[start + place..][..length].fill(None);
+            let keys = DefaultKeys::of(part);
+            let rest = &mut rest[start..][..part.len()];
+            if part.trim().is_empty() || has_no_type_left(keys.ahead(part)) {
+                rest.fill(None);
+            } else if let Some((place, length)) = keys.leftmost() {
+                rest[place..][..length].fill(None);
             }
             start += part.len() + 1;
         }
@@ -119,5 +148,6 @@ mod tests {
         assert!(unlike.contains(&Reasons { quoted_assign: true, ..alone }));
         assert!(unlike.contains(&Reasons { equals_first: true, ..alone }));
         assert!(unlike.contains(&Reasons { keyword_first: true, ..alone }));
+        assert!(unlike.contains(&Reasons { no_type_left: true, ..alone }));
     }
 }

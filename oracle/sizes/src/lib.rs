@@ -3,8 +3,12 @@
 /// The least length of a buffer of bytes, and the most bytes of a pass's result.
 pub const BUFFER_SIZE: usize = 65_536;
 
-/// The numbers of one record, and of the head in front of them.
-pub const RECORD: usize = 8;
+/// The most names that a function declares.
+pub const NAMES: usize = 512;
 
-/// The least length of the buffer of record numbers: the head's, and those of 512 records.
-pub const RECORD_NUMBERS: usize = 4_104;
+/// The numbers of one record, and of the head in front of them.
+pub const RECORD: usize = 10;
+
+/// The least length of the buffer of record numbers, 5,130: the head's, and those of a record for each
+/// name.
+pub const RECORD_NUMBERS: usize = (NAMES + 1) * RECORD;

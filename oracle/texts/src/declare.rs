@@ -24,10 +24,13 @@ impl Shape<'_> {
         self.pick(&["END;", "END", "end;", ""]);
     }
 
-    /// Some declarations. One that Note 2 takes out of the comparison takes its function with it, so
-    /// not all functions are free to have any default key.
+    /// Some declarations. One that Note 2 or 5 takes out of the comparison takes its function with it, so
+    /// not all functions are free to have any default key, or no type left.
     pub fn declarations(&mut self) {
-        let is_free = self.random.percent(75);
+        if self.random.percent(10) {
+            return self.declaring_words();
+        }
+        let is_free = self.random.percent(70);
         for _ in 0..self.random.between(0, 6) {
             self.declaration(is_free);
             self.pick(&["\n", " ", "", "\n  ", "\n", " -- c\n", " /* c */ ", "\x0b"]);
@@ -46,13 +49,14 @@ impl Shape<'_> {
         if is_free && self.random.percent(3) {
             self.any_key();
         }
-        self.odd_name();
+        self.declared_name();
         self.gap();
         self.quoted_key(is_free);
-        self.data_type();
+        self.declared_type(is_free);
         self.quoted_key(is_free);
         self.loose();
         self.default_part(is_free);
+        self.trailing_words();
         self.quoted_key(is_free);
         self.loose();
         if is_free && self.random.percent(3) {
@@ -64,12 +68,12 @@ impl Shape<'_> {
         }
     }
 
-    fn data_type(&mut self) {
-        match self.random.weighted(&[60, 22, 8, 10]) {
-            0 => self.pick(&["int", "text", "UUID", "t.a%TYPE"]),
-            1 => self.words(&["CONSTANT", "int", "NOT", "NULL"]),
-            2 => self.pick(&["varchar (10)", "int[]", "numeric(1, 2)", "\"b c\"", "\x1c", "a\0b"]),
-            _ => self.put(""),
+    pub fn data_type(&mut self) {
+        match self.random.percent(85) {
+            true => self.pick(&["int", "text", "UUID", "t.a%TYPE"]),
+            false => {
+                self.pick(&["varchar (10)", "int[]", "numeric(1, 2)", "\"b c\"", "\x1c", "a\0b"])
+            }
         }
     }
 }

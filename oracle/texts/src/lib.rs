@@ -1,5 +1,6 @@
 //! Random texts, each made for one family of questions.
 
+mod constants;
 mod declare;
 mod default_keys;
 pub mod hex;

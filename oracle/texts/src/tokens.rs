@@ -96,9 +96,12 @@ pub fn quoting_token(random: &mut Random) -> String {
 
 /// One token of the kinds that declarations are read by.
 pub fn declaring_token(random: &mut Random) -> String {
-    let word = match random.weighted(&[28, 10, 22, 6, 12, 6, 16]) {
+    let word = match random.weighted(&[26, 18, 20, 6, 12, 6, 14]) {
         0 => random.pick(&[":=", "=", "==", "=>", ":", ">", "="]),
-        1 => return letter_case("DEFAULT", random),
+        1 => {
+            let word = random.pick(&["DEFAULT", "DEFAULT", "CONSTANT", "NOT", "NULL"]);
+            return letter_case(word, random);
+        }
         2 => random.pick(IDENTIFIERS),
         3 => ";",
         4 => random.pick(SPACES),

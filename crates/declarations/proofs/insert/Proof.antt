@@ -48,7 +48,7 @@ slice-write-records-2 c =
     let at-start-of = c .before .before .before in
     let at-start = at-start-of .before .before .before .before in
     let a = at-start .args in
-    let l = length-set (a .records .now) (8 * a .k) (getD (a .records .now) (8 * c .before .find-place .result) 0) in
+    let l = length-set (a .records .now) (10 * a .k) (getD (a .records .now) (10 * c .before .find-place .result) 0) in
     omega (arith, l, c .before .find-place .ensures .held .within)
 
 same-length : tie.Need-same-length

@@ -6,13 +6,14 @@ use mathlib.Core.Bool.{false}
 use Prim.Native.Nat.{_≤_}
 use lib.ListN.{length}
 use Rattle.declared_parts.proofs.SpacedLaws.{spaced-le}
-use Rattle.declarations.proofs.WriteLaws.{piece-le, name-le, texts}
+use Rattle.declared_parts.proofs.BetweenLaws.{piece-le}
+use Rattle.declarations.proofs.WriteLaws.{name-le, texts}
 use borrow.Author.Needs.{needs}
 use Rattle.declarations.proofs.put_texts.Statement.{statement}
 use Rattle.declarations.proofs.put_texts.Tie as tie
 
 -- what is known at the start
-known : (c : tie.Start) → (c .args .k ≤ 512) × (length (c .args .text .now) ≤ 65536) × (4104 ≤ length (c .args .records .now)) × (c .args .n ≤ 65536)
+known : (c : tie.Start) → (c .args .k ≤ 512) × (length (c .args .text .now) ≤ 65536) × (5130 ≤ length (c .args .records .now)) × (c .args .n ≤ 65536)
 known c = (c .pre .0, c .pre .1 .0, c .pre .1 .1 .0, c .pre .1 .1 .1)
 
 -- the texts are not longer than the section

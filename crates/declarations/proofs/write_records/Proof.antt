@@ -26,7 +26,7 @@ write-record-requires c κs =
     let a = at-start .args in
     let l = at-loop .loop in
     let f = record-fits (a .text .now) (a .declared .now) (a .records .now) (a .count) (l .k) (l .n) (l .declared) (l .records) (omega arith) (l .inv .4) in
-    (omega arith, (omega arith, (omega arith, omega (arith, f, at-start .pre .1 .1 .1))))
+    (omega arith, (omega arith, (omega arith, (omega (arith, f, at-start .pre .1 .1 .1), omega arith))))
 
 add-k : tie.Need-add-k Inv-loop μ-loop
 add-k c = search needs

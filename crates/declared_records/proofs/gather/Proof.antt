@@ -18,7 +18,7 @@ use Rattle.declared_records.proofs.gather.Statement.{statement}
 use Rattle.declared_records.proofs.gather.Tie as tie
 
 abbrev Inv-loop : tie.InvT-loop
-Inv-loop text map records₀ count₀ at₀ records count at = (count ≤ 512) × (at ≤ length text) × (length records ≡ length records₀) × (declareAll (pieces (byteHere 59) (marked text map)) [] ≡ madeFrom text map at records count) × (drop 4104 records ≡ drop 4104 records₀) × Hashed text records count
+Inv-loop text map records₀ count₀ at₀ records count at = (count ≤ 512) × (at ≤ length text) × (length records ≡ length records₀) × (declareAll (pieces (byteHere 59) (marked text map)) [] ≡ madeFrom text map at records count) × (drop 5130 records ≡ drop 5130 records₀) × Hashed text records count
 
 abbrev μ-loop : tie.MeasureT-loop
 μ-loop text map records₀ count₀ at₀ records count at = length text - at

@@ -1,4 +1,4 @@
--- `declared_records::number` meets its contract. The element at 8k + j is element j of the list from 8k on; as an
+-- `declared_records::number` meets its contract. The element at 10k + j is element j of the list from 10k on; as an
 -- element of a list of 32-bit numbers it is below 2 ^ 32. Assumes nothing.
 use native.Mathlib.Omega.{arith}
 use mathlib.Core.Path.{sym}
@@ -21,10 +21,10 @@ shared-slice-read-result : tie.Need-shared-slice-read-result
 shared-slice-read-result c = search needs
 
 cast-result : tie.Need-cast-result
-cast-result c = omega (arith, c .shared-slice-known .given (8 * c .before .args .k + c .before .args .j))
+cast-result c = omega (arith, c .shared-slice-known .given (10 * c .before .args .k + c .before .args .j))
 
 returns : tie.Need-returns
-returns c = (sym (getD-drop (8 * c .before .args .k) (c .before .args .records .now) (c .before .args .j) 0), omega (arith, c .shared-slice-known .given (8 * c .before .args .k + c .before .args .j)))
+returns c = (sym (getD-drop (10 * c .before .args .k) (c .before .args .records .now) (c .before .args .j) 0), omega (arith, c .shared-slice-known .given (10 * c .before .args .k + c .before .args .j)))
 
 pub number-spec : {M : Type 1} → statement M
 number-spec =

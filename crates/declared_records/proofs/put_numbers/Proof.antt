@@ -1,4 +1,4 @@
--- `declared_records::put_numbers` meets its contract. The eight stores at 8k and the seven places behind it are the
+-- `declared_records::put_numbers` meets its contract. The ten stores at 10k and the nine places behind it are the
 -- definition's stores one after the other, once n + j is written with `suc`. Assumes nothing.
 use native.Mathlib.Omega.{arith}
 use mathlib.Core.Path.{_≡_, refl}
@@ -80,12 +80,30 @@ mul-records-8 c = search needs
 slice-write-records-8 : tie.Need-slice-write-records-8
 slice-write-records-8 c = simp length-set (omega arith)
 
+add-records-8 : tie.Need-add-records-8
+add-records-8 c = search needs
+
+mul-records-9 : tie.Need-mul-records-9
+mul-records-9 c = search needs
+
+slice-write-records-9 : tie.Need-slice-write-records-9
+slice-write-records-9 c = simp length-set (omega arith)
+
+add-records-9 : tie.Need-add-records-9
+add-records-9 c = search needs
+
+mul-records-10 : tie.Need-mul-records-10
+mul-records-10 c = search needs
+
+slice-write-records-10 : tie.Need-slice-write-records-10
+slice-write-records-10 c = simp length-set (omega arith)
+
 same-length : tie.Need-same-length
-same-length c = search needs
+same-length c = simp length-set refl
 
 returns : tie.Need-returns
 returns c =
-    let n = 8 * c .args .k in
+    let n = 10 * c .args .k in
     let e₁ : n + 1 ≡ suc n = omega arith in
     let e₂ : n + 2 ≡ suc (suc n) = omega arith in
     let e₃ : n + 3 ≡ suc (suc (suc n)) = omega arith in
@@ -93,7 +111,9 @@ returns c =
     let e₅ : n + 5 ≡ suc (suc (suc (suc (suc n)))) = omega arith in
     let e₆ : n + 6 ≡ suc (suc (suc (suc (suc (suc n))))) = omega arith in
     let e₇ : n + 7 ≡ suc (suc (suc (suc (suc (suc (suc n)))))) = omega arith in
-    rw (e₁, e₂, e₃, e₄, e₅, e₆, e₇) refl
+    let e₈ : n + 8 ≡ suc (suc (suc (suc (suc (suc (suc (suc n))))))) = omega arith in
+    let e₉ : n + 9 ≡ suc (suc (suc (suc (suc (suc (suc (suc (suc n)))))))) = omega arith in
+    rw (e₁, e₂, e₃, e₄, e₅, e₆, e₇, e₈, e₉) refl
 
 pub put-numbers-spec : {M : Type 1} → statement M
 put-numbers-spec =
@@ -123,5 +143,11 @@ put-numbers-spec =
     add-records-7
     mul-records-8
     slice-write-records-8
+    add-records-8
+    mul-records-9
+    slice-write-records-9
+    add-records-9
+    mul-records-10
+    slice-write-records-10
     same-length
     returns)

@@ -1,6 +1,7 @@
 -- `declared_records::put_part` meets its contract. What is asked of the hash and the part makes each number fit 32 bits;
 -- the stores are those of `put_numbers`. Assumes nothing.
 use Rattle.declared_parts.specs.DeclaredParts.{partNumbers}
+use native.Mathlib.Omega.{arith}
 use borrow.Author.Needs.{needs}
 use Rattle.declared_records.proofs.put_part.Statement.{statement}
 use Rattle.declared_records.proofs.put_part.Tie as tie
@@ -27,10 +28,28 @@ cast-put-numbers-7 : tie.Need-cast-put-numbers-7
 cast-put-numbers-7 c = search needs
 
 cast-put-numbers-8 : tie.Need-cast-put-numbers-8
-cast-put-numbers-8 c = search needs
+cast-put-numbers-8 c =
+    let fourth = c .before .before .before in
+    let at-start = fourth .before .before .before .before .before .before in
+    omega (arith, at-start .pre .1 .1 .1 .valueLen)
+
+cast-put-numbers-9 : tie.Need-cast-put-numbers-9
+cast-put-numbers-9 c =
+    let fourth = c .before .before .before .before in
+    let at-start = fourth .before .before .before .before .before .before in
+    omega (arith, at-start .pre .1 .1 .1 .constant)
+
+cast-put-numbers-10 : tie.Need-cast-put-numbers-10
+cast-put-numbers-10 c =
+    let fourth = c .before .before .before .before .before in
+    let at-start = fourth .before .before .before .before .before .before in
+    omega (arith, at-start .pre .1 .1 .1 .notNull)
 
 put-numbers-requires : tie.Need-put-numbers-requires
-put-numbers-requires c κs = search needs
+put-numbers-requires c κs =
+    let fourth = c .before .before .before .before .before in
+    let at-start = fourth .before .before .before .before .before .before in
+    (at-start .pre .0, at-start .pre .1 .0)
 
 same-length : tie.Need-same-length
 same-length c = search needs
@@ -51,6 +70,8 @@ put-part-spec =
     cast-put-numbers-6
     cast-put-numbers-7
     cast-put-numbers-8
+    cast-put-numbers-9
+    cast-put-numbers-10
     put-numbers-requires
     same-length
     returns)

@@ -220,7 +220,7 @@ returns-2 c =
                   (ap (λ (i : ℕ). take i d′) n ∙ texts),
               c .before .before .before .clear .ensures
                   ∙ zeros-behind (s .numbers) (at-if-accepted2 .if-accepted2 .result) (s .records .now) rs′ _ (omega (arith, p .1 .1 .1 .1 .1 .1 .1, l .1 .1 .1 .0))
-                  (omega (arith, k, at-most r _ 4104 count, p .1 .0))
+                  (omega (arith, k, at-most r _ 5130 count, p .1 .0))
                   h
                   (ap (λ (i : ℕ). take i rs′) k ∙ numbers),
             ),
