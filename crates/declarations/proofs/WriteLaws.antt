@@ -86,7 +86,7 @@ module _ (xs rs : List ℕ) (k : ℕ) where
       record { first = omega arith; second = omega arith; third = omega arith; last = omega (arith, packed-length n) }
 
   default-places : (p at : ℕ) (text : List ℕ)
-      → oneIf (isSet p) ∷ cond (eqb p 0) 0 at ∷ length (textOr (valueOf p text)) ∷ [] ≡ defaultNumbers (valueOf p text) at
+      → cond (eqb p 0) 0 1 ∷ cond (eqb p 0) 0 at ∷ length (textOr (valueOf p text)) ∷ [] ≡ defaultNumbers (valueOf p text) at
   unfolding defaultNumbers
   default-places p at text = by (eqb p 0) (λ h. rw h refl) (λ h. rw h refl)
 
@@ -100,7 +100,7 @@ module _ (xs rs : List ℕ) (k : ℕ) where
   not-null-is = refl
 
   pub numbers : (n p flag at constant notNull : ℕ) (e : Ends) → p ≡ number 5 → e ≡ endsOf n d
-      → flag ≡ oneIf (isSet (number 5)) → at ≡ cond (eqb p 0) 0 (e .kind) → constant ≡ oneIf (isSet (number 8)) → notNull ≡ oneIf (isSet (number 9))
+      → flag ≡ cond (eqb p 0) 0 1 → at ≡ cond (eqb p 0) 0 (e .kind) → constant ≡ oneIf (isSet (number 8)) → notNull ≡ oneIf (isSet (number 9))
       → n ∷ (e .name - n) ∷ e .name ∷ (e .kind - e .name) ∷ flag ∷ at ∷ (e .value - e .kind) ∷ constant ∷ notNull ∷ [] ≡ otherNumbers n d
   unfolding endsOf otherNumbers
   numbers n p flag at constant notNull e q r f g u v =
@@ -112,13 +112,12 @@ module _ (xs rs : List ℕ) (k : ℕ) where
       let i₃ : e .value - e .kind ≡ length (textOr (d .default)) = omega arith in
       let o : d .default ≡ valueOf p (take (number 7) (drop (number 6) xs)) = valued ∙ rw q refl in
       let front = n + length (d .name) + length (d .type) in
-      let w : oneIf (isSet p) ∷ cond (eqb p 0) 0 front ∷ length (textOr (d .default)) ∷ [] ≡ defaultNumbers (d .default) front =
+      let w : cond (eqb p 0) 0 1 ∷ cond (eqb p 0) 0 front ∷ length (textOr (d .default)) ∷ [] ≡ defaultNumbers (d .default) front =
       rw o (default-places p front (take (number 7) (drop (number 6) xs))) in
       let marks : List ℕ = oneIf (d .constant) ∷ oneIf (d .notNull) ∷ [] in
-      let s : flag ≡ oneIf (isSet p) = f ∙ rw q refl in
       let c : constant ≡ oneIf (d .constant) = u ∙ constant-is in
       let z : notNull ≡ oneIf (d .notNull) = v ∙ not-null-is in
-      rw (i₁, i₂, i₃, m₁, s, g, m₂, c, z)
+      rw (i₁, i₂, i₃, m₁, f, g, m₂, c, z)
       (ap (λ (l : List ℕ). n ∷ length (d .name) ∷ (n + length (d .name)) ∷ length (d .type) ∷ (l ++ marks)) w)
 
 -- ---- all records

@@ -6,8 +6,8 @@ use declared_parts::put_requoted;
 use declared_parts::put_spaced;
 use declared_records::RECORD_LIMIT;
 use declared_records::RECORD_WIDTH;
-use declared_records::flag_of;
 use declared_records::gather;
+use declared_records::mark_of;
 use declared_records::name_of;
 use declared_records::number;
 use declared_records::put_numbers;
@@ -181,11 +181,11 @@ fn write_record(text: &[u8], declared: &mut [u8], records: &mut [u32], k: usize,
     ensures { λ _. ⌜ now (records .exit) ≡ sets (now (records .entry)) (10 * k) (getD (now (records .entry)) (10 * k) 0 ∷ otherNumbers n (recordIn (now (text .entry)) (now (records .entry)) k)) ⌝ }
 {
     let next = records[RECORD_WIDTH * k];
-    let flag = flag_of(records, k, 5);
-    let constant = flag_of(records, k, 8);
-    let not_null = flag_of(records, k, 9);
+    let constant = mark_of(records, k, 8);
+    let not_null = mark_of(records, k, 9);
     let present = number(records, k, 5);
     let ends = put_texts(text, declared, records, k, n);
+    let flag = if_present(present, 1);
     let value_at = if_present(present, ends.kind);
     let name_len = ends.name - n;
     let kind_len = ends.kind - ends.name;
@@ -198,7 +198,7 @@ fn write_record(text: &[u8], declared: &mut [u8], records: &mut [u32], k: usize,
         name_len as u32,
         ends.name as u32,
         kind_len as u32,
-        flag,
+        flag as u32,
         value_at as u32,
         value_len as u32,
         constant,

@@ -38,8 +38,8 @@ pub fn number(records: &[u32], k: usize, j: usize) -> usize
     records[RECORD_WIDTH * k + j] as usize
 }
 
-// 1 if number j of record k is set, else 0.
-pub fn flag_of(records: &[u32], k: usize, j: usize) -> u32
+// 1 if the mark at number j of record k is set, else 0.
+pub fn mark_of(records: &[u32], k: usize, j: usize) -> u32
     requires { ⌜ k ≤ 512 ⌝ }
     requires { ⌜ j < 10 ⌝ }
     requires { ⌜ 5130 ≤ length (now records) ⌝ }

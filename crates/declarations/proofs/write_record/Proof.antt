@@ -19,8 +19,8 @@ use Rattle.declarations.proofs.write_record.Tie as tie
 abbrev start : tie.After-put-texts → tie.Start
 start c =
     let at-not-null = c .before .before .before .before .before in
-    let at-flag = at-not-null .before .before .before .before in
-    at-flag .before .before .before .before .before .before
+    let at-constant = at-not-null .before .before in
+    at-constant .before .before .before .before .before .before
 
 -- the ends in their order, the last within the bound
 ends : (c : tie.After-put-texts) →
@@ -60,14 +60,11 @@ mul-next-2 c = search needs
 slice-read-next : tie.Need-slice-read-next
 slice-read-next c = search needs
 
-flag-of-requires : tie.Need-flag-of-requires
-flag-of-requires c κs = search needs
+mark-of-requires : tie.Need-mark-of-requires
+mark-of-requires c κs = search needs
 
-flag-of-requires-2 : tie.Need-flag-of-requires-2
-flag-of-requires-2 c κs = search needs
-
-flag-of-requires-3 : tie.Need-flag-of-requires-3
-flag-of-requires-3 c κs = search needs
+mark-of-requires-2 : tie.Need-mark-of-requires-2
+mark-of-requires-2 c κs = search needs
 
 number-requires : tie.Need-number-requires
 number-requires c κs = search needs
@@ -78,52 +75,64 @@ put-texts-requires c κs = search needs
 if-present-requires : tie.Need-if-present-requires
 if-present-requires c κs = search needs
 
+if-present-requires-2 : tie.Need-if-present-requires-2
+if-present-requires-2 c κs = search needs
+
 sub-name-len : tie.Need-sub-name-len
-sub-name-len c = ends (c .before .before .before .before) .first
+sub-name-len c = ends (c .before .before .before .before .before) .first
 
 sub-kind-len : tie.Need-sub-kind-len
-sub-kind-len c = ends (c .before .before .before .before .before) .second
+sub-kind-len c = ends (c .before .before .before .before .before .before) .second
 
 sub-value-len : tie.Need-sub-value-len
-sub-value-len c = ends (c .before .before .before .before .before .before) .third
+sub-value-len c =
+    let at-if-present2 = c .before .before .before in
+    ends (at-if-present2 .before .before .before .before) .third
 
 cast-put-numbers : tie.Need-cast-put-numbers
 cast-put-numbers c =
-    let at-if-present = c .before .before .before .before in
-    omega (arith, within (at-if-present .before .before .before) .from)
+    let at-if-present2 = c .before .before .before .before in
+    omega (arith, within (at-if-present2 .before .before .before .before) .from)
 
 cast-put-numbers-2 : tie.Need-cast-put-numbers-2
 cast-put-numbers-2 c =
-    let at-if-present = c .before .before .before .before in
-    omega (arith, within (at-if-present .before .before .before) .name)
+    let at-if-present2 = c .before .before .before .before in
+    omega (arith, within (at-if-present2 .before .before .before .before) .name)
 
 cast-put-numbers-3 : tie.Need-cast-put-numbers-3
 cast-put-numbers-3 c =
-    let at-if-present = c .before .before .before .before .before in
-    omega (arith, within (at-if-present .before .before .before) .name)
+    let at-if-present2 = c .before .before .before .before .before in
+    omega (arith, within (at-if-present2 .before .before .before .before) .name)
 
 cast-put-numbers-4 : tie.Need-cast-put-numbers-4
 cast-put-numbers-4 c =
-    let at-if-present = c .before .before .before .before .before in
-    omega (arith, within (at-if-present .before .before .before) .kind)
+    let at-if-present2 = c .before .before .before .before .before in
+    omega (arith, within (at-if-present2 .before .before .before .before) .kind)
 
 cast-put-numbers-5 : tie.Need-cast-put-numbers-5
 cast-put-numbers-5 c =
-    let at-if-present = c .before .before .before .before .before in
+    let at-if-present = c .before .before .before .before .before .before in
     let at-put-texts = at-if-present .before .before .before in
     let present = at-put-texts .before .before .before .number .result in
-    let at = at-put-texts .put-texts .result .kind in
-    omega (arith, at-if-present .if-present .ensures, cond-le (eqb present 0) 0 at 65536 (omega arith) (within at-put-texts .kind))
+    omega (arith, at-if-present .if-present .ensures, cond-le (eqb present 0) 0 1 1 (omega arith) (omega arith))
 
 cast-put-numbers-6 : tie.Need-cast-put-numbers-6
 cast-put-numbers-6 c =
-    let at-if-present = c .before .before .before .before .before in
-    omega (arith, within (at-if-present .before .before .before) .value)
+    let at-if-present2 = c .before .before .before .before .before in
+    let at-put-texts = at-if-present2 .before .before .before .before in
+    let present = at-put-texts .before .before .before .number .result in
+    let at = at-put-texts .put-texts .result .kind in
+    omega (arith, at-if-present2 .if-present2 .ensures, cond-le (eqb present 0) 0 at 65536 (omega arith) (within at-put-texts .kind))
+
+cast-put-numbers-7 : tie.Need-cast-put-numbers-7
+cast-put-numbers-7 c =
+    let at-if-present2 = c .before .before .before .before .before in
+    omega (arith, within (at-if-present2 .before .before .before .before) .value)
 
 put-numbers-requires : tie.Need-put-numbers-requires
 put-numbers-requires c κs =
-    let at-if-present = c .before .before .before .before .before in
-    let p = start (at-if-present .before .before .before) .pre in
+    let at-if-present2 = c .before .before .before .before .before in
+    let p = start (at-if-present2 .before .before .before .before) .pre in
     (p .0, p .1 .1 .0)
 
 same-length : tie.Need-same-length
@@ -135,19 +144,19 @@ same-length-2 c = search needs
 returns : tie.Need-returns
 returns c =
     let at-put-numbers = c .before .before in
-    let at-if-present = at-put-numbers .before .before .before .before .before .before in
+    let at-if-present2 = at-put-numbers .before .before .before .before .before .before in
+    let at-if-present = at-if-present2 .before in
     let at-put-texts = at-if-present .before .before .before in
     let at-number = at-put-texts .before .before .before in
     let at-not-null = at-number .before .before in
     let at-constant = at-not-null .before .before in
-    let at-flag = at-constant .before .before in
     let a = start at-put-texts .args in
     let e = at-put-texts .put-texts .result in
     let n =
-    numbers (a .text .now) (a .records .now) (a .k) (a .n) (at-number .number .result) (at-flag .flag-of .result)
-    (at-if-present .if-present .result) (at-constant .flag-of2 .result) (at-not-null .flag-of3 .result) e (at-number .number .ensures .0)
-    (at-put-texts .put-texts .ensures .0) (at-flag .flag-of .ensures) (at-if-present .if-present .ensures) (at-constant .flag-of2 .ensures)
-    (at-not-null .flag-of3 .ensures) in
+    numbers (a .text .now) (a .records .now) (a .k) (a .n) (at-number .number .result) (at-if-present .if-present .result)
+    (at-if-present2 .if-present2 .result) (at-constant .mark-of .result) (at-not-null .mark-of2 .result) e (at-number .number .ensures .0)
+    (at-put-texts .put-texts .ensures .0) (at-if-present .if-present .ensures) (at-if-present2 .if-present2 .ensures)
+    (at-constant .mark-of .ensures) (at-not-null .mark-of2 .ensures) in
     (ends at-put-texts .last, (at-put-texts .put-texts .ensures .1, at-put-numbers .put-numbers .ensures ∙ ap (λ (l : List ℕ). sets (a .records .now) (10 * a .k) (getD (a .records .now) (10 * a .k) 0 ∷ l)) n))
 
 pub write-record-spec : {M : Type 1} → statement M
@@ -157,12 +166,12 @@ write-record-spec =
     mul-next
     mul-next-2
     slice-read-next
-    flag-of-requires
-    flag-of-requires-2
-    flag-of-requires-3
+    mark-of-requires
+    mark-of-requires-2
     number-requires
     put-texts-requires
     if-present-requires
+    if-present-requires-2
     sub-name-len
     sub-kind-len
     sub-value-len
@@ -172,6 +181,7 @@ write-record-spec =
     cast-put-numbers-4
     cast-put-numbers-5
     cast-put-numbers-6
+    cast-put-numbers-7
     put-numbers-requires
     same-length
     same-length-2
