@@ -86,7 +86,7 @@ enum plpgsql_number {
  *
  * answer: number, place, length of the output, records.
  *
- *   0: place 0; the output holds the rewritten body; records is the number of different names.
+ *   0: place 0; the output holds the rewritten body; records is the number of records.
  *   1: place 0, length 0, records 0.
  *   2: place is the offset of the first byte over 127; length 0, records 0.
  *   3: place 0, length 0, records 0.
@@ -136,9 +136,9 @@ void plpgsql_transform_body(
  * A default begins behind the leftmost `:=`, `=` or DEFAULT of its declaration that stands outside
  * literals and comments; an `=` counts if no `=` stands beside it and no `>` behind it, and DEFAULT as a
  * whole word in any letter case.
- * The records stand in order of first declaration; a later declaration of a name replaces its type,
- * default and marks. The texts stand one behind the other in the order of the records: name, type,
- * default.
+ * The records stand in order of first declaration; a later declaration of a name replaces its type, its
+ * default and the two numbers for CONSTANT and NOT NULL. The texts stand one behind the other in the order
+ * of the records: name, type, default.
  */
 void plpgsql_preprocess(
     const uint8_t *text, size_t text_length,

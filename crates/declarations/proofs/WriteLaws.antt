@@ -2,15 +2,15 @@
 use mathlib.Core.Path.{_≡_, refl, sym, ap, _∙_}
 use mathlib.Core.Bool.{false, cond}
 use mathlib.Core.List.{List, [], _∷_, _++_}
-use mathlib.Core.Option.{Option, none, some}
-use Prim.Native.Nat.{ℕ, zero, suc, _+_, _-_, _*_, _≤_, _<_}
+use Prim.Native.Nat.{ℕ, suc, _+_, _-_, _*_, _≤_, _<_}
 use native.Mathlib.Omega.{arith}
 use lib.Dec.{eqb}
-use lib.ListN.{length, getD, take, drop, length-append, length-drop}
+use lib.ListN.{length, getD, take, drop, length-append}
 use lib.Seq.{sets}
 use Rattle.output.proofs.StoreLaws.{sets-append}
 use Rattle.spec.proofs.Choice.{by}
-use Rattle.spec.specs.Declarations.{Declared, textOr, packedRecord, packed, defaultNumbers, oneIf}
+use Rattle.spec.proofs.RecordLaws.{default-three}
+use Rattle.spec.specs.Declarations.{Declared, textOr, packedRecord, packed, defaultNumbers, markNumbers, oneIf}
 use Rattle.declared_parts.specs.DeclaredParts.{spaced, valueOf, isSet, defaultBy, declaredBy}
 use Rattle.declared_parts.proofs.BetweenLaws.{piece-le}
 use Rattle.declared_records.specs.Held.{recordIn, recordsFrom}
@@ -114,22 +114,18 @@ module _ (xs rs : List ℕ) (k : ℕ) where
       let front = n + length (d .name) + length (d .type) in
       let w : cond (eqb p 0) 0 1 ∷ cond (eqb p 0) 0 front ∷ length (textOr (d .default)) ∷ [] ≡ defaultNumbers (d .default) front =
       rw o (default-places p front (take (number 7) (drop (number 6) xs))) in
-      let marks : List ℕ = oneIf (d .constant) ∷ oneIf (d .notNull) ∷ [] in
       let c : constant ≡ oneIf (d .constant) = u ∙ constant-is in
       let z : notNull ≡ oneIf (d .notNull) = v ∙ not-null-is in
       rw (i₁, i₂, i₃, m₁, f, g, m₂, c, z)
-      (ap (λ (l : List ℕ). n ∷ length (d .name) ∷ (n + length (d .name)) ∷ length (d .type) ∷ (l ++ marks)) w)
+      (ap (λ (l : List ℕ). n ∷ length (d .name) ∷ (n + length (d .name)) ∷ length (d .type) ∷ (l ++ markNumbers d)) w)
 
 -- ---- all records
 
 others-length : (n : ℕ) (d : Declared) → length (otherNumbers n d) ≡ 9
-unfolding otherNumbers defaultNumbers
-others-length n d = go (d .default) (n + length (d .name) + length (d .type))
-  where
-    go : (o : Option (List ℕ)) (m : ℕ)
-        → suc (suc (suc (suc (length (defaultNumbers o m ++ (oneIf (d .constant) ∷ oneIf (d .notNull) ∷ [])))))) ≡ 9
-    go none m = refl
-    go (some xs) m = refl
+unfolding otherNumbers
+others-length n d =
+    let at = n + length (d .name) + length (d .type) in
+    omega (arith, length-append (defaultNumbers (d .default) at) (markNumbers d), default-three (d .default) at)
 
 module _ (xs out rs : List ℕ) (count : ℕ) where
   -- the records from record k on

@@ -9,7 +9,7 @@ use lib.Seq.{sets}
 use Rattle.spec.specs.Bytes.{ascii}
 use Rattle.spec.specs.Map.{Marked}
 use Rattle.spec.specs.Search.{first, keywordHere, byteHere, pieces}
-use Rattle.spec.specs.Declarations.{Declared, declareAll, declareSection, textOr, packedRecord, packed, headNext, nextOf, defaultNumbers, oneIf, numbersOf}
+use Rattle.spec.specs.Declarations.{Declared, declareAll, declareSection, textOr, packedRecord, packed, headNext, nextOf, defaultNumbers, markNumbers, numbersOf}
 use Rattle.spec.specs.Parts.{part}
 use Rattle.declared_records.specs.Held.{recordIn, recordsFrom}
 use Rattle.spec.specs.declared.Found.{Found}
@@ -76,7 +76,7 @@ otherNumbers at d =
     ∷ length (d .name)
     ∷ typeAt
     ∷ length (d .type)
-    ∷ (defaultNumbers (d .default) (typeAt + length (d .type)) ++ (oneIf (d .constant) ∷ oneIf (d .notNull) ∷ []))
+    ∷ (defaultNumbers (d .default) (typeAt + length (d .type)) ++ markNumbers d)
 
 -- the numbers of n records from record k on, each next as it is
 unfoldable pub finalNumbers : List ℕ → List ℕ → ℕ → ℕ → ℕ → List ℕ

@@ -169,7 +169,7 @@ fn put_texts(text: &[u8], declared: &mut [u8], records: &[u32], k: usize, n: usi
     }
 }
 
-// The texts of record k packed from n on, and its numbers; the result is where the texts end.
+// The texts of record k, which is not the head, packed from n on, and its numbers; the result is where the texts end.
 fn write_record(text: &[u8], declared: &mut [u8], records: &mut [u32], k: usize, n: usize) -> usize
     requires { ⌜ k ≤ 512 ⌝ }
     requires { ⌜ length (now text) ≤ 65536 ⌝ }

@@ -1,6 +1,6 @@
 -- CONSTANT at the front of a text, by its place. Assumes nothing.
 use mathlib.Core.Path.{_≡_, refl, sym, ap, _∙_}
-use mathlib.Core.Bool.{Bool, true, false, cond, not, _&&_, and-false, and-true}
+use mathlib.Core.Bool.{Bool, true, false, cond, not, and-false}
 use mathlib.Core.List.{List, [], _∷_}
 use Prim.Native.Nat.{ℕ, _+_, _≤_}
 use native.Mathlib.Omega.{arith}
@@ -10,7 +10,7 @@ use lib.ListN.{length, take, drop}
 use lib.Seq.{drop-drop}
 use Rattle.spec.proofs.BytesLaws.{bytes-take, bytes-drop, while-length-bytes}
 use Rattle.spec.proofs.Choice.{by}
-use Rattle.spec.proofs.ConstantLaws.{word-is}
+use Rattle.spec.proofs.ConstantLaws.{constant-first, word-is}
 use Rattle.spec.proofs.HandlerPlaces.{word-text}
 use Rattle.spec.proofs.ListLaws.{empty-nil, while-sum}
 use Rattle.spec.proofs.WalkLaws.{while-take, while-drop, while-length}
@@ -69,14 +69,10 @@ rest-none : behindConstant [] ≡ []
 unfolding behindConstant isConstant areWords
 rest-none = refl
 
-constant-some : (w : List Marked) (ws : List (List Marked)) → isConstant (w ∷ ws) ≡ isWordText (ascii "CONSTANT") w
-unfolding isConstant areWords
-constant-some w ws = and-true (isWordText (ascii "CONSTANT") w)
-
 rest-some : (w : List Marked) (ws : List (List Marked)) (b : Bool) → isWordText (ascii "CONSTANT") w ≡ b
     → behindConstant (w ∷ ws) ≡ cond b ws (w ∷ ws)
 unfolding behindConstant
-rest-some w ws b e = rw (constant-some w ws, e) refl
+rest-some w ws b e = rw (constant-first w ws, e) refl
 
 module _ (u : List Marked) (h : dropWhile space u ≡ u) where
   -- no word, or the first one and those behind it
@@ -111,10 +107,10 @@ module _ (u : List Marked) (h : dropWhile space u ≡ u) where
       rw k
       (record {
         rest = rw (d, s, rest-some (first u) (words (behind u)) true f) (words-skip (behind u));
-        mark = rw (s, constant-some (first u) (words (behind u)), f) (sym (ap not (ne-eqb (length (first u) + length (takeWhile space (behind u))) 0 (λ z. absurd (omega (arith, l))))));
+        mark = rw (s, constant-first (first u) (words (behind u)), f) (sym (ap not (ne-eqb (length (first u) + length (takeWhile space (behind u))) 0 (λ z. absurd (omega (arith, l))))));
         front = rw d (skip-twice (behind u));
         within = omega (arith, while-length space (behind u), while-sum inWord u);
       }))
       (λ f.
-      constant-stays (constant-len u ∙ rw f refl) (rw (s, constant-some (first u) (words (behind u))) f)
+      constant-stays (constant-len u ∙ rw f refl) (rw (s, constant-first (first u) (words (behind u))) f)
       (rw (s, rest-some (first u) (words (behind u)) false f) refl)))

@@ -1,17 +1,17 @@
 -- The words of a text by its last one. Assumes nothing.
-use mathlib.Core.Path.{_≡_, refl, sym, ap, _∙_}
+use mathlib.Core.Path.{_≡_, refl, ap, _∙_}
 use mathlib.Core.Bool.{Bool, true, false, cond, not}
 use mathlib.Core.List.{List, [], _∷_, _++_, reverse, append-nil, append-assoc, reverse-cons, reverse-reverse}
-use Prim.Native.Nat.{ℕ}
+use native.Mathlib.Omega.{arith}
 use lib.ListN.{length, drop}
 use lib.Seq.{drop-at}
 use Rattle.spec.proofs.Choice.{by}
-use Rattle.spec.proofs.EndLaws.{last-passes, last-fails}
+use Rattle.spec.proofs.EndLaws.{some-behind, last-passes, last-fails}
 use Rattle.spec.specs.Bytes.{isW}
 use Rattle.spec.specs.Lists.{isEmpty, takeWhile, dropWhile, dropEnd}
 use Rattle.spec.specs.Map.{Marked, byte, ofByte}
 use Rattle.spec.specs.Declarations.{words}
-use Rattle.declared_parts.proofs.WordsLaws.{space, inWord, nothing, words-cut, words-one}
+use Rattle.declared_parts.proofs.WordsLaws.{space, inWord, while-byte, behind-byte, nothing, words-cut, words-one}
 
 -- a byte is W or in a word
 space-of : (x : Marked) (b : Bool) → isW (byte x) ≡ b → space x ≡ b
@@ -21,14 +21,6 @@ space-of x b e = e
 word-of : (x : Marked) (b : Bool) → isW (byte x) ≡ b → inWord x ≡ not b
 unfolding ofByte
 word-of x b e = rw e refl
-
-while-in : (x : Marked) (t : List Marked) → isW (byte x) ≡ false → takeWhile inWord t ≡ t → takeWhile inWord (x ∷ t) ≡ x ∷ t
-unfolding takeWhile
-while-in x t e w = rw (word-of x false e, w) refl
-
-behind-in : (x : Marked) (t : List Marked) → isW (byte x) ≡ false → dropWhile inWord t ≡ [] → dropWhile inWord (x ∷ t) ≡ []
-unfolding dropWhile
-behind-in x t e d = rw (word-of x false e) d
 
 -- in what follows l is a text read backwards
 
@@ -52,7 +44,7 @@ ends (x ∷ l) y w e p q =
     ∙ rw (words-one y w e p q, words-cut (reverse l) x [] h, nothing, append-nil) refl)))
     (λ h.
     rw (reverse-cons x l, last-passes inWord x (reverse l) (word-of x false h), append-assoc (reverse l) (x ∷ []) (y ∷ w))
-    (ends l x (y ∷ w) h (while-in y w e p) (behind-in y w e q)))
+    (ends l x (y ∷ w) h (while-byte y w e ∙ ap (λ (t : List Marked). y ∷ t) p) (behind-byte y w e ∙ q)))
 
 -- the last word of t, and what stands ahead of it; W at the end is passed over
 unfoldable pub aheadOfLast : List Marked → List Marked
@@ -60,11 +52,6 @@ aheadOfLast t = front (dropEnd space t)
 
 unfoldable pub lastOf : List Marked → List Marked
 lastOf t = drop (length (aheadOfLast t)) (dropEnd space t)
-
-some-last : (u : List Marked) (x : Marked) → isEmpty (u ++ (x ∷ [])) ≡ false
-unfolding isEmpty
-some-last [] x = refl
-some-last (y ∷ u) x = refl
 
 backwards : (l : List Marked)
     → words (reverse l)
@@ -77,7 +64,7 @@ backwards (x ∷ l) =
     rw (reverse-cons x l, last-passes space x (reverse l) (space-of x true e), words-cut (reverse l) x [] e, nothing, append-nil)
     (backwards l))
     (λ e.
-    rw (reverse-cons x l, last-fails space x (reverse l) (space-of x false e), some-last (reverse l) x, last-passes inWord x (reverse l) (word-of x false e))
+    rw (reverse-cons x l, last-fails space x (reverse l) (space-of x false e), some-behind space (reverse l) (x ∷ []) (omega arith), last-passes inWord x (reverse l) (word-of x false e))
     (ends l x [] e refl refl))
 
 -- the words of a text are those ahead of its last one, and that one; a text of W has none

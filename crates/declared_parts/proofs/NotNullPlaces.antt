@@ -1,17 +1,17 @@
 -- NOT NULL at the end of a text, by its place. Assumes nothing.
 use mathlib.Core.Path.{_≡_, refl, sym, ap, _∙_}
-use mathlib.Core.Bool.{Bool, true, false, cond, not, _&&_, and-false, and-true, and-comm}
+use mathlib.Core.Bool.{Bool, true, false, cond, not, _&&_, and-false, and-comm}
 use mathlib.Core.List.{List, [], _∷_, _++_, append-assoc}
 use Prim.Native.Nat.{ℕ, _+_, _-_, _≤_}
 use native.Mathlib.Omega.{arith}
 use borrow.Author.Tests.{eq-eqb, ne-eqb}
 use lib.Dec.{eqb}
 use lib.ListN.{length, take, drop, length-append, length-drop, drop-of-length-le}
-use lib.Seq.{take-all, take-at, drop-at, take-take}
+use lib.Seq.{take-all, take-at, take-take}
 use Rattle.spec.proofs.AheadLaws.{drop-take}
 use Rattle.spec.proofs.BytesLaws.{bytes-take, bytes-drop, end-length-bytes}
 use Rattle.spec.proofs.Choice.{by, and-right}
-use Rattle.spec.proofs.ConstantLaws.{word-is}
+use Rattle.spec.proofs.ConstantLaws.{not-null-last, word-is}
 use Rattle.spec.proofs.EndLaws.{drop-end-take}
 use Rattle.spec.proofs.ListLaws.{empty-nil, drop-end-le}
 use Rattle.spec.proofs.RefusalBounds.{bytes-length}
@@ -20,25 +20,21 @@ use Rattle.spec.specs.Lists.{isEmpty, dropEnd}
 use Rattle.spec.specs.Map.{Marked, bytes}
 use Rattle.spec.specs.Search.{isWordText}
 use Rattle.spec.specs.Declarations.{words, areWords, isNotNull, aheadOfNotNull}
-use Rattle.declared_parts.specs.DeclaredParts.{notW, isText, lastWord, endsIn, typeLen}
+use Rattle.declared_parts.specs.DeclaredParts.{notW, lastWord, endsIn, typeLen}
 use Rattle.declared_parts.proofs.LastWordLaws.{aheadOfLast, lastOf, words-last}
 use Rattle.declared_parts.proofs.ConstantPlaces.{text-same, no-word}
 use Rattle.declared_parts.proofs.WordsLaws.{space, inWord}
 
 module _ (us : List (List Marked)) (v w : List Marked) where
-  abbrev isPair : Bool
-  isPair = isWordText (ascii "NOT") v && isWordText (ascii "NULL") w
+  abbrev areNotNull : Bool
+  areNotNull = isWordText (ascii "NOT") v && isWordText (ascii "NULL") w
 
   two-less : length (us ++ (v ∷ w ∷ [])) - 2 ≡ length us
   two-less = omega (arith, length-append us (v ∷ w ∷ []))
 
-  pair-mark : isNotNull (us ++ (v ∷ w ∷ [])) ≡ isPair
-  unfolding isNotNull areWords
-  pair-mark = rw (two-less, drop-at us (v ∷ w ∷ []) (length us) refl, and-true (isWordText (ascii "NULL") w)) refl
-
-  pair-ahead : aheadOfNotNull (us ++ (v ∷ w ∷ [])) ≡ cond isPair us (us ++ (v ∷ w ∷ []))
+  pair-ahead : aheadOfNotNull (us ++ (v ∷ w ∷ [])) ≡ cond areNotNull us (us ++ (v ∷ w ∷ []))
   unfolding aheadOfNotNull
-  pair-ahead = rw (pair-mark, two-less, take-at us (v ∷ w ∷ []) (length us) refl) refl
+  pair-ahead = rw (not-null-last us v w, two-less, take-at us (v ∷ w ∷ []) (length us) refl) refl
 
 -- fewer than two words
 none-mark : isNotNull [] ≡ false
@@ -63,35 +59,35 @@ last-none t a w e =
     rw z (no-word a w)
 
 module _ (v : List Marked) where
-  abbrev isClosed : Bool
-  isClosed = isWordText (ascii "NOT") (lastOf (aheadOfLast v)) && isWordText (ascii "NULL") (lastOf v)
+  abbrev endsInNotNull : Bool
+  endsInNotNull = isWordText (ascii "NOT") (lastOf (aheadOfLast v)) && isWordText (ascii "NULL") (lastOf v)
 
   -- by the last two words
-  record Closes : Type 0 where
-    mark : isNotNull (words v) ≡ isClosed
-    ahead : aheadOfNotNull (words v) ≡ cond isClosed (words (aheadOfLast (aheadOfLast v))) (words v)
+  record EndsInNotNull : Type 0 where
+    mark : isNotNull (words v) ≡ endsInNotNull
+    ahead : aheadOfNotNull (words v) ≡ cond endsInNotNull (words (aheadOfLast (aheadOfLast v))) (words v)
 
-  unclosed : isClosed ≡ false → isNotNull (words v) ≡ false → Closes
-  unclosed e m = record { mark = m ∙ sym e; ahead = rw e (unmarked-ahead (words v) m) }
+  not-ended : endsInNotNull ≡ false → isNotNull (words v) ≡ false → EndsInNotNull
+  not-ended e m = record { mark = m ∙ sym e; ahead = rw e (unmarked-ahead (words v) m) }
 
-  closes : Closes
-  closes =
+  ended : EndsInNotNull
+  ended =
       by (isEmpty (dropEnd space v))
       (λ e.
       let s : words v ≡ [] = words-last v ∙ rw e refl in
-      unclosed (rw (last-none v 78 (ascii "ULL") e) (and-false (isWordText (ascii "NOT") (lastOf (aheadOfLast v))))) (rw s none-mark))
+      not-ended (rw (last-none v 78 (ascii "ULL") e) (and-false (isWordText (ascii "NOT") (lastOf (aheadOfLast v))))) (rw s none-mark))
       (λ e.
       let s : words v ≡ words (aheadOfLast v) ++ (lastOf v ∷ []) = words-last v ∙ rw e refl in
       by (isEmpty (dropEnd space (aheadOfLast v)))
       (λ f.
       let r : words (aheadOfLast v) ≡ [] = words-last (aheadOfLast v) ∙ rw f refl in
-      unclosed (rw (last-none (aheadOfLast v) 78 (ascii "OT") f) refl) (rw (s, r) (one-mark (lastOf v))))
+      not-ended (rw (last-none (aheadOfLast v) 78 (ascii "OT") f) refl) (rw (s, r) (one-mark (lastOf v))))
       (λ f.
       let r : words (aheadOfLast v) ≡ words (aheadOfLast (aheadOfLast v)) ++ (lastOf (aheadOfLast v) ∷ []) = words-last (aheadOfLast v) ∙ rw f refl in
       let us = words (aheadOfLast (aheadOfLast v)) in
       let q : words v ≡ us ++ (lastOf (aheadOfLast v) ∷ lastOf v ∷ []) = s ∙ rw r (append-assoc us (lastOf (aheadOfLast v) ∷ []) (lastOf v ∷ [])) in
       record {
-        mark = rw q (pair-mark us (lastOf (aheadOfLast v)) (lastOf v));
+        mark = rw q (not-null-last us (lastOf (aheadOfLast v)) (lastOf v));
         ahead = rw q (pair-ahead us (lastOf (aheadOfLast v)) (lastOf v));
       }))
 
@@ -165,9 +161,9 @@ module _ (v : List Marked) where
 
   pub not-null-read : NotNullRead (typeLen (bytes v))
   not-null-read =
-      let c = closes v in
+      let c = ended v in
       let swap = and-comm (isWordText (ascii "NULL") (lastOf v)) (isWordText (ascii "NOT") (lastOf (aheadOfLast v))) in
-      by (isClosed v)
+      by (endsInNotNull v)
       (λ e.
       let k : typeLen (bytes v) ≡ length front = type-len ∙ rw (swap, e) refl in
       let l = word-is (ascii "NULL") (lastOf v) (and-right (isWordText (ascii "NOT") (lastOf (aheadOfLast v))) (isWordText (ascii "NULL") (lastOf v)) e) .0 in

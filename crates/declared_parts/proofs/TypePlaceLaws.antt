@@ -2,7 +2,7 @@
 use mathlib.Core.Path.{_≡_, refl, sym, ap, _∙_}
 use mathlib.Core.Bool.{Bool, true, false, cond, not, _&&_}
 use mathlib.Core.List.{List}
-use Prim.Native.Nat.{ℕ, _+_, _-_, _≤_, zero-le}
+use Prim.Native.Nat.{ℕ, _+_, _-_, _≤_}
 use native.Mathlib.Omega.{arith}
 use lib.Dec.{eqb}
 use lib.ListN.{length, take, drop, length-drop}
@@ -14,7 +14,6 @@ use Rattle.spec.specs.Parts.{part}
 use Rattle.spec.specs.Declarations.{oneIf}
 use Rattle.declared_parts.specs.DeclaredParts.{notW, isText, constantLen, lastWord, endsIn, typeLen, typeIn}
 use Rattle.declared_parts.specs.declared.LastWord.{LastWord}
-use Rattle.declared_parts.specs.declared.TypePlaces.{TypePlaces}
 
 pub one-if-le : (b : Bool) → oneIf b ≤ 1
 one-if-le true = omega arith

@@ -2,10 +2,11 @@
 use mathlib.Core.Path.{_≡_, refl, sym, ap, _∙_}
 use mathlib.Core.Bool.{Bool, true, false, cond, not}
 use mathlib.Core.List.{List, [], _∷_, _++_}
-use Prim.Native.Nat.{ℕ, suc}
+use Prim.Native.Nat.{ℕ}
 use native.Mathlib.Omega.{arith}
 use lib.ListN.{length, drop}
 use Rattle.spec.proofs.Choice.{by}
+use Rattle.spec.proofs.JoinedPieces.{pieces-any, pieces-at}
 use Rattle.spec.proofs.ListLaws.{drop-while-le}
 use Rattle.spec.specs.Bytes.{isW}
 use Rattle.spec.specs.Lists.{isEmpty, takeWhile, dropWhile, keep}
@@ -30,25 +31,24 @@ full p = not (isEmpty p)
 abbrev cuts : List Marked → List Marked → List (List Marked)
 cuts back t = piecesFrom cutHere back t
 
--- the bytes before a place do not matter
-any-back : (b c t : List Marked) → cuts b t ≡ cuts c t
-unfolding piecesFrom
-any-back b c [] = refl
-any-back b c (x ∷ t) = rw (any-back (x ∷ b) (x ∷ c) t) refl
+-- the test looks at the front byte alone
+front-w : (back t : List Marked) (x : Marked) → cutHere back (x ∷ t) ≡ space x
+unfolding frontByte ofByte
+front-w back t x = refl
 
 cuts-w : (b : List Marked) (x : Marked) (t : List Marked) → isW (byte x) ≡ true → cuts b (x ∷ t) ≡ [] ∷ cuts b t
 unfolding piecesFrom frontByte
-cuts-w b x t e = rw (e, any-back (x ∷ b) b t) refl
+cuts-w b x t e = rw (e, pieces-any cutHere space front-w (x ∷ b) b t) refl
 
 cuts-byte : (b : List Marked) (x : Marked) (t : List Marked) → isW (byte x) ≡ false → cuts b (x ∷ t) ≡ ontoFirst x (cuts b t)
 unfolding piecesFrom frontByte
-cuts-byte b x t e = rw (e, any-back (x ∷ b) b t) refl
+cuts-byte b x t e = rw (e, pieces-any cutHere space front-w (x ∷ b) b t) refl
 
 while-w : (x : Marked) (t : List Marked) → isW (byte x) ≡ true → takeWhile inWord (x ∷ t) ≡ []
 unfolding takeWhile ofByte
 while-w x t e = rw e refl
 
-while-byte : (x : Marked) (t : List Marked) → isW (byte x) ≡ false → takeWhile inWord (x ∷ t) ≡ x ∷ takeWhile inWord t
+pub while-byte : (x : Marked) (t : List Marked) → isW (byte x) ≡ false → takeWhile inWord (x ∷ t) ≡ x ∷ takeWhile inWord t
 unfolding takeWhile ofByte
 while-byte x t e = rw e refl
 
@@ -56,7 +56,7 @@ behind-w : (x : Marked) (t : List Marked) → isW (byte x) ≡ true → dropWhil
 unfolding dropWhile ofByte
 behind-w x t e = rw e refl
 
-behind-byte : (x : Marked) (t : List Marked) → isW (byte x) ≡ false → dropWhile inWord (x ∷ t) ≡ dropWhile inWord t
+pub behind-byte : (x : Marked) (t : List Marked) → isW (byte x) ≡ false → dropWhile inWord (x ∷ t) ≡ dropWhile inWord t
 unfolding dropWhile ofByte
 behind-byte x t e = rw e refl
 
@@ -140,19 +140,6 @@ nothing = refl
 
 -- ---- a text cut at W
 
-cuts-none : cuts [] [] ≡ [] ∷ []
-unfolding piecesFrom
-cuts-none = refl
-
--- the pieces on both sides
-cuts-cut : (u : List Marked) (x : Marked) (t : List Marked) → isW (byte x) ≡ true → cuts [] (u ++ (x ∷ t)) ≡ cuts [] u ++ cuts [] t
-unfolding ontoFirst
-cuts-cut [] x t e = cuts-w [] x t e ∙ rw cuts-none refl
-cuts-cut (y ∷ u) x t e =
-    by (isW (byte y))
-    (λ w. rw (cuts-w [] y (u ++ (x ∷ t)) w, cuts-w [] y u w, cuts-cut u x t e) refl)
-    (λ w. rw (cuts-byte [] y (u ++ (x ∷ t)) w, cuts-byte [] y u w, cuts-cut u x t e, first-piece u) refl)
-
 keep-append : (s t : List (List Marked)) → keep full (s ++ t) ≡ keep full s ++ keep full t
 unfolding keep
 keep-append [] t = refl
@@ -160,9 +147,10 @@ keep-append (p ∷ s) t = by (full p) (λ e. rw (e, keep-append s t) refl) (λ e
 
 -- and the words
 pub words-cut : (u : List Marked) (x : Marked) (t : List Marked) → isW (byte x) ≡ true → words (u ++ (x ∷ t)) ≡ words u ++ words t
+unfolding pieces ofByte
 words-cut u x t e =
     sym (words-cuts (u ++ (x ∷ t)))
-    ∙ (ap (keep full) (cuts-cut u x t e) ∙ (keep-append (cuts [] u) (cuts [] t) ∙ rw (words-cuts u, words-cuts t) refl))
+    ∙ (ap (keep full) (pieces-at cutHere space front-w [] u t x e) ∙ (keep-append (cuts [] u) (cuts [] t) ∙ rw (words-cuts u, words-cuts t) refl))
 
 -- a text without W is one word
 pub words-one : (x : Marked) (t : List Marked) → isW (byte x) ≡ false → takeWhile inWord t ≡ t → dropWhile inWord t ≡ [] → words (x ∷ t) ≡ (x ∷ t) ∷ []

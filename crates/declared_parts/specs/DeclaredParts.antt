@@ -44,6 +44,10 @@ cutOf Nothing t = record { head = length t; rest = length t; present = 0 }
 unfoldable pub cutIn : List Marked → Cut
 cutIn t = cutOf (first defaultHere 0 t) t
 
+-- a mark is set if it is not 0
+abbrev pub isSet : ℕ → Bool
+isSet n = not (eqb n 0)
+
 -- the text xs is the word w, in any letter case
 unfoldable pub isText : List ℕ → List ℕ → Bool
 isText w xs = eqb (length xs) (length w) && prefixBy upper w xs
@@ -84,7 +88,7 @@ typeIn xs =
     record {
       from = start + front;
       to = start + front + typeLen rest;
-      constant = oneIf (not (eqb front 0));
+      constant = oneIf (isSet front);
       «not_null» = oneIf (not (eqb (typeLen rest) (length rest)));
     }
 
@@ -95,10 +99,6 @@ valueOf present text = cond (eqb present 0) none (some (requotedDefault text))
 -- ten numbers as of a record, but the places are those of the name, the type's words and the default in the text xs
 unfoldable pub defaultBy : List ℕ → List ℕ → Option (List ℕ)
 defaultBy xs ns = valueOf (getD ns 5 0) (take (getD ns 7 0) (drop (getD ns 6 0) xs))
-
--- a flag is set if it is not 0
-abbrev pub isSet : ℕ → Bool
-isSet n = not (eqb n 0)
 
 unfoldable pub declaredBy : List ℕ → List ℕ → Declared
 declaredBy xs ns =
@@ -118,7 +118,7 @@ partNumbers p =
 unfoldable pub readOf : List ℕ → DeclarationPlaces → Option Declared
 readOf xs p = cond (eqb (p .«kind_len») 0) none (some (declaredBy xs (partNumbers p)))
 
--- its places and lengths are at most n, its flags at most 1
+-- its places and lengths are at most n, its marks and the default's flag at most 1
 pub record Within (n : ℕ) (p : DeclarationPlaces) : Type 0 where
   pub name : p .name ≤ n
   pub nameLen : p .«name_len» ≤ n

@@ -15,11 +15,12 @@ use Rattle.spec.proofs.MapLaws.{map-append}
 use Rattle.spec.proofs.ListLaws.{concat-append}
 use Rattle.spec.proofs.LengthLaws.{word-in}
 use Rattle.spec.proofs.JoinedPieces.{pieces-cons}
+use Rattle.spec.proofs.JoinedPieces as joined-pieces
 use Rattle.spec.specs.Bytes.{ascii, within, isLower, isWord, isQuote, upper}
 use Rattle.spec.specs.Lists.{all}
 use Rattle.spec.specs.Spans.{lexemes}
 use Rattle.spec.specs.Map.{Marked, live, quoted, byte, lives, markedText, isLiveByte, frontByte, frontLive}
-use Rattle.spec.specs.Search.{startsIgnoringCase, wordHere, byteHere, ontoFirst, piecesFrom, pieces}
+use Rattle.spec.specs.Search.{startsIgnoringCase, wordHere, byteHere, piecesFrom, pieces}
 use Rattle.spec.specs.Requote.{requoteLexeme, requoted}
 use Rattle.spec.specs.Elsif.{elsifFrom, elsif}
 use Rattle.spec.specs.Outcome.{Outcome, accepted, refused, _⊕_}
@@ -165,26 +166,14 @@ elsif-join t u =
 
 -- ---- statements
 
-onto-append : (x : Marked) (p : List Marked) (ps qs : List (List Marked)) → ontoFirst x (p ∷ (ps ++ qs)) ≡ ontoFirst x (p ∷ ps) ++ qs
-unfolding ontoFirst
-onto-append x p ps qs = refl
-
--- pieces between live bytes do not look at what stands before
-pieces-any : (b : ℕ) (back past t : List Marked) → piecesFrom (byteHere b) back t ≡ piecesFrom (byteHere b) past t
-unfolding piecesFrom byteHere
-pieces-any b back past [] = refl
-pieces-any b back past (x ∷ t) = rw (pieces-any b (x ∷ back) (x ∷ past) t)
+-- the test for `;` looks at the front byte alone
+front-semicolon : (back t : List Marked) (x : Marked) → byteHere 59 back (x ∷ t) ≡ isLiveByte 59 x
+unfolding byteHere
+front-semicolon back t x = refl
 
 -- a live `;` ends the pieces before it, and those behind it start anew
 pub pieces-at : (back s u : List Marked) → piecesFrom (byteHere 59) back (s ++ (live 59 ∷ u)) ≡ piecesFrom (byteHere 59) back s ++ pieces (byteHere 59) u
-unfolding piecesFrom byteHere pieces
-pieces-at back [] u = ap (λ (l : List (List Marked)). [] ∷ l) (pieces-any 59 (live 59 ∷ back) [] u)
-pieces-at back (x ∷ s) u =
-    let w = pieces-cons (byteHere 59) (x ∷ back) s in
-    rw (pieces-at (x ∷ back) s u)
-    (by (isLiveByte 59 x)
-    (λ e. rw e)
-    (λ e. rw (e, w .2) (onto-append x (w .0) (w .1) (piecesFrom (byteHere 59) [] u))))
+pieces-at back s u = joined-pieces.pieces-at (byteHere 59) (isLiveByte 59) front-semicolon back s u (live 59) refl
 
 -- ---- pass 3
 

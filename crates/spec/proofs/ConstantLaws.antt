@@ -2,7 +2,7 @@
 -- the words that stood behind the name, letter case aside; and there is no record exactly if no other word stood there.
 -- Assumes nothing.
 use mathlib.Core.Path.{_≡_, refl, sym, ap, _∙_}
-use mathlib.Core.Bool.{Bool, true, false, cond, false≢true}
+use mathlib.Core.Bool.{Bool, true, false, cond, _&&_, and-true, false≢true}
 use mathlib.Core.List.{List, [], _∷_, _++_, map, append-nil}
 use mathlib.Core.Logic.{_↔_}
 use mathlib.Core.Option.{Option, none, some}
@@ -49,6 +49,18 @@ two-are a b ws h =
     let g = first-is b [] (f .1) (f .4) in
     (f .0, g .0, cc (f .2, g .2, none-are (g .1) (g .4)), f .3, g .3)
 
+-- the first word decides, and the last two
+pub constant-first : (w : List Marked) (us : List (List Marked)) → isConstant (w ∷ us) ≡ isWordText (ascii "CONSTANT") w
+unfolding isConstant areWords
+constant-first w us = and-true (isWordText (ascii "CONSTANT") w)
+
+pub not-null-last : (us : List (List Marked)) (v w : List Marked)
+    → isNotNull (us ++ (v ∷ w ∷ [])) ≡ (isWordText (ascii "NOT") v && isWordText (ascii "NULL") w)
+unfolding isNotNull areWords
+not-null-last us v w =
+    let n : length (us ++ (v ∷ w ∷ [])) - 2 ≡ length us = omega (arith, length-append us (v ∷ w ∷ [])) in
+    rw (n, drop-at us (v ∷ w ∷ []) (length us) refl, and-true (isWordText (ascii "NULL") w)) refl
+
 -- a declaration is marked CONSTANT exactly if the first word behind its name is CONSTANT
 pub constant-says : (ws : List (List Marked)) → (isConstant ws ≡ true)
     ↔ ((w : List Marked) × (us : List (List Marked)) × (ws ≡ w ∷ us) × (isWordText (ascii "CONSTANT") w ≡ true))
@@ -57,7 +69,7 @@ constant-says ws = (
   λ h.
       let f = first-is (ascii "CONSTANT") [] (take 1 ws) h in
       (f .0, f .1 ++ drop 1 ws, sym (take-append-drop 1 ws) ∙ ap (λ (l : List (List Marked)). l ++ drop 1 ws) (f .2), f .3),
-  λ s. rw (s .2) (and-both (isWordText (ascii "CONSTANT") (s .0)) true (s .3) refl),
+  λ s. ap isConstant (s .2) ∙ (constant-first (s .0) (s .1) ∙ s .3),
 )
 
 -- and NOT NULL exactly if the last two words of what is left are NOT and NULL
@@ -71,10 +83,8 @@ not-null-says ws =
           let f = two-are (ascii "NOT") (ascii "NULL") (drop i ws) h in
           (take i ws, f .0, f .1, sym (take-append-drop i ws) ∙ ap (λ (l : List (List Marked)). take i ws ++ l) (f .2), f .3, f .4),
       λ s.
-          let end = s .1 ∷ s .2 ∷ [] in
-          let n : length (s .0) ≡ i = omega (arith, ap length (s .3), length-append (s .0) end) in
-          rw (ap (λ (l : List (List Marked)). drop i l) (s .3), drop-at (s .0) end i n)
-          (and-both (isWordText (ascii "NOT") (s .1)) _ (s .4) (and-both (isWordText (ascii "NULL") (s .2)) true (s .5) refl)),
+          ap isNotNull (s .3)
+          ∙ (not-null-last (s .0) (s .1) (s .2) ∙ and-both (isWordText (ascii "NOT") (s .1)) (isWordText (ascii "NULL") (s .2)) (s .4) (s .5)),
     )
 
 -- ---- the words that stood behind the name
@@ -210,12 +220,12 @@ module _ (n : List Marked) (ws : List (List Marked)) (o : Option (List ℕ)) whe
 -- ---- the words put back
 
 -- each text behind a space
-abbrev spaced : List (List ℕ) → List ℕ
-spaced texts = concat (map (λ (u : List ℕ). 32 ∷ u) texts)
+abbrev behindSpaces : List (List ℕ) → List ℕ
+behindSpaces texts = concat (map (λ (u : List ℕ). 32 ∷ u) texts)
 
 -- texts joined by single spaces: each behind one, but for the first
 unfoldable pub joinTexts : List (List ℕ) → List ℕ
-joinTexts texts = drop 1 (spaced texts)
+joinTexts texts = drop 1 (behindSpaces texts)
 
 -- this is how words are joined
 pub join-words : (ws : List (List Marked)) → joinWords ws ≡ joinTexts (map bytes ws)
@@ -232,15 +242,15 @@ join-inside us vs [] h = absurd (false≢true (sym h))
 join-inside us vs (w ∷ ws) h = rw (join-words (w ∷ ws)) (simp (map-append, concat-append))
 
 -- texts may be put in capitals first
-spaced-capitals : (texts : List (List ℕ)) → map upper (spaced texts) ≡ spaced (map (map upper) texts)
+behind-capitals : (texts : List (List ℕ)) → map upper (behindSpaces texts) ≡ behindSpaces (map (map upper) texts)
 unfolding concat upper isLower within
-spaced-capitals [] = refl
-spaced-capitals (u ∷ us) = rw (map-append upper u (spaced us), spaced-capitals us)
+behind-capitals [] = refl
+behind-capitals (u ∷ us) = rw (map-append upper u (behindSpaces us), behind-capitals us)
 
 join-capitals : (texts : List (List ℕ)) → map upper (joinTexts texts) ≡ joinTexts (map (map upper) texts)
 unfolding joinTexts concat
 join-capitals [] = refl
-join-capitals (u ∷ us) = ap (drop 1) (spaced-capitals (u ∷ us))
+join-capitals (u ∷ us) = ap (drop 1) (behind-capitals (u ∷ us))
 
 -- a word that is a text in any letter case is the text once both are in capitals; so of a list
 word-capitals : (a : List ℕ) (w : List Marked) → length w ≡ length a → startsIgnoringCase a w ≡ true → map upper (bytes w) ≡ map upper a
@@ -265,21 +275,21 @@ are-capitals (a ∷ texts) ws h =
 unfoldable pub putBack : Declared → List ℕ
 putBack d = joinTexts (constantTexts (d .constant) ++ (d .type ∷ notNullTexts (d .notNull)))
 
+-- the words as they stood around the type, letter for letter
+pub stood-exactly : (ws : List (List Marked)) (d : Declared) (s : Stood ws d)
+    → joinWords ws ≡ joinTexts (map bytes (s .front) ++ (d .type ∷ map bytes (s .end)))
+stood-exactly ws d s =
+    rw (s .type, join-inside (map bytes (s .front)) (map bytes (s .end)) (s .kept) (s .not-empty), join-words ws)
+    (ap (λ (l : List (List Marked)). joinTexts (map bytes l)) (s .whole) ∙ simp map-append refl)
+
 -- so put back, they give the words that stood there, letter case aside
-stood-back : (ws : List (List Marked)) (d : Declared) → Stood ws d → map upper (putBack d) ≡ map upper (joinWords ws)
+pub stood-back : (ws : List (List Marked)) (d : Declared) → Stood ws d → map upper (putBack d) ≡ map upper (joinWords ws)
 unfolding putBack
 stood-back ws d s =
     let us = constantTexts (d .constant) in
     let vs = notNullTexts (d .notNull) in
     rw (s .type, join-inside us vs (s .kept) (s .not-empty), join-words ws, s .whole)
     (simp (join-capitals, map-append) (rw (are-capitals us (s .front) (s .front-words), are-capitals vs (s .end) (s .end-words))))
-
--- that is all words behind the record's name: what its type was before Note 5
-pub put-back : (ws : List (List Marked)) (o : Option (List ℕ)) (d : Declared) → declaredOf ws o ≡ some d
-    → map upper (putBack d) ≡ map upper (joinWords (drop 1 ws))
-unfolding declaredOf
-put-back [] o d e = absurd (apart (cc))
-put-back (n ∷ ws) o d e = stood-back ws d (words-stood n ws o d e)
 
 -- ---- of a part, and of a text
 
@@ -288,20 +298,31 @@ abbrev pub aheadOf : Found → List Marked → List Marked
 aheadOf (At i) t = take i t
 aheadOf Nothing t = t
 
--- a part's type before Note 5: all words behind the name, ahead of the leftmost default key, joined by single spaces
-unfoldable pub typeBefore : List Marked → List ℕ
-typeBefore part =
-    let t = trim part in
-    joinWords (drop 1 (words (aheadOf (first defaultHere 0 t) t)))
+-- the words behind a part's name, ahead of its leftmost default key; joined by single spaces they were its type before Note 5
+abbrev pub typeWords : List Marked → List (List Marked)
+typeWords part = drop 1 (words (aheadOf (first defaultHere 0 (trim part)) (trim part)))
 
--- the words put back around the type of a part's record give that
-pub part-put-back : (part : List Marked) (d : Declared) → declaration part ≡ some d → map upper (putBack d) ≡ map upper (typeBefore part)
-unfolding declaration partAt typeBefore
-part-put-back part d e = go (first defaultHere 0 (trim part)) e
+unfoldable pub typeBefore : List Marked → List ℕ
+typeBefore part = joinWords (typeWords part)
+
+named-stood : (ws : List (List Marked)) (o : Option (List ℕ)) (d : Declared) → declaredOf ws o ≡ some d → Stood (drop 1 ws) d
+unfolding declaredOf
+named-stood [] o d e = absurd (apart (cc))
+named-stood (n ∷ ws) o d e = words-stood n ws o d e
+
+-- of a part with a record: its type, and around it the words that its marks say
+pub part-stood : (part : List Marked) (d : Declared) → declaration part ≡ some d → Stood (typeWords part) d
+unfolding declaration partAt
+part-stood part d e = go (first defaultHere 0 (trim part)) e
   where
-    go : (f : Found) → partAt f (trim part) ≡ some d → map upper (putBack d) ≡ map upper (joinWords (drop 1 (words (aheadOf f (trim part)))))
-    go (At i) q = put-back _ _ d q
-    go Nothing q = put-back _ none d q
+    go : (f : Found) → partAt f (trim part) ≡ some d → Stood (drop 1 (words (aheadOf f (trim part)))) d
+    go (At i) q = named-stood _ _ d q
+    go Nothing q = named-stood _ none d q
+
+-- so the words put back give the type of before Note 5
+pub part-put-back : (part : List Marked) (d : Declared) → declaration part ≡ some d → map upper (putBack d) ≡ map upper (typeBefore part)
+unfolding typeBefore
+part-put-back part d e = stood-back (typeWords part) d (part-stood part d e)
 
 -- a name's record is that of some part, or was there before
 last-part : {P : Type 0} (n : List ℕ) (ps : List (List Marked)) (r : Option Declared) (d : Declared) → lastNamed n ps r ≡ some d
@@ -313,8 +334,10 @@ last-part n (p ∷ ps) r d e f g =
     (by (partDeclares n p) (λ h. rw h (g 0 p refl)) (λ h. rw h f))
     (λ i. g (suc i))
 
--- every record of a text is that of some part, and the words put back around its type give the type of before Note 5
+-- every record of a text is that of some part: so these words stood there, and put back they give the type of before Note 5
 pub record-put-back : (n xs : List ℕ) (d : Declared) → recordNamed n (recordsOf xs) ≡ some d
-    → (i : ℕ) × (p : List Marked) × (getElem? (partsOf xs) i ≡ some p) × (declaration p ≡ some d) × (map upper (putBack d) ≡ map upper (typeBefore p))
+    → (i : ℕ) × (p : List Marked) × (getElem? (partsOf xs) i ≡ some p) × (declaration p ≡ some d) × Stood (typeWords p) d
+    × (map upper (putBack d) ≡ map upper (typeBefore p))
 record-put-back n xs d e =
-    last-part n (partsOf xs) none d (sym (records-named n xs) ∙ e) (λ h. absurd (apart (cc))) (λ i p a b. (i, p, a, b, part-put-back p d b))
+    last-part n (partsOf xs) none d (sym (records-named n xs) ∙ e) (λ h. absurd (apart (cc)))
+    (λ i p a b. (i, p, a, b, part-stood p d b, part-put-back p d b))

@@ -45,7 +45,7 @@ constant-not-null-twice : recordOf "a CONSTANT NOT NULL NOT NULL" ≡ oneRecord 
 unfolding tabled
 constant-not-null-twice = refl
 
--- ---- what gives no mark
+-- ---- what gives no mark, or not the one for NOT NULL
 
 -- one of the two words, or the two and then another
 not-alone : recordOf "a CONSTANT NOT" ≡ oneRecord "a" "NOT" none true false

@@ -29,7 +29,7 @@ module _ {A : Type 0} (f : A → Bool) where
   drop-end-gone [] b e = e
   drop-end-gone (x ∷ a) b e = rw (drop-end-gone a b e) refl
 
-  some-behind : (a b : List A) → 0 < length b → isEmpty (a ++ b) ≡ false
+  pub some-behind : (a b : List A) → 0 < length b → isEmpty (a ++ b) ≡ false
   unfolding isEmpty
   some-behind [] [] h = absurd (omega arith)
   some-behind [] (y ∷ b) h = refl

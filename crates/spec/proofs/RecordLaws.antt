@@ -14,7 +14,7 @@ use Rattle.spec.specs.Bytes.{ascii, isSame}
 use Rattle.spec.specs.Lists.{any}
 use Rattle.spec.specs.Map.{Marked, markedText}
 use Rattle.spec.specs.Search.{first, keywordHere, byteHere, pieces}
-use Rattle.spec.specs.Declarations.{Declared, declaration, declare, declareMaybe, declareAll, declareSection, recordsOf, recordWidth, packedRecord, packed, textOr, headNext, nextOf, defaultNumbers, oneIf, recordAt, recordsAt, numbersOf}
+use Rattle.spec.specs.Declarations.{Declared, declaration, declare, declareMaybe, declareAll, declareSection, recordsOf, recordWidth, packedRecord, packed, textOr, headNext, nextOf, defaultNumbers, markNumbers, oneIf, recordAt, recordsAt, numbersOf}
 
 -- the record has this name
 abbrev pub named : List ℕ → Declared → Bool
@@ -237,15 +237,17 @@ numberAt ds k j = getD (numbersOf ds) (recordWidth * k + j) 0
 unfoldable pub startOf : List Declared → ℕ → ℕ
 startOf ds i = length (packed (take i ds))
 
--- a record has ten numbers
+-- a default has three numbers, a record ten
+pub default-three : (o : Option (List ℕ)) (at : ℕ) → length (defaultNumbers o at) ≡ 3
+unfolding defaultNumbers
+default-three none at = refl
+default-three (some xs) at = refl
+
 pub record-length : (all : List Declared) (at : ℕ) (d : Declared) → length (recordAt all at d) ≡ recordWidth
-unfolding recordAt recordWidth defaultNumbers
-record-length all at d = go (d .default) (at + length (d .name) + length (d .type))
-  where
-    go : (o : Option (List ℕ)) (n : ℕ)
-        → suc (suc (suc (suc (suc (length (defaultNumbers o n ++ (oneIf (d .constant) ∷ oneIf (d .notNull) ∷ []))))))) ≡ 10
-    go none n = refl
-    go (some xs) n = refl
+unfolding recordAt recordWidth
+record-length all at d =
+    let n = at + length (d .name) + length (d .type) in
+    omega (arith, length-append (defaultNumbers (d .default) n) (markNumbers d), default-three (d .default) n)
 
 records-length : (all : List Declared) (at : ℕ) (ds : List Declared) → length (recordsAt all at ds) ≡ recordWidth * length ds
 unfolding recordsAt recordWidth
@@ -353,19 +355,24 @@ module _ (ds : List Declared) (i : ℕ) (d : Declared) (h : getElem? ds i ≡ so
       let cut : packed ds ≡ (u ++ d .name) ++ (d .type ++ w) = packed-around ds i d h ∙ simp append-assoc in
       rw cut (text-at (u ++ d .name) (d .type) w _ _ (length-append u (d .name) ∙ sym number-type) (sym number-type-length))
 
-  default-numbers : (j : ℕ) → j < 3
-      → numberAt ds (suc i) (5 + j) ≡ getD (defaultNumbers (d .default) (startOf ds i + length (d .name) + length (d .type))) j 0
-  unfolding recordAt recordWidth defaultNumbers
+  abbrev defaultAt : ℕ
+  defaultAt = startOf ds i + length (d .name) + length (d .type)
+
+  -- the default's three numbers, and the marks behind them
+  default-numbers : (j : ℕ) → j < 3 → numberAt ds (suc i) (5 + j) ≡ getD (defaultNumbers (d .default) defaultAt) j 0
+  unfolding recordAt recordWidth
   default-numbers j l =
-      let at = startOf ds i + length (d .name) + length (d .type) in
-      let marks = oneIf (d .constant) ∷ oneIf (d .notNull) ∷ [] in
       number-of ds i (5 + j) d h (omega arith)
-      ∙ (getD-append-add (take 5 (recordAt ds (startOf ds i) d)) (defaultNumbers (d .default) at ++ marks) j 0
-      ∙ List·getD-append (defaultNumbers (d .default) at) marks 0 j (rw (three (d .default) at) l))
-    where
-      three : (o : Option (List ℕ)) (n : ℕ) → length (defaultNumbers o n) ≡ 3
-      three none n = refl
-      three (some xs) n = refl
+      ∙ (getD-append-add (take 5 (recordAt ds (startOf ds i) d)) (defaultNumbers (d .default) defaultAt ++ markNumbers d) j 0
+      ∙ List·getD-append (defaultNumbers (d .default) defaultAt) (markNumbers d) 0 j (rw (default-three (d .default) defaultAt) l))
+
+  mark-numbers : (j : ℕ) → j < 2 → numberAt ds (suc i) (8 + j) ≡ getD (markNumbers d) j 0
+  unfolding recordAt recordWidth
+  mark-numbers j l =
+      let n : 8 + j ≡ 5 + (length (defaultNumbers (d .default) defaultAt) + j) = omega (arith, default-three (d .default) defaultAt) in
+      number-of ds i (8 + j) d h (omega arith)
+      ∙ (rw n (getD-append-add (take 5 (recordAt ds (startOf ds i) d)) (defaultNumbers (d .default) defaultAt ++ markNumbers d) (length (defaultNumbers (d .default) defaultAt) + j) 0)
+      ∙ getD-append-add (defaultNumbers (d .default) defaultAt) (markNumbers d) j 0)
 
   -- 1, start and length where a default is present, empty or not
   pub default-flag : (xs : List ℕ) → d .default ≡ some xs → numberAt ds (suc i) 5 ≡ 1
@@ -403,19 +410,6 @@ module _ (ds : List Declared) (i : ℕ) (d : Declared) (h : getElem? ds i ≡ so
   no-default e j l = (rw e at (default-numbers j l)) ∙ getD-replicate 3 j 0 0 l
 
   -- Note 5: its last two numbers are its marks
-  mark-numbers : (j : ℕ) → j < 2 → numberAt ds (suc i) (8 + j) ≡ getD (oneIf (d .constant) ∷ oneIf (d .notNull) ∷ []) j 0
-  unfolding recordAt recordWidth defaultNumbers
-  mark-numbers j l =
-      number-of ds i (8 + j) d h (omega arith)
-      ∙ go (d .default) (nextOf ds (d .name)) (startOf ds i) (length (d .name)) (startOf ds i + length (d .name)) (length (d .type))
-    where
-      go : (o : Option (List ℕ)) (a b c e f : ℕ)
-          → getD (a ∷ b ∷ c ∷ e ∷ f ∷ (defaultNumbers o (e + f) ++ (oneIf (d .constant) ∷ oneIf (d .notNull) ∷ []))) (8 + j) 0
-          ≡ getD (oneIf (d .constant) ∷ oneIf (d .notNull) ∷ []) j 0
-      go none a b c e f = getD-append-add (a ∷ b ∷ c ∷ e ∷ f ∷ 0 ∷ 0 ∷ 0 ∷ []) (oneIf (d .constant) ∷ oneIf (d .notNull) ∷ []) j 0
-      go (some xs) a b c e f =
-          getD-append-add (a ∷ b ∷ c ∷ e ∷ f ∷ 1 ∷ (e + f) ∷ length xs ∷ []) (oneIf (d .constant) ∷ oneIf (d .notNull) ∷ []) j 0
-
   pub number-constant : numberAt ds (suc i) 8 ≡ oneIf (d .constant)
   number-constant = mark-numbers 0 (omega arith)
 

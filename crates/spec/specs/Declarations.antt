@@ -86,7 +86,7 @@ behindConstant ws = cond (isConstant ws) (drop 1 ws) ws
 unfoldable pub aheadOfNotNull : List (List Marked) → List (List Marked)
 aheadOfNotNull ws = cond (isNotNull ws) (take (length ws - 2) ws) ws
 
--- name, then type; Note 5: where no type is left there is no record
+-- name, then type; fewer than two words or, by Note 5, no type left: no record
 unfoldable pub declaredOf : List (List Marked) → Option (List ℕ) → Option Declared
 declaredOf [] d = none
 declaredOf (n ∷ ws) d =
@@ -207,8 +207,12 @@ defaultNumbers (some xs) at = 1 ∷ at ∷ length xs ∷ []
 abbrev pub oneIf : Bool → ℕ
 oneIf b = cond b 1 0
 
+-- Note 5: 1 if CONSTANT stood before the type, and 1 if NOT NULL closed it, else 0
+abbrev pub markNumbers : Declared → List ℕ
+markNumbers d = oneIf (d .constant) ∷ oneIf (d .notNull) ∷ []
+
 -- a record whose texts are packed from this offset: next, name start and length, type start and length, the default's three;
--- Note 5: at its end 1 if CONSTANT stood before the type, and 1 if NOT NULL closed it, else 0
+-- Note 5: the two new ones at its end
 unfoldable pub recordAt : List Declared → ℕ → Declared → List ℕ
 recordAt all at d =
     let typeAt = at + length (d .name) in
@@ -217,7 +221,7 @@ recordAt all at d =
     ∷ length (d .name)
     ∷ typeAt
     ∷ length (d .type)
-    ∷ (defaultNumbers (d .default) (typeAt + length (d .type)) ++ (oneIf (d .constant) ∷ oneIf (d .notNull) ∷ []))
+    ∷ (defaultNumbers (d .default) (typeAt + length (d .type)) ++ markNumbers d)
 
 unfoldable pub recordsAt : List Declared → ℕ → List Declared → List ℕ
 recordsAt all at [] = []

@@ -146,6 +146,8 @@ mod tests {
             ("a CONSTANT int NOT NULL := 1", "int", BOTH),
             ("a constant int not null DEFAULT 1", "int", BOTH),
             ("a cOnStAnT t.b%TYPE nOt NuLl", "t.b%TYPE", BOTH),
+            ("a int NOT  NULL", "int", NOT_NULL_ALONE),
+            ("a int not\nnull", "int", NOT_NULL_ALONE),
             ("a CONSTANT\x0bnumeric(1, 2)\x0cNOT\rNULL", "numeric(1, 2)", BOTH),
         ]);
     }
@@ -175,8 +177,6 @@ mod tests {
         check(&[
             ("a CONSTANTS int", "CONSTANTS int", NEITHER),
             ("a \"CONSTANT\" int", "\"CONSTANT\" int", NEITHER),
-            ("a int NOT  NULL", "int", NOT_NULL_ALONE),
-            ("a int not\nnull", "int", NOT_NULL_ALONE),
             ("a int NOTNULL", "int NOTNULL", NEITHER),
             ("a intNOT NULL", "intNOT NULL", NEITHER),
             ("a int NOT NULLS", "int NOT NULLS", NEITHER),

@@ -119,3 +119,26 @@ fn is_record_of(record: &[u32], text: &[u8], expected: &Declaration) -> bool {
         && part(3).is_some_and(is_type)
         && default == expected.default.as_ref().map(String::as_bytes)
 }
+
+#[cfg(test)]
+mod tests {
+    use super::*;
+
+    /// A record without a mark and with the word in its type meets the note's condition, which puts no
+    /// word back there. Only the exact records tell it from the right one.
+    #[test]
+    fn a_record_that_is_not_marked_is_noticed() {
+        let published = Declaration {
+            name: "a".to_string(),
+            data_type: "CONSTANT int".to_string(),
+            default: None,
+        };
+        let order = ["a".to_string()];
+        let list = [published];
+        let unmarked = Records::new(&order, &[Variable::unmarked("a", "CONSTANT int", None)]);
+        let wanted = Records::new(&order, &Variable::all(&list).unwrap());
+        assert!(chain_leads_through(&unmarked.text, &unmarked.numbers, &list));
+        assert!(chain_leads_through(&wanted.text, &wanted.numbers, &list));
+        assert_ne!(unmarked, wanted);
+    }
+}

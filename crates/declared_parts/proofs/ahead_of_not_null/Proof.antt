@@ -1,12 +1,13 @@
 -- `declared_parts::ahead_of_not_null` meets its contract. `type-by` gives the definition by the last word and the last one
--- ahead of it; the three returns are its three cases. Assumes nothing.
+-- ahead of it; `by-not` is what it says where the last word is NULL. Assumes nothing.
 use native.Mathlib.Omega.{arith}
 use mathlib.Core.Path.{_≡_, refl, sym, _∙_}
+use mathlib.Core.Bool.{cond}
 use Prim.Native.Nat.{_≤_}
 use lib.ListN.{length, take}
 use lib.Seq.{length-take-le}
 use Rattle.declared_parts.proofs.TypePlaceLaws.{type-by}
-use Rattle.declared_parts.specs.DeclaredParts.{lastWord}
+use Rattle.declared_parts.specs.DeclaredParts.{lastWord, typeLen}
 use borrow.Author.Needs.{needs}
 use Rattle.declared_parts.proofs.ahead_of_not_null.Statement.{statement}
 use Rattle.declared_parts.proofs.ahead_of_not_null.Tie as tie
@@ -14,6 +15,22 @@ use Rattle.declared_parts.proofs.ahead_of_not_null.Tie as tie
 -- the last word starts within the text
 from-inside : (c : tie.After-last-word) → c .last-word .result .from ≤ length (c .before .before .args .text .now)
 from-inside c = omega (arith, c .last-word .ensures .1 .0, c .last-word .ensures .1 .1)
+
+-- where the last word is NULL, the test of the word ahead of it decides
+by-not : (c : tie.After-is-text2) →
+    let at-second = c .before .before .before in
+    let at-last = at-second .before .before .before .before .before .before in
+    let xs = at-last .before .before .args .text .now in
+    typeLen xs ≡ cond (c .is-text2 .result) (at-second .last-word2 .result .from) (length xs)
+by-not c =
+    let at-second = c .before .before .before in
+    let at-if1 = at-second .before .before in
+    let at-last = at-if1 .before .before .before .before in
+    let xs = at-last .before .before .args .text .now in
+    let l = at-last .last-word in
+    let m = at-second .last-word2 in
+    let null-is = sym (at-if1 .before .is-text .ensures) ∙ at-if1 .if1 .taken in
+    type-by xs (l .result) (m .result) (l .ensures .0) (m .ensures .0) ∙ rw (null-is, sym (c .is-text2 .ensures)) refl
 
 last-word-requires : tie.Need-last-word-requires
 last-word-requires c κs = search needs
@@ -60,27 +77,14 @@ is-text-requires-2 c κs = search needs
 returns : tie.Need-returns
 returns c =
     let at-second = c .before .before .before .before in
-    let at-if1 = at-second .before .before in
-    let at-last = at-if1 .before .before .before .before in
-    let xs = at-last .before .before .args .text .now in
-    let l = at-last .last-word in
+    let at-last = at-second .before .before .before .before .before .before in
     let m = at-second .last-word2 in
-    let null-is = sym (at-if1 .before .is-text .ensures) ∙ at-if1 .if1 .taken in
-    let not-is = sym (c .before .is-text2 .ensures) ∙ c .if2 .taken in
     let inside = from-inside at-last in
-    (sym (type-by xs (l .result) (m .result) (l .ensures .0) (m .ensures .0) ∙ rw (null-is, not-is) refl), omega (arith, m .ensures .1 .0, m .ensures .1 .1, length-take-le (l .result .from) xs inside, inside))
+    let front = length-take-le (at-last .last-word .result .from) (at-last .before .before .args .text .now) inside in
+    (sym (by-not (c .before) ∙ rw (c .if2 .taken) refl), omega (arith, m .ensures .1 .0, m .ensures .1 .1, front, inside))
 
 returns-2 : tie.Need-returns-2
-returns-2 c =
-    let at-second = c .before .before .before .before in
-    let at-if1 = at-second .before .before in
-    let at-last = at-if1 .before .before .before .before in
-    let xs = at-last .before .before .args .text .now in
-    let l = at-last .last-word in
-    let m = at-second .last-word2 in
-    let null-is = sym (at-if1 .before .is-text .ensures) ∙ at-if1 .if1 .taken in
-    let not-is = sym (c .before .is-text2 .ensures) ∙ c .if2 .left in
-    (sym (type-by xs (l .result) (m .result) (l .ensures .0) (m .ensures .0) ∙ rw (null-is, not-is) refl), omega arith)
+returns-2 c = (sym (by-not (c .before) ∙ rw (c .if2 .left) refl), omega arith)
 
 returns-3 : tie.Need-returns-3
 returns-3 c =

@@ -1,7 +1,7 @@
 -- `declared_parts::constant_len` meets its contract. `constant-by` gives the definition by the place where the first word ends.
 -- Assumes nothing.
 use native.Mathlib.Omega.{arith}
-use mathlib.Core.Path.{_≡_, refl, sym, _∙_}
+use mathlib.Core.Path.{refl, sym, _∙_}
 use lib.Seq.{length-take-le}
 use Rattle.declared_parts.proofs.TypePlaceLaws.{constant-by}
 use borrow.Author.Needs.{needs}

@@ -1,12 +1,11 @@
 -- `declared_parts::read_type` meets its contract. `places-by` gives the definition by what the calls answered; `start-inside`
 -- and `from-inside` say that what they are lent stands within the text. Assumes nothing.
 use native.Mathlib.Omega.{arith}
-use mathlib.Core.Path.{_≡_, refl, sym, ap, _∙_}
+use mathlib.Core.Path.{ap}
 use Prim.Native.Nat.{_+_, _-_, _≤_}
 use mathlib.Core.Bool.{not}
 use lib.Dec.{eqb}
 use lib.ListN.{length, take, drop, length-drop}
-use lib.Seq.{length-take-le}
 use Rattle.spec.proofs.AheadLaws.{rest-of}
 use Rattle.declared_parts.proofs.TypePlaceLaws.{one-if-le, places-by}
 use borrow.Author.Needs.{needs}

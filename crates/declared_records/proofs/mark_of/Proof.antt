@@ -1,5 +1,5 @@
 -- `declared_records::mark_of` meets its contract. The test decides the definition's `cond`. Assumes nothing.
-use mathlib.Core.Path.{refl, sym, _∙_}
+use mathlib.Core.Path.{refl, sym}
 use borrow.Author.Tests.{eq-eqb, ne-eqb}
 use borrow.Author.Needs.{needs}
 use Rattle.declared_records.proofs.mark_of.Statement.{statement}
