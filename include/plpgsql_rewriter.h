@@ -77,9 +77,12 @@ enum plpgsql_number {
     PLPGSQL_NOT_ASCII = 2,        /* a byte over 127, in the text or in what is sought */
     PLPGSQL_BUFFER_TOO_SHORT = 3, /* a lent buffer is shorter than it must be */
     PLPGSQL_QUALIFIED_TARGET = 4, /* an assignment to a qualified target q.n, such as NEW.v */
-    PLPGSQL_USING_CLAUSE = 5,     /* USING directly behind RAISE EXCEPTION, with no translation */
+    PLPGSQL_USING_CLAUSE = 5,     /* USING directly behind the level of a RAISE, with no translation */
     PLPGSQL_RESULT_TOO_LONG = 6,  /* the result of a pass is longer than 65,536 bytes */
-    PLPGSQL_TOO_MANY_NAMES = 7    /* over 512 different names are declared */
+    PLPGSQL_TOO_MANY_NAMES = 7,   /* over 512 different names are declared */
+    PLPGSQL_MALFORMED_LINE = 11,  /* a line of the table of levels is malformed */
+    PLPGSQL_REPEATED_LEVEL = 12,  /* the table gives a level twice */
+    PLPGSQL_MISSING_LEVEL = 13    /* the table lacks a level */
 };
 
 /* ---- The rewriting calls ----
@@ -93,10 +96,12 @@ enum plpgsql_number {
  *   4: place is the length of q; the output holds `q.n`; records 0.
  *   5: place 0; the output holds the clause from USING on; records 0.
  *   6: place 0, length 0, records 0.
- *   7: place 0, length 0, records 0. Only plpgsql_preprocess gives it.
+ *   7: place 0, length 0, records 0. Only plpgsql_preprocess and plpgsql_preprocess_by_levels give it.
+ *   11, 12: place is the offset of the table's first bad line; length 0, records 0.
+ *   13: place is the table's length; length 0, records 0.
  *
- * The checks come in the order 1, 3, 2, 7; then the five passes one after the other, and in one pass 4
- * and 5 come before 6.
+ * Only the calls with a table give 11, 12 and 13. The checks come in the order 1, 3, 2, then 11 or 12, then
+ * 13, then 7; then the five passes one after the other, and in one pass 4 and 5 come before 6.
  *
  * 1, 2 and 3 write nothing but the answer. After every other number the first 65,536 bytes of the
  * output are what is named above and then zeros, and the first 65,536 bytes of work and spare are
@@ -142,6 +147,53 @@ void plpgsql_transform_body(
  */
 void plpgsql_preprocess(
     const uint8_t *text, size_t text_length,
+    uint8_t *output, size_t output_length,
+    uint8_t *work, size_t work_length,
+    uint8_t *spare, size_t spare_length,
+    uint8_t *declared, size_t declared_length,
+    uint32_t *records, size_t records_length,
+    uint32_t answer[PLPGSQL_ANSWER_SIZE]);
+
+/* ---- The rewriting calls with a table of levels ----
+ *
+ * The same calls, where a table says what becomes of a RAISE of each level. The table has a line for each
+ * level, in any order: DEBUG, LOG, INFO, NOTICE, WARNING or EXCEPTION in capitals, one space, then drop,
+ * abort, fail or rollback, then a newline (byte 10). So this is a table:
+ *
+ *     DEBUG drop
+ *     LOG drop
+ *     INFO drop
+ *     NOTICE drop
+ *     WARNING fail
+ *     EXCEPTION abort
+ *
+ * A statement of a level with drop vanishes, and what stands in it is not read. With another action it
+ * becomes `SELECT RAISE(ABORT, m);`, or FAIL or ROLLBACK in place of ABORT, which are SQLite's words; the
+ * message m and USING are read as for RAISE EXCEPTION, so every such level can give 5. Without a table
+ * EXCEPTION has abort and the others drop, and a table that says so gives the same.
+ *
+ * A line is malformed if it is anything but the above: empty, with a carriage return, a second space or a
+ * level in small letters, or the last one without its newline. The first bad line decides. A table may have
+ * any length.
+ *
+ * Where a level ends does not depend on the table: EXCEPTION has its nine letters, and the others run to
+ * white space or `;`. With LOG abort, `RAISE LOG'';` becomes `SELECT RAISE(ABORT, );`, and `RAISE LOGS 'a';`
+ * becomes `SELECT RAISE(ABORT, 'a');`.
+ */
+
+/* plpgsql_transform_body with a table. */
+void plpgsql_transform_body_by_levels(
+    const uint8_t *text, size_t text_length,
+    const uint8_t *table, size_t table_length,
+    uint8_t *output, size_t output_length,
+    uint8_t *work, size_t work_length,
+    uint8_t *spare, size_t spare_length,
+    uint32_t answer[PLPGSQL_ANSWER_SIZE]);
+
+/* plpgsql_preprocess with a table. After 11, 12 and 13 records and declared are zeros too. */
+void plpgsql_preprocess_by_levels(
+    const uint8_t *text, size_t text_length,
+    const uint8_t *table, size_t table_length,
     uint8_t *output, size_t output_length,
     uint8_t *work, size_t work_length,
     uint8_t *spare, size_t spare_length,

@@ -1,6 +1,7 @@
 /*
  * Rewrites three bodies and a function, and prints what comes back: the four numbers, the output, and the
- * declarations. Then requotes a text into a buffer of just the length that is needed.
+ * declarations. Then rewrites a body under two tables of levels, the second of which is refused, and requotes
+ * a text into a buffer of just the length that is needed.
  */
 #include <stdio.h>
 #include <stdlib.h>
@@ -30,6 +31,13 @@ static const char *const FUNCTION =
     "    RETURN NEW;\n"
     "END;";
 
+static const char *const RAISING = "RAISE NOTICE 'seen'; RAISE WARNING 'low stock: %', n; RAISE EXCEPTION 'sold out';";
+
+static const char *const TABLES[] = {
+    "DEBUG drop\nLOG drop\nINFO drop\nNOTICE drop\nWARNING fail\nEXCEPTION rollback\n",
+    "DEBUG drop\nLOG drop\nINFO drop\nNOTICE drop\nwarning fail\nEXCEPTION rollback\n",
+};
+
 static void print_answer(const uint32_t answer[PLPGSQL_ANSWER_SIZE]) {
     for (int i = 0; i < PLPGSQL_ANSWER_SIZE; i++) {
         printf(i == 0 ? "%u" : " %u", (unsigned)answer[i]);
@@ -43,6 +51,13 @@ static void print_body(const char *text) {
     uint32_t answer[PLPGSQL_ANSWER_SIZE];
     plpgsql_transform_body((const uint8_t *)text, strlen(text), output, sizeof output, work, sizeof work, spare,
                            sizeof spare, answer);
+    print_answer(answer);
+}
+
+static void print_body_by_levels(const char *text, const char *table) {
+    uint32_t answer[PLPGSQL_ANSWER_SIZE];
+    plpgsql_transform_body_by_levels((const uint8_t *)text, strlen(text), (const uint8_t *)table, strlen(table), output,
+                                     sizeof output, work, sizeof work, spare, sizeof spare, answer);
     print_answer(answer);
 }
 
@@ -104,6 +119,9 @@ int main(void) {
         print_body(BODIES[i]);
     }
     print_function(FUNCTION);
+    for (size_t i = 0; i < sizeof TABLES / sizeof *TABLES; i++) {
+        print_body_by_levels(RAISING, TABLES[i]);
+    }
     print_requoted("v := $$it's new$$;");
     return 0;
 }

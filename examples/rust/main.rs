@@ -19,6 +19,15 @@ BEGIN
     RETURN NEW;
 END;";
 
+const RAISING: &str =
+    "RAISE NOTICE 'seen'; RAISE WARNING 'low stock: %', n; RAISE EXCEPTION 'sold out';";
+
+/// Tables of levels, the second of which is refused.
+const TABLES: [&str; 2] = [
+    "DEBUG drop\nLOG drop\nINFO drop\nNOTICE drop\nWARNING fail\nEXCEPTION rollback\n",
+    "DEBUG drop\nLOG drop\nINFO drop\nNOTICE drop\nwarning fail\nEXCEPTION rollback\n",
+];
+
 fn main() {
     let mut rewriter = Rewriter::new();
     for body in BODIES {
@@ -30,6 +39,12 @@ fn main() {
     match rewriter.preprocess(FUNCTION) {
         Ok(function) => print_function(&function),
         Err(refusal) => println!("refused: {refusal:?}"),
+    }
+    for table in TABLES {
+        match rewriter.transform_body_by_levels(RAISING, table) {
+            Ok(output) => println!("{output}"),
+            Err(refusal) => println!("refused: {refusal:?}"),
+        }
     }
 }
 

@@ -42,6 +42,19 @@ extern "C" {
         records_length: usize,
         answer: *mut [u32; 4],
     );
+    fn plpgsql_transform_body_by_levels(
+        text: *const c_uchar,
+        text_length: usize,
+        table: *const c_uchar,
+        table_length: usize,
+        output: *mut c_uchar,
+        output_length: usize,
+        work: *mut c_uchar,
+        work_length: usize,
+        spare: *mut c_uchar,
+        spare_length: usize,
+        answer: *mut [u32; 4],
+    );
 }
 
 /// Why a text is not rewritten.
@@ -57,6 +70,11 @@ pub enum Refusal {
     UsingClause(String),
     ResultTooLong,
     TooManyNames,
+    /// The offset of the table's first bad line.
+    MalformedLine(usize),
+    RepeatedLevel(usize),
+    /// A level that the table lacks.
+    MissingLevel,
 }
 
 /// A rewritten function: its body, and its declarations in byte order of names.
@@ -99,6 +117,29 @@ impl Rewriter {
             plpgsql_transform_body(
                 text.as_ptr(),
                 text.len(),
+                output.as_mut_ptr(),
+                output.len(),
+                work.as_mut_ptr(),
+                work.len(),
+                spare.as_mut_ptr(),
+                spare.len(),
+                &mut answer,
+            );
+        }
+        self.result(answer)
+    }
+
+    /// The same, where the table says what becomes of a RAISE of each level.
+    pub fn transform_body_by_levels(&mut self, text: &str, table: &str) -> Result<&str, Refusal> {
+        let Self { output, work, spare, .. } = self;
+        let mut answer = [0; 4];
+        // Each pointer is valid for its length until the call returns, and the buffers are apart.
+        unsafe {
+            plpgsql_transform_body_by_levels(
+                text.as_ptr(),
+                text.len(),
+                table.as_ptr(),
+                table.len(),
                 output.as_mut_ptr(),
                 output.len(),
                 work.as_mut_ptr(),
@@ -171,6 +212,9 @@ impl Rewriter {
             5 => Err(Refusal::UsingClause(output.to_string())),
             6 => Err(Refusal::ResultTooLong),
             7 => Err(Refusal::TooManyNames),
+            11 => Err(Refusal::MalformedLine(place as usize)),
+            12 => Err(Refusal::RepeatedLevel(place as usize)),
+            13 => Err(Refusal::MissingLevel),
             // 3 is a buffer that is too short, and ours are long enough.
             other => unreachable!("number {other}"),
         }

@@ -1,4 +1,4 @@
-//! Copies the four published files into the build output and makes one function visible.
+//! Copies the four published files into the build output and makes a few functions visible.
 
 use std::env;
 use std::fs;
@@ -7,12 +7,15 @@ use std::path::{Path, PathBuf};
 /// The modules in the order in which they are declared.
 const MODULES: [&str; 4] = ["error", "context", "scanner", "preprocessor"];
 
-/// The module that holds the line to edit.
+/// The module that holds the lines to edit.
 const EDITED: &str = "preprocessor";
 
-/// How the line to edit starts, and what that start becomes.
-const HIDDEN: &str = "fn transform_body(";
-const VISIBLE: &str = "pub fn transform_body(";
+/// How the lines to edit start: the body call, and its last four passes, which a table of levels needs one
+/// by one. `pub` is put ahead of each.
+const HIDDEN: [&str; 5] = [
+    "fn transform_body(", "fn transform_elsif(", "fn transform_assignments(",
+    "fn transform_select_into(", "fn transform_raise_statements(",
+];
 
 /// Said after every error about the folder.
 const ADVICE: &str = "name another folder with: oracle/run --source DIR ..";
@@ -82,18 +85,22 @@ fn copy_module(folder: &Path, module: &str, copy: &Path) -> Result<(), String> {
     }
 }
 
-/// The one edit: a text in which the line is missing or repeated is refused.
+/// The only edits: a text in which one of the lines is missing or repeated is refused.
 fn make_visible(text: &str, origin: &Path) -> Result<String, String> {
-    let is_wanted = |line: &&str| line.trim_start().starts_with(HIDDEN);
+    HIDDEN.iter().try_fold(text.to_string(), |text, hidden| make_one_visible(&text, hidden, origin))
+}
+
+fn make_one_visible(text: &str, hidden: &str, origin: &Path) -> Result<String, String> {
+    let is_wanted = |line: &&str| line.trim_start().starts_with(hidden);
     let found = text.lines().filter(is_wanted).count();
     if found != 1 {
         return Err(format!(
-            "{} must hold exactly one line that starts with `{HIDDEN}`, but holds {found}; {ADVICE}",
+            "{} must hold exactly one line that starts with `{hidden}`, but holds {found}; {ADVICE}",
             origin.display()
         ));
     }
     let edit = |line: &str| match is_wanted(&line) {
-        true => line.replacen(HIDDEN, VISIBLE, 1),
+        true => line.replacen(hidden, &format!("pub {hidden}"), 1),
         false => line.to_string(),
     };
     Ok(text.split_inclusive('\n').map(edit).collect())

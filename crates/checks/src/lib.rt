@@ -91,5 +91,20 @@ pub fn refusal_numbers(r: Refusal) -> RefusalNumbers
             place: 0,
             length: 0,
         },
+        Refusal::MalformedLine(i) => RefusalNumbers {
+            number: 11,
+            place: i,
+            length: 0,
+        },
+        Refusal::RepeatedLevel(i) => RefusalNumbers {
+            number: 12,
+            place: i,
+            length: 0,
+        },
+        Refusal::MissingLevel(i) => RefusalNumbers {
+            number: 13,
+            place: i,
+            length: 0,
+        },
     }
 }

@@ -16,7 +16,9 @@ use Rattle.spec.specs.Elsif.{elsif}
 use Rattle.spec.specs.Outcome.{qualifiedTarget, usingClause, resultTooLong, Outcome, accepted, refused, _⊕_, Rewriting, forget}
 use Rattle.spec.specs.Assignments.{assignments}
 use Rattle.spec.specs.SelectInto.{quoteWalk, selectInto}
-use Rattle.spec.specs.Raise.{Level, Action, raise}
+use Rattle.spec.specs.Raise.{raise}
+use Rattle.spec.specs.declared.Level.{Level}
+use Rattle.spec.specs.declared.Action.{Action}
 use Rattle.spec.specs.Body.{bufferSize, requotePass, elsifPass, assignPass, selectPass, raisePass, rewriting}
 use Rattle.spec.specs.Closed.{endsLive}
 use Rattle.joining.specs.Safe.{raisesSafe}

@@ -24,7 +24,10 @@ use Rattle.spec.specs.Spans.{opensDollar, kindAt, spanOf, spanAt, spanLen}
 use Rattle.spec.specs.Map.{Marked, live, quoted, byte, bytes, mark, markedText, isLiveByte, frontByte, frontLive, ofByte, spanFlag}
 use Rattle.spec.specs.Search.{startsIgnoringCase, wordHere}
 use Rattle.spec.specs.Outcome.{_⊕_}
-use Rattle.spec.specs.Raise.{passed, Level, exception, notice, warning, debug, log, info, LevelWord, levelWords, levelIn, endsLevel, isException, levelLen, contentOf, Action, raisedAt, Token, kept, raised, raisesFrom, tokenText, joinTokens, raise}
+use Rattle.spec.specs.Raise.{passed, LevelWord, levelWords, levelIn, endsLevel, isException, levelLen, contentOf, raisedAt, Token, kept, raised, raisesFrom, tokenText, joinTokens, raise}
+use Rattle.spec.specs.declared.Level.{Level}
+use Rattle.spec.specs.declared.Action.{Action}
+use Rattle.spec.specs.declared.Level.the-variants.{Exception, Notice, Warning, Debug, Log, Info}
 use Rattle.spec.specs.Closed.{endsLive}
 use Rattle.spec.specs.declared.Span.the-variants.{Code}
 use Rattle.joining.specs.Safe.{endsLevelSafely, levelSafe, safeBehind, raisesSafe}
@@ -240,19 +243,19 @@ level-keep t u =
 
 -- EXCEPTION is found only where it stands
 never-exception : (ws : List LevelWord) (t : List Marked) → all (λ (w : LevelWord). not (isException (w .level))) ws ≡ true
-    → levelIn ws t ≡ some exception → ⊥
+    → levelIn ws t ≡ some Exception → ⊥
 unfolding levelIn all
 never-exception [] t n h = apart (cc)
 never-exception (w ∷ ws) t n h =
     let more = all (λ (w : LevelWord). not (isException (w .level))) ws in
     by (startsIgnoringCase (w .word) t)
     (λ e.
-    let f : some (w .level) ≡ some exception = rw e at h in
-    let g : w .level ≡ exception = cc in
+    let f : some (w .level) ≡ some Exception = rw e at h in
+    let g : w .level ≡ Exception = cc in
     false≢true (rw g at (and-left (not (isException (w .level))) more n)))
     (λ e. never-exception ws t (and-right (not (isException (w .level))) more n) (rw e at h))
 
-found-exception : (t : List Marked) → levelIn levelWords t ≡ some exception → startsIgnoringCase (ascii "EXCEPTION") t ≡ true
+found-exception : (t : List Marked) → levelIn levelWords t ≡ some Exception → startsIgnoringCase (ascii "EXCEPTION") t ≡ true
 unfolding levelWords levelIn all
 found-exception t h =
     by (startsIgnoringCase (ascii "EXCEPTION") t)
@@ -264,12 +267,12 @@ module _ (xs : List ℕ) (ends : endsLive (marksFrom 0 xs) ≡ true) (safe : end
   level-visits : (l : Level) → levelIn levelWords (marksFrom 0 xs) ≡ some l
       → drop (levelLen l (marksFrom 0 xs)) (marksFrom 0 xs) ≡ marksFrom 0 (drop (levelLen l (marksFrom 0 xs)) xs)
   unfolding levelLen all opensNone upper isLower within
-  level-visits exception h = starts-visits (ascii "EXCEPTION") xs refl (found-exception (marksFrom 0 xs) h)
-  level-visits notice h = run-visits xs safe
-  level-visits warning h = run-visits xs safe
-  level-visits debug h = run-visits xs safe
-  level-visits log h = run-visits xs safe
-  level-visits info h = run-visits xs safe
+  level-visits Exception h = starts-visits (ascii "EXCEPTION") xs refl (found-exception (marksFrom 0 xs) h)
+  level-visits Notice h = run-visits xs safe
+  level-visits Warning h = run-visits xs safe
+  level-visits Debug h = run-visits xs safe
+  level-visits Log h = run-visits xs safe
+  level-visits Info h = run-visits xs safe
 
 run-keep : (t u : List Marked) → endsLive t ≡ true → run (t ++ u) ≡ run t
 unfolding ofByte
@@ -288,12 +291,12 @@ exception-short t =
 
 len-short : (l : Level) (t : List Marked) → endsLive t ≡ true → levelIn levelWords t ≡ some l → levelLen l t < length t
 unfolding levelLen ofByte
-len-short exception t h e = exception-short t h (found-exception t e)
-len-short notice t h e = while-short (ofByte (λ c. not (endsLevel c))) (ap not semi-ends) t h
-len-short warning t h e = while-short (ofByte (λ c. not (endsLevel c))) (ap not semi-ends) t h
-len-short debug t h e = while-short (ofByte (λ c. not (endsLevel c))) (ap not semi-ends) t h
-len-short log t h e = while-short (ofByte (λ c. not (endsLevel c))) (ap not semi-ends) t h
-len-short info t h e = while-short (ofByte (λ c. not (endsLevel c))) (ap not semi-ends) t h
+len-short Exception t h e = exception-short t h (found-exception t e)
+len-short Notice t h e = while-short (ofByte (λ c. not (endsLevel c))) (ap not semi-ends) t h
+len-short Warning t h e = while-short (ofByte (λ c. not (endsLevel c))) (ap not semi-ends) t h
+len-short Debug t h e = while-short (ofByte (λ c. not (endsLevel c))) (ap not semi-ends) t h
+len-short Log t h e = while-short (ofByte (λ c. not (endsLevel c))) (ap not semi-ends) t h
+len-short Info t h e = while-short (ofByte (λ c. not (endsLevel c))) (ap not semi-ends) t h
 
 -- ---- the content
 

@@ -17,7 +17,8 @@ use Rattle.spec.specs.Bytes.{ascii, within, isLower, isIdent, isWord, upper}
 use Rattle.spec.specs.Lists.{dropWhile}
 use Rattle.spec.specs.Map.{Marked, byte, isLive, frontByte, frontLive, ofByte}
 use Rattle.spec.specs.Search.{startsIgnoringCase, wordHere}
-use Rattle.spec.specs.Raise.{Level, levelWords, levelIn}
+use Rattle.spec.specs.Raise.{levelWords, levelIn}
+use Rattle.spec.specs.declared.Level.{Level}
 use Rattle.spec.specs.Closed.{endsLive}
 use Rattle.joining.specs.Safe.{endsLevelSafely, levelSafe, safeBehind, raisesSafe}
 use Rattle.joining.proofs.Bools.{clash, no, yes, at}

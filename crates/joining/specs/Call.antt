@@ -1,13 +1,13 @@
--- The body call as demand 3 speaks of it, for every action of the levels. Assumes nothing.
+-- The body call as demand 3 speaks of it, for every table. Assumes nothing.
 use mathlib.Core.Path.{_≡_}
 use Prim.Native.Nat.{ℕ, _≤_}
-use mathlib.Core.List.{List, []}
+use mathlib.Core.List.{List}
 use lib.ListN.{length, take}
-use Rattle.spec.specs.Raise.{Level, Action}
-use Rattle.spec.specs.Body.{bufferSize, rewriting}
-use Rattle.spec.specs.Answers.{callNumbers, exitOf, zeroedTo, resultOf, callAnswer, bodyCheck}
+use Rattle.spec.specs.Body.{bufferSize}
+use Rattle.spec.specs.Answers.{callNumbers, bodyCheck, bodyAnswer, bodyOutput}
 use Rattle.spec.specs.declared.Check.{Check}
 use Rattle.spec.specs.declared.Rewritten.{Rewritten}
+use Rattle.spec.specs.declared.Table.{Table}
 
 -- buffers of the stated lengths: output and two work buffers
 pub record Lent : Type 0 where
@@ -22,34 +22,33 @@ pub record Lent : Type 0 where
 abbrev pub checkBy : Lent → List ℕ → Check
 checkBy l xs = bodyCheck xs (l .output) (l .work) (l .spare)
 
--- what the call answers for a body with this action of each level, and what it leaves in the output; `bodyAnswer` and
--- `bodyOutput` are this with 01's actions
-unfoldable pub answerBy : (Level → Action) → Lent → List ℕ → Rewritten
-answerBy act l xs = callAnswer (checkBy l xs) (resultOf [] (rewriting act xs) .answer)
+-- what the call answers for a body with what a table says, and what it leaves in the output
+abbrev pub answerBy : Table → Lent → List ℕ → Rewritten
+answerBy levels l xs = bodyAnswer levels xs (l .output) (l .work) (l .spare)
 
-unfoldable pub outputBy : (Level → Action) → Lent → List ℕ → List ℕ
-outputBy act l xs = exitOf (checkBy l xs) (zeroedTo bufferSize (resultOf [] (rewriting act xs) .output) (l .output)) (l .output)
+abbrev pub outputBy : Table → Lent → List ℕ → List ℕ
+outputBy levels l xs = bodyOutput levels xs (l .output) (l .work) (l .spare)
 
 -- the number that the call gives for a body
-unfoldable pub numberOf : (Level → Action) → Lent → List ℕ → ℕ
-numberOf act l xs = callNumbers (answerBy act l xs) .number
+unfoldable pub numberOf : Table → Lent → List ℕ → ℕ
+numberOf levels l xs = callNumbers (answerBy levels l xs) .number
 
 -- the body's rewriting: the output up to the output length
-unfoldable pub rewritten : (Level → Action) → Lent → List ℕ → List ℕ
-rewritten act l xs = take (callNumbers (answerBy act l xs) .length) (outputBy act l xs)
+unfoldable pub rewritten : Table → Lent → List ℕ → List ℕ
+rewritten levels l xs = take (callNumbers (answerBy levels l xs) .length) (outputBy levels l xs)
 
 -- one call on a text: buffers of the stated lengths, what it answers, and the output at exit
-pub record Called (act : Level → Action) (xs : List ℕ) : Type 0 where
+pub record Called (levels : Table) (xs : List ℕ) : Type 0 where
   pub lent : Lent
   pub answer : Rewritten
   pub left : List ℕ
-  pub answered : answer ≡ answerBy act lent xs
-  pub written : left ≡ outputBy act lent xs
+  pub answered : answer ≡ answerBy levels lent xs
+  pub written : left ≡ outputBy levels lent xs
 
 -- the number it gives
-abbrev pub given : {act : Level → Action} {xs : List ℕ} → Called act xs → ℕ
+abbrev pub given : {levels : Table} {xs : List ℕ} → Called levels xs → ℕ
 given c = callNumbers (c .answer) .number
 
 -- the output up to the output length
-abbrev pub result : {act : Level → Action} {xs : List ℕ} → Called act xs → List ℕ
+abbrev pub result : {levels : Table} {xs : List ℕ} → Called levels xs → List ℕ
 result c = take (callNumbers (c .answer) .length) (c .left)

@@ -9,7 +9,8 @@ use Rattle.spec.specs.Bytes.{ascii, isIdent, isWord}
 use Rattle.spec.specs.Lists.{dropWhile}
 use Rattle.spec.specs.Map.{Marked, byte, frontByte, ofByte}
 use Rattle.spec.specs.Search.{wordHere}
-use Rattle.spec.specs.Raise.{Level, levelIn, levelWords}
+use Rattle.spec.specs.Raise.{levelIn, levelWords}
+use Rattle.spec.specs.declared.Level.{Level}
 
 -- behind a run of identifier bytes: a space, `;`, or `)` and `;`
 unfoldable pub endsLevelSafely : List Marked → Bool

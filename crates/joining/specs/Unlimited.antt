@@ -2,7 +2,8 @@
 use Prim.Native.Nat.{ℕ}
 use mathlib.Core.List.{List}
 use Rattle.spec.specs.Outcome.{accepted, refused, Rewriting}
-use Rattle.spec.specs.Raise.{Level, Action}
+use Rattle.spec.specs.declared.Level.{Level}
+use Rattle.spec.specs.declared.Action.{Action}
 use Rattle.spec.specs.Body.{requotePass, elsifPass, assignPass, selectPass, raisePass}
 
 -- the next pass over what the passes before gave, however long its result is

@@ -1,4 +1,4 @@
--- A RAISE that aborts, by the bytes of its content: the clause behind USING, or the message. Assumes nothing.
+-- A RAISE that is not dropped, by the bytes of its content: the clause behind USING, or the message. Assumes nothing.
 use mathlib.Core.Path.{_≡_, refl, sym, ap, _∙_}
 use mathlib.Core.Bool.{Bool, true, false, cond, _&&_}
 use mathlib.Core.List.{List, _++_}
@@ -19,29 +19,32 @@ use Rattle.spec.specs.Lists.{isEmpty, dropWhile}
 use Rattle.spec.specs.Map.{Marked, bytes, lives, frontByte, ofByte}
 use Rattle.spec.specs.Search.{startsIgnoringCase}
 use Rattle.spec.specs.Outcome.{usingClause, accepted, refused, Rewriting, forget}
-use Rattle.spec.specs.Raise.{message, rewritten, refusedClause, usingFate, abortFate, fateText}
-use Rattle.messages.specs.Readings.{aborting}
+use Rattle.spec.specs.Raise.{message, rewritten, refusedClause, usingFate, raiseFate, raiseWord, raiseText, fateText}
+use Rattle.spec.specs.declared.RaiseType.{RaiseType}
+use Rattle.messages.specs.Readings.{raiseFront, raising}
 use Rattle.messages.proofs.MessageLaws.{messageIn, message-is}
 
 -- the text of a message
-rewritten-text : (m : List Marked) → forget (fateText (rewritten m)) ≡ accepted (aborting (bytes m))
-unfolding forget fateText aborting
-rewritten-text m =
+rewritten-text : (w : RaiseType) (m : List Marked) → forget (fateText (rewritten w m)) ≡ accepted (raising w (bytes m))
+unfolding forget fateText raiseText raising raiseFront
+rewritten-text w m =
+    let front = ascii "SELECT RAISE(" ++ (raiseWord w ++ ascii ", ") in
     ap accepted
-    (bytes-append (lives (ascii "SELECT RAISE(ABORT, ")) (m ++ lives (ascii ");"))
-    ∙ (ap (λ (l : List ℕ). l ++ bytes (m ++ lives (ascii ");"))) (bytes-lives (ascii "SELECT RAISE(ABORT, "))
-    ∙ ap (λ (l : List ℕ). ascii "SELECT RAISE(ABORT, " ++ l)
+    (bytes-append (lives front) (m ++ lives (ascii ");"))
+    ∙ (ap (λ (l : List ℕ). l ++ bytes (m ++ lives (ascii ");"))) (bytes-lives front)
+    ∙ ap (λ (l : List ℕ). front ++ l)
     (bytes-append m (lives (ascii ");")) ∙ ap (λ (l : List ℕ). bytes m ++ l) (bytes-lives (ascii ");")))))
 
 -- what the clause of a content comes to
-abbrev becomes : List Marked → Rewriting
-becomes t = forget (fateText (usingFate t (drop 5 t)))
+abbrev becomes : RaiseType → List Marked → Rewriting
+becomes w t = forget (fateText (usingFate w t (drop 5 t)))
 
 -- a choice of a message or a refused clause, as text
-chosen : (b : Bool) (m : List Marked) (c : List ℕ) → forget (fateText (cond b (rewritten m) (refusedClause c))) ≡ cond b (accepted (aborting (bytes m))) (refused (usingClause c))
+chosen : (w : RaiseType) (b : Bool) (m : List Marked) (c : List ℕ)
+    → forget (fateText (cond b (rewritten w m) (refusedClause c))) ≡ cond b (accepted (raising w (bytes m))) (refused (usingClause c))
 unfolding forget fateText
-chosen true m c = rewritten-text m
-chosen false m c = refl
+chosen w true m c = rewritten-text w m
+chosen w false m c = refl
 
 -- nothing is left from i on exactly if the list ends there
 empty-drop : {A : Type 0} (t : List A) (i : ℕ) → isEmpty (drop i t) ≡ leb (length t) i
@@ -52,10 +55,10 @@ empty-drop t i =
     (λ e. eq-eqb (length (drop i t)) 0 (omega (arith, leb-true (length t) i e)) ∙ sym e)
     (λ e. ne-eqb (length (drop i t)) 0 (λ z. omega (arith, leb-false (length t) i e)) ∙ sym e)
 
-module _ (t : List Marked) (xs : List ℕ) (e : bytes t ≡ xs) where
+module _ (w : RaiseType) (t : List Marked) (xs : List ℕ) (e : bytes t ≡ xs) where
   -- the tests at an offset are of the bytes
-  starts-at : (w : List ℕ) (i : ℕ) → startsIgnoringCase w (drop i t) ≡ prefixBy upper w (drop i xs)
-  starts-at w i = starts-case w (drop i t) ∙ ap (λ (l : List ℕ). prefixBy upper w l) (bytes-drop i t ∙ ap (drop i) e)
+  starts-at : (v : List ℕ) (i : ℕ) → startsIgnoringCase v (drop i t) ≡ prefixBy upper v (drop i xs)
+  starts-at v i = starts-case v (drop i t) ∙ ap (λ (l : List ℕ). prefixBy upper v l) (bytes-drop i t ∙ ap (drop i) e)
 
   front-at : (i : ℕ) → frontByte (drop i t) ≡ getD xs i 0
   front-at i = let b = byte-ahead t i in rw e at b
@@ -93,36 +96,36 @@ module _ (t : List Marked) (xs : List ℕ) (e : bytes t ≡ xs) where
     abbrev fits : Bool
     fits = prefixBy upper (ascii "MESSAGE") (drop a xs) && (eqb (getD xs b 0) 61 && (eqb (getD xs c 0) 39 && leb (length xs) (endFrom isW xs (c + length m))))
 
-    using-is : becomes t ≡ cond fits (accepted (aborting m)) (refused (usingClause xs))
+    using-is : becomes w t ≡ cond fits (accepted (raising w m)) (refused (usingClause xs))
     unfolding usingFate
     using-is =
         rw (at-a, at-b, at-c, starts-at (ascii "MESSAGE") a, front-at b, front-at c, rest-empty c (length (message (drop c t))), long, e)
-        (chosen fits (message (drop c t)) xs ∙ rw found refl)
+        (chosen w fits (message (drop c t)) xs ∙ rw found refl)
 
-    pub no-message : prefixBy upper (ascii "MESSAGE") (drop a xs) ≡ false → becomes t ≡ refused (usingClause xs)
+    pub no-message : prefixBy upper (ascii "MESSAGE") (drop a xs) ≡ false → becomes w t ≡ refused (usingClause xs)
     no-message p = using-is ∙ simp p
 
     module _ (p : prefixBy upper (ascii "MESSAGE") (drop a xs) ≡ true) where
-      pub no-equals : eqb (getD xs b 0) 61 ≡ false → becomes t ≡ refused (usingClause xs)
+      pub no-equals : eqb (getD xs b 0) 61 ≡ false → becomes w t ≡ refused (usingClause xs)
       no-equals q = using-is ∙ simp (p, q)
 
       module _ (q : eqb (getD xs b 0) 61 ≡ true) where
-        pub no-quote : eqb (getD xs c 0) 39 ≡ false → becomes t ≡ refused (usingClause xs)
+        pub no-quote : eqb (getD xs c 0) 39 ≡ false → becomes w t ≡ refused (usingClause xs)
         no-quote r = using-is ∙ simp (p, q, r)
 
-        pub at-quote : eqb (getD xs c 0) 39 ≡ true → becomes t ≡ cond (leb (length xs) (endFrom isW xs (c + length m))) (accepted (aborting m)) (refused (usingClause xs))
+        pub at-quote : eqb (getD xs c 0) 39 ≡ true → becomes w t ≡ cond (leb (length xs) (endFrom isW xs (c + length m))) (accepted (raising w m)) (refused (usingClause xs))
         at-quote r = using-is ∙ simp (p, q, r)
 
   -- a content that starts with USING, and one that does not
-  pub abort-is : forget (fateText (abortFate t)) ≡ cond (prefixBy upper (ascii "USING") xs) (becomes t) (accepted (aborting (messageIn xs)))
-  unfolding abortFate
-  abort-is =
+  pub raise-is : forget (fateText (raiseFate w t)) ≡ cond (prefixBy upper (ascii "USING") xs) (becomes w t) (accepted (raising w (messageIn xs)))
+  unfolding raiseFate
+  raise-is =
       rw (starts-at (ascii "USING") 0)
-      (by (prefixBy upper (ascii "USING") xs) (λ p. rw p refl) (λ p. rw p (rewritten-text (message t) ∙ rw (message-at 0) refl)))
+      (by (prefixBy upper (ascii "USING") xs) (λ p. rw p refl) (λ p. rw p (rewritten-text w (message t) ∙ rw (message-at 0) refl)))
 
 -- the marks do not matter
-pub abort-marks : (t u : List Marked) → bytes t ≡ bytes u → forget (fateText (abortFate t)) ≡ forget (fateText (abortFate u))
-abort-marks t u e =
-    abort-is t (bytes u) e
-    ∙ (rw (using-is t (bytes u) e _ _ _ _ refl refl refl refl ∙ sym (using-is u (bytes u) refl _ _ _ _ refl refl refl refl)) refl
-    ∙ sym (abort-is u (bytes u) refl))
+pub raise-marks : (w : RaiseType) (t u : List Marked) → bytes t ≡ bytes u → forget (fateText (raiseFate w t)) ≡ forget (fateText (raiseFate w u))
+raise-marks w t u e =
+    raise-is w t (bytes u) e
+    ∙ (rw (using-is w t (bytes u) e _ _ _ _ refl refl refl refl ∙ sym (using-is w u (bytes u) refl _ _ _ _ refl refl refl refl)) refl
+    ∙ sym (raise-is w u (bytes u) refl))

@@ -6,31 +6,39 @@ use runs::trim;
 use scanner::starts_ignoring_case;
 use spans::Cursor;
 use spans::Step;
+use spec::Action;
+use spec::Actions;
+use spec::Level;
+use spec::RaiseType;
 use spec::Span;
 ghost use mathlib.Core.Path.{_≡_};
-ghost use mathlib.Core.Bool.{false, cond};
 ghost use mathlib.Core.List.{List};
 ghost use mathlib.Core.Option.{some};
 ghost use Prim.Native.Nat.{_+_, _≤_, _<_, min};
 ghost use lib.ListN.{length, drop};
 ghost use Rattle.spec.specs.Map.{Marked, bytes, lives};
 ghost use Rattle.spec.specs.Outcome.{forget};
-ghost use Rattle.spec.specs.Raise.{closeLen, message, usingFate, Level, exception, levelWords, levelIn, isException, fateText};
-ghost use Rattle.messages.specs.declared.RaiseLevel.the-variants as level;
-ghost use Rattle.messages.specs.Readings.{levelFound, levelReach, endsStatement, contentIn, literalLen, abortOf, abortIn, FateWithin, Reads};
+ghost use Rattle.spec.specs.Raise.{closeLen, message, usingFate, levelWords, levelIn, isException, actionOf, fateText};
+ghost use Rattle.spec.specs.declared.Level.{Level};
+ghost use Rattle.spec.specs.declared.RaiseType.{RaiseType};
+ghost use Rattle.spec.specs.declared.Action.{Action};
+ghost use Rattle.messages.specs.declared.LevelFound.the-variants.{At};
+ghost use Rattle.messages.specs.Readings.{levelFound, levelReach, levelEnd, endsStatement, contentIn, literalLen, raisedAs, raisedIn, fateOf, FateWithin, Reads};
 
 // The level behind a RAISE and its separator.
-enum RaiseLevel {
-    Exception,
-    // One of those that vanish.
-    Other,
+enum LevelFound {
+    At(Level),
     Nothing,
 }
 
 // What becomes of a RAISE, by offsets in the text from the RAISE on.
 pub enum RaiseFate {
-    // RAISE EXCEPTION, with this content.
-    Aborts { start: usize, stop: usize },
+    // It becomes SQLite's RAISE with this word, and has this content.
+    Raises {
+        word: RaiseType,
+        start: usize,
+        stop: usize,
+    },
     Dropped,
     // It passes, with its separator.
     Passed,
@@ -42,38 +50,39 @@ pub struct RaiseRead {
     pub fate: RaiseFate,
 }
 
-// Whether a level that vanishes stands in front.
-fn is_other_level(rest: &[u8]) -> bool
-    ensures { λ r. ⌜ ((t : List Marked) → bytes t ≡ now (rest .entry) → levelFound (levelIn (drop 1 levelWords) t) ≡ cond r level.Other level.Nothing) ⌝ }
+// The level in front other than EXCEPTION, in any letter case.
+fn other_level_at(rest: &[u8]) -> LevelFound
+    ensures { λ r. ⌜ ((t : List Marked) → bytes t ≡ now (rest .entry) → r ≡ levelFound (levelIn (drop 1 levelWords) t)) ⌝ }
+    ensures { λ r. ⌜ levelReach r ≡ 0 ⌝ }
 {
     if starts_ignoring_case(rest, b"NOTICE") {
-        true
+        LevelFound::At(Level::Notice)
     } else if starts_ignoring_case(rest, b"WARNING") {
-        true
+        LevelFound::At(Level::Warning)
     } else if starts_ignoring_case(rest, b"DEBUG") {
-        true
+        LevelFound::At(Level::Debug)
     } else if starts_ignoring_case(rest, b"LOG") {
-        true
+        LevelFound::At(Level::Log)
     } else if starts_ignoring_case(rest, b"INFO ") {
-        true
+        LevelFound::At(Level::Info)
     } else if starts_ignoring_case(rest, b"INFO\n") {
-        true
+        LevelFound::At(Level::Info)
+    } else if starts_ignoring_case(rest, b"INFO;") {
+        LevelFound::At(Level::Info)
     } else {
-        starts_ignoring_case(rest, b"INFO;")
+        LevelFound::Nothing
     }
 }
 
 // The level in front, in any letter case.
-fn level_at(rest: &[u8]) -> RaiseLevel
+fn level_at(rest: &[u8]) -> LevelFound
     ensures { λ r. ⌜ ((t : List Marked) → bytes t ≡ now (rest .entry) → r ≡ levelFound (levelIn levelWords t)) ⌝ }
     ensures { λ r. ⌜ levelReach r ≤ length (now (rest .entry)) ⌝ }
 {
     if starts_ignoring_case(rest, b"EXCEPTION") {
-        RaiseLevel::Exception
-    } else if is_other_level(rest) {
-        RaiseLevel::Other
+        LevelFound::At(Level::Exception)
     } else {
-        RaiseLevel::Nothing
+        other_level_at(rest)
     }
 }
 
@@ -163,7 +172,7 @@ pub fn extract_first_string_literal<'a>(content: &'a [u8]) -> &'a [u8]
 fn using_message<'a>(content: &'a [u8], refused: &mut bool) -> &'a [u8]
     requires { ⌜ 5 ≤ length (now content) ⌝ }
     requires { ⌜ length (now content) ≤ 65536 ⌝ }
-    ensures { λ r. ⌜ ((t : List Marked) → bytes t ≡ now (content .entry) → forget (fateText (usingFate t (drop 5 t))) ≡ abortIn (now (refused .exit)) (now r)) ⌝ }
+    ensures { λ r. ⌜ ((w : RaiseType) (t : List Marked) → bytes t ≡ now (content .entry) → forget (fateText (usingFate w t (drop 5 t))) ≡ raisedIn w (now (refused .exit)) (now r)) ⌝ }
     ensures { λ r. ⌜ length (now r) ≤ length (now (content .entry)) ⌝ }
 {
     *refused = true;
@@ -187,10 +196,10 @@ fn using_message<'a>(content: &'a [u8], refused: &mut bool) -> &'a [u8]
     message
 }
 
-// The message of a RAISE EXCEPTION, or the clause that is refused: a part of the statement's content.
-pub fn abort_message<'a>(content: &'a [u8], refused: &mut bool) -> &'a [u8]
+// The message of a RAISE that is not dropped, or the clause that is refused: a part of the statement's content.
+pub fn raise_message<'a>(content: &'a [u8], refused: &mut bool) -> &'a [u8]
     requires { ⌜ length (now content) ≤ 65536 ⌝ }
-    ensures { λ r. ⌜ abortOf (now (content .entry)) ≡ abortIn (now (refused .exit)) (now r) ⌝ }
+    ensures { λ r. ⌜ ((w : RaiseType) → raisedAs w (now (content .entry)) ≡ raisedIn w (now (refused .exit)) (now r)) ⌝ }
     ensures { λ r. ⌜ length (now r) ≤ length (now (content .entry)) ⌝ }
 {
     let text = trim(content);
@@ -209,41 +218,78 @@ fn behind(stop: usize, n: usize) -> usize
     if stop < n { stop + 1 } else { n }
 }
 
-// A RAISE EXCEPTION, from the RAISE on: RAISE, the separator and EXCEPTION have 15 bytes.
-fn read_exception(rest: &[u8]) -> RaiseRead
-    requires { ⌜ 15 ≤ length (now rest) ⌝ }
-    requires { ⌜ length (now rest) ≤ 65536 ⌝ }
-    ensures { λ r. ⌜ ((t : List Marked) → bytes t ≡ now (rest .entry) → Reads t (some exception) (now (rest .entry)) r) ⌝ }
-    ensures { λ r. ⌜ FateWithin (r .fate) 15 (r .end) ⌝ }
+// The action of a level.
+fn action_of(actions: Actions, level: Level) -> Action
+    ensures { λ r. ⌜ r ≡ actionOf actions level ⌝ }
 {
-    let stop = 15 + content_len(&rest[15..]);
-    RaiseRead {
-        end: behind(stop, rest.len()),
-        fate: RaiseFate::Aborts { start: 15, stop },
+    match level {
+        Level::Debug => actions.debug,
+        Level::Log => actions.log,
+        Level::Info => actions.info,
+        Level::Notice => actions.notice,
+        Level::Warning => actions.warning,
+        Level::Exception => actions.exception,
     }
 }
 
-// A RAISE of another level, from the RAISE on.
-fn read_other(rest: &[u8]) -> RaiseRead
-    requires { ⌜ 6 ≤ length (now rest) ⌝ }
-    requires { ⌜ length (now rest) ≤ 65536 ⌝ }
-    ensures { λ r. ⌜ ((t : List Marked) (l : Level) → bytes t ≡ now (rest .entry) → isException l ≡ false → Reads t (some l) (now (rest .entry)) r) ⌝ }
-    ensures { λ r. ⌜ FateWithin (r .fate) 15 (r .end) ⌝ }
+// The fate of a statement with this action, whose content lies from `start` to `stop`.
+fn fate_of(action: Action, start: usize, stop: usize) -> RaiseFate
+    ensures { λ r. ⌜ r ≡ fateOf action start stop ⌝ }
 {
-    // The level runs to W or `;`.
-    let k = run_end(rest, Set::NotWNor(b';'), 6);
+    match action {
+        Action::Drop => RaiseFate::Dropped,
+        Action::Raise(word) => RaiseFate::Raises { word, start, stop },
+    }
+}
+
+// Whether a level is EXCEPTION.
+fn is_exception(level: Level) -> bool
+    ensures { λ r. ⌜ r ≡ isException level ⌝ }
+{
+    match level {
+        Level::Exception => true,
+        Level::Debug => false,
+        Level::Log => false,
+        Level::Info => false,
+        Level::Notice => false,
+        Level::Warning => false,
+    }
+}
+
+// Where the level ends, from the RAISE on: EXCEPTION has its nine letters, the others run to W or `;`.
+fn level_end(rest: &[u8], level: Level) -> usize
+    requires { ⌜ 6 + levelReach (At level) ≤ length (now rest) ⌝ }
+    ensures { λ r. ⌜ r ≡ levelEnd level (now (rest .entry)) ⌝ }
+    ensures { λ r. ⌜ 6 ≤ r ⌝ }
+    ensures { λ r. ⌜ r ≤ length (now (rest .entry)) ⌝ }
+{
+    if is_exception(level) {
+        15
+    } else {
+        run_end(rest, Set::NotWNor(b';'), 6)
+    }
+}
+
+// A RAISE of this level, from the RAISE on, with this action.
+fn read_statement(rest: &[u8], level: Level, action: Action) -> RaiseRead
+    requires { ⌜ 6 + levelReach (At level) ≤ length (now rest) ⌝ }
+    requires { ⌜ length (now rest) ≤ 65536 ⌝ }
+    ensures { λ r. ⌜ ((act : Level → Action) (t : List Marked) → bytes t ≡ now (rest .entry) → act level ≡ action → Reads act t (some level) (now (rest .entry)) r) ⌝ }
+    ensures { λ r. ⌜ FateWithin (r .fate) 6 (r .end) ⌝ }
+{
+    let k = level_end(rest, level);
     let stop = k + content_len(&rest[k..]);
     RaiseRead {
         end: behind(stop, rest.len()),
-        fate: RaiseFate::Dropped,
+        fate: fate_of(action, k, stop),
     }
 }
 
 // The RAISE at the front of `rest`.
-pub fn read_raise(rest: &[u8]) -> RaiseRead
+pub fn read_raise(rest: &[u8], actions: Actions) -> RaiseRead
     requires { ⌜ length (now rest) ≤ 65536 ⌝ }
-    ensures { λ r. ⌜ ((t : List Marked) → bytes t ≡ now (rest .entry) → Reads t (levelIn levelWords (drop 6 t)) (now (rest .entry)) r) ⌝ }
-    ensures { λ r. ⌜ FateWithin (r .fate) 15 (r .end) ⌝ }
+    ensures { λ r. ⌜ ((t : List Marked) → bytes t ≡ now (rest .entry) → Reads (actionOf actions) t (levelIn levelWords (drop 6 t)) (now (rest .entry)) r) ⌝ }
+    ensures { λ r. ⌜ FateWithin (r .fate) 6 (r .end) ⌝ }
 {
     if rest.len() < 6 {
         return RaiseRead {
@@ -253,9 +299,8 @@ pub fn read_raise(rest: &[u8]) -> RaiseRead
     }
     let level = level_at(&rest[6..]);
     match level {
-        RaiseLevel::Exception => read_exception(rest),
-        RaiseLevel::Other => read_other(rest),
-        RaiseLevel::Nothing => RaiseRead {
+        LevelFound::At(l) => read_statement(rest, l, action_of(actions, l)),
+        LevelFound::Nothing => RaiseRead {
             end: 6,
             fate: RaiseFate::Passed,
         },

@@ -19,7 +19,8 @@ use Rattle.spec.specs.Outcome.{Outcome, accepted, refused, Rewriting, forget}
 use Rattle.spec.specs.Requote.{requoted}
 use Rattle.spec.specs.Elsif.{elsif}
 use Rattle.spec.specs.SelectInto.{quoteWalk, selectInto}
-use Rattle.spec.specs.Raise.{Level, Action}
+use Rattle.spec.specs.declared.Level.{Level}
+use Rattle.spec.specs.declared.Action.{Action}
 use Rattle.spec.specs.Body.{bufferSize, limited, andThen, requotePass, elsifPass, assignPass, selectPass, raisePass, rewriting}
 use Rattle.spec.specs.Answers.{textLimit, callNumbers, resultOf, keptBehind}
 use Rattle.spec.specs.declared.Refusal.{Refusal}

@@ -11,6 +11,7 @@ use raise::transform_raise_statements;
 use requote::requote;
 use scanner::map_text;
 use select_into::transform_select_into;
+use spec::Actions;
 use spec::Refusal;
 use spec::Rewritten;
 ghost use mathlib.Core.Path.{_≡_};
@@ -126,24 +127,30 @@ fn select_pass(text: &[u8], map: &mut [u8], out: &mut [u8]) -> Pass
 }
 
 // Pass 5 of a text; `map` takes its map.
-fn raise_pass(text: &[u8], map: &mut [u8], out: &mut [u8]) -> Pass
+fn raise_pass(text: &[u8], actions: Actions, map: &mut [u8], out: &mut [u8]) -> Pass
     requires { ⌜ length (now text) ≤ 65536 ⌝ }
     requires { ⌜ length (now text) ≤ length (now map) ⌝ }
     requires { ⌜ length (now out) ≡ 65536 ⌝ }
-    ensures { λ r. ⌜ Gives (resultOf [] (limited (raisePass actionOf (now (text .entry))))) (finished r) (now (out .exit)) ⌝ }
+    ensures { λ r. ⌜ Gives (resultOf [] (limited (raisePass (actionOf actions) (now (text .entry))))) (finished r) (now (out .exit)) ⌝ }
 {
     let n = text.len();
     map_text(text, map);
-    limit(transform_raise_statements(text, &map[..n], out))
+    limit(transform_raise_statements(text, &map[..n], actions, out))
 }
 
 // All five passes over the text: each reads the result of the one before, in the buffer where that one left it.
-fn run_passes(text: &[u8], output: &mut [u8], work: &mut [u8], spare: &mut [u8]) -> Rewritten
+fn run_passes(
+    text: &[u8],
+    actions: Actions,
+    output: &mut [u8],
+    work: &mut [u8],
+    spare: &mut [u8],
+) -> Rewritten
     requires { ⌜ length (now text) ≤ 16384 ⌝ }
     requires { ⌜ length (now output) ≡ 65536 ⌝ }
     requires { ⌜ length (now work) ≡ 65536 ⌝ }
     requires { ⌜ length (now spare) ≡ 65536 ⌝ }
-    ensures { λ r. ⌜ Gives (resultOf [] (rewriting actionOf (now (text .entry)))) r (now (output .exit)) ⌝ }
+    ensures { λ r. ⌜ Gives (resultOf [] (rewriting (actionOf actions) (now (text .entry)))) r (now (output .exit)) ⌝ }
 {
     let requoted = requote(text, work);
     let spelled = elsif_pass(&work[..requoted], spare, output);
@@ -156,13 +163,14 @@ fn run_passes(text: &[u8], output: &mut [u8], work: &mut [u8], spare: &mut [u8])
         // Pass 4 refuses by 6 alone, which hands no bytes back.
         return finish(output, spare, selected);
     };
-    let raised = raise_pass(&output[..k], work, spare);
+    let raised = raise_pass(&output[..k], actions, work, spare);
     finish(output, spare, raised)
 }
 
 // The passes, and zeros behind the result and in the work buffers.
 pub fn run_body(
     text: &[u8],
+    actions: Actions,
     output: &mut [u8],
     work: &mut [u8],
     spare: &mut [u8],
@@ -173,13 +181,14 @@ pub fn run_body(
     requires { ⌜ size ≤ length (now output) ⌝ }
     requires { ⌜ size ≤ length (now work) ⌝ }
     requires { ⌜ size ≤ length (now spare) ⌝ }
-    ensures { λ r. ⌜ r ≡ bodyResult (now (text .entry)) .answer ⌝ }
-    ensures { λ _. ⌜ now (output .exit) ≡ zeroedTo size (bodyResult (now (text .entry)) .output) (now (output .entry)) ⌝ }
+    ensures { λ r. ⌜ r ≡ bodyResult (now (text .entry)) actions .answer ⌝ }
+    ensures { λ _. ⌜ now (output .exit) ≡ zeroedTo size (bodyResult (now (text .entry)) actions .output) (now (output .entry)) ⌝ }
     ensures { λ _. ⌜ now (work .exit) ≡ zeroedTo size [] (now (work .entry)) ⌝ }
     ensures { λ _. ⌜ now (spare .exit) ≡ zeroedTo size [] (now (spare .entry)) ⌝ }
 {
     let r = run_passes(
         text,
+        actions,
         &mut output[..size],
         &mut work[..size],
         &mut spare[..size],

@@ -10,6 +10,7 @@ ghost use mathlib.Core.Path.{_≡_};
 ghost use mathlib.Core.List.{[], _∷_};
 ghost use lib.ListN.{length, getD};
 ghost use Rattle.spec.specs.Answers.{mapExit, regionsAnswer, keywordAnswer, byteAnswer, needleAnswer, wordAnswer, wordPart, searchNumbers, handlerAnswer, unterminatedAnswer, splitAnswer, splitMapExit, splitExit, requotedLengthAnswer, requoteAnswer, requoteExit, refusalNumbers, bodyCheck, bodyAnswer, bodyOutput, workExit, functionCheck, functionAnswer, functionOutput, functionText, functionRecords};
+ghost use Rattle.spec.specs.Levels.{tableOf, noTable};
 ghost use Rattle.closed.specs.Answer.{closedAnswer};
 ghost use Rattle.plpgsql_rewriter.specs.Four.{narrow, four, fourFound, fourFilled, fourCalled};
 
@@ -221,12 +222,31 @@ pub extern "C" fn plpgsql_transform_body(
     spare: &mut [u8],
     answer: &mut [u32; 4],
 )
-    ensures { λ _. ⌜ now (output .exit) ≡ bodyOutput (now (text .entry)) (now (output .entry)) (now (work .entry)) (now (spare .entry)) ⌝ }
+    ensures { λ _. ⌜ now (output .exit) ≡ bodyOutput noTable (now (text .entry)) (now (output .entry)) (now (work .entry)) (now (spare .entry)) ⌝ }
     ensures { λ _. ⌜ now (work .exit) ≡ workExit (bodyCheck (now (text .entry)) (now (output .entry)) (now (work .entry)) (now (spare .entry))) (now (work .entry)) ⌝ }
     ensures { λ _. ⌜ now (spare .exit) ≡ workExit (bodyCheck (now (text .entry)) (now (output .entry)) (now (work .entry)) (now (spare .entry))) (now (spare .entry)) ⌝ }
-    ensures { λ _. ⌜ now (answer .exit) ≡ fourCalled (bodyAnswer (now (text .entry)) (now (output .entry)) (now (work .entry)) (now (spare .entry))) ⌝ }
+    ensures { λ _. ⌜ now (answer .exit) ≡ fourCalled (bodyAnswer noTable (now (text .entry)) (now (output .entry)) (now (work .entry)) (now (spare .entry))) ⌝ }
 {
     let r = preprocessor::transform_body(text, output, work, spare);
+    put_called(answer, r);
+}
+
+// The body call with the actions of a table.
+#[no_mangle]
+pub extern "C" fn plpgsql_transform_body_by_levels(
+    text: &[u8],
+    table: &[u8],
+    output: &mut [u8],
+    work: &mut [u8],
+    spare: &mut [u8],
+    answer: &mut [u32; 4],
+)
+    ensures { λ _. ⌜ now (output .exit) ≡ bodyOutput (tableOf (now (table .entry))) (now (text .entry)) (now (output .entry)) (now (work .entry)) (now (spare .entry)) ⌝ }
+    ensures { λ _. ⌜ now (work .exit) ≡ workExit (bodyCheck (now (text .entry)) (now (output .entry)) (now (work .entry)) (now (spare .entry))) (now (work .entry)) ⌝ }
+    ensures { λ _. ⌜ now (spare .exit) ≡ workExit (bodyCheck (now (text .entry)) (now (output .entry)) (now (work .entry)) (now (spare .entry))) (now (spare .entry)) ⌝ }
+    ensures { λ _. ⌜ now (answer .exit) ≡ fourCalled (bodyAnswer (tableOf (now (table .entry))) (now (text .entry)) (now (output .entry)) (now (work .entry)) (now (spare .entry))) ⌝ }
+{
+    let r = preprocessor::transform_body_by_levels(text, table, output, work, spare);
     put_called(answer, r);
 }
 
@@ -241,14 +261,37 @@ pub extern "C" fn plpgsql_preprocess(
     records: &mut [u32],
     answer: &mut [u32; 4],
 )
-    ensures { λ _. ⌜ now (output .exit) ≡ functionOutput (now (text .entry)) (now (output .entry)) (now (work .entry)) (now (spare .entry)) (now (declared .entry)) (now (records .entry)) ⌝ }
+    ensures { λ _. ⌜ now (output .exit) ≡ functionOutput noTable (now (text .entry)) (now (output .entry)) (now (work .entry)) (now (spare .entry)) (now (declared .entry)) (now (records .entry)) ⌝ }
     ensures { λ _. ⌜ now (work .exit) ≡ workExit (functionCheck (now (text .entry)) (now (output .entry)) (now (work .entry)) (now (spare .entry)) (now (declared .entry)) (now (records .entry))) (now (work .entry)) ⌝ }
     ensures { λ _. ⌜ now (spare .exit) ≡ workExit (functionCheck (now (text .entry)) (now (output .entry)) (now (work .entry)) (now (spare .entry)) (now (declared .entry)) (now (records .entry))) (now (spare .entry)) ⌝ }
-    ensures { λ _. ⌜ now (declared .exit) ≡ functionText (now (text .entry)) (now (output .entry)) (now (work .entry)) (now (spare .entry)) (now (declared .entry)) (now (records .entry)) ⌝ }
-    ensures { λ _. ⌜ now (records .exit) ≡ functionRecords (now (text .entry)) (now (output .entry)) (now (work .entry)) (now (spare .entry)) (now (declared .entry)) (now (records .entry)) ⌝ }
-    ensures { λ _. ⌜ now (answer .exit) ≡ fourCalled (functionAnswer (now (text .entry)) (now (output .entry)) (now (work .entry)) (now (spare .entry)) (now (declared .entry)) (now (records .entry))) ⌝ }
+    ensures { λ _. ⌜ now (declared .exit) ≡ functionText noTable (now (text .entry)) (now (output .entry)) (now (work .entry)) (now (spare .entry)) (now (declared .entry)) (now (records .entry)) ⌝ }
+    ensures { λ _. ⌜ now (records .exit) ≡ functionRecords noTable (now (text .entry)) (now (output .entry)) (now (work .entry)) (now (spare .entry)) (now (declared .entry)) (now (records .entry)) ⌝ }
+    ensures { λ _. ⌜ now (answer .exit) ≡ fourCalled (functionAnswer noTable (now (text .entry)) (now (output .entry)) (now (work .entry)) (now (spare .entry)) (now (declared .entry)) (now (records .entry))) ⌝ }
 {
     let r = preprocessor::preprocess(text, output, work, spare, declared, records);
+    put_called(answer, r);
+}
+
+// The function call with the actions of a table.
+#[no_mangle]
+pub extern "C" fn plpgsql_preprocess_by_levels(
+    text: &[u8],
+    table: &[u8],
+    output: &mut [u8],
+    work: &mut [u8],
+    spare: &mut [u8],
+    declared: &mut [u8],
+    records: &mut [u32],
+    answer: &mut [u32; 4],
+)
+    ensures { λ _. ⌜ now (output .exit) ≡ functionOutput (tableOf (now (table .entry))) (now (text .entry)) (now (output .entry)) (now (work .entry)) (now (spare .entry)) (now (declared .entry)) (now (records .entry)) ⌝ }
+    ensures { λ _. ⌜ now (work .exit) ≡ workExit (functionCheck (now (text .entry)) (now (output .entry)) (now (work .entry)) (now (spare .entry)) (now (declared .entry)) (now (records .entry))) (now (work .entry)) ⌝ }
+    ensures { λ _. ⌜ now (spare .exit) ≡ workExit (functionCheck (now (text .entry)) (now (output .entry)) (now (work .entry)) (now (spare .entry)) (now (declared .entry)) (now (records .entry))) (now (spare .entry)) ⌝ }
+    ensures { λ _. ⌜ now (declared .exit) ≡ functionText (tableOf (now (table .entry))) (now (text .entry)) (now (output .entry)) (now (work .entry)) (now (spare .entry)) (now (declared .entry)) (now (records .entry)) ⌝ }
+    ensures { λ _. ⌜ now (records .exit) ≡ functionRecords (tableOf (now (table .entry))) (now (text .entry)) (now (output .entry)) (now (work .entry)) (now (spare .entry)) (now (declared .entry)) (now (records .entry)) ⌝ }
+    ensures { λ _. ⌜ now (answer .exit) ≡ fourCalled (functionAnswer (tableOf (now (table .entry))) (now (text .entry)) (now (output .entry)) (now (work .entry)) (now (spare .entry)) (now (declared .entry)) (now (records .entry))) ⌝ }
+{
+    let r = preprocessor::preprocess_by_levels(text, table, output, work, spare, declared, records);
     put_called(answer, r);
 }
 

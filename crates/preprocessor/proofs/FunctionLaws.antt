@@ -18,6 +18,7 @@ use Rattle.spec.specs.Search.{first, keywordHere}
 use Rattle.spec.specs.Map.{mapOf, marked, markedText}
 use Rattle.spec.specs.Outcome.{accepted, refused, Rewriting}
 use Rattle.spec.specs.Raise.{actionOf}
+use Rattle.spec.specs.declared.Actions.{Actions}
 use Rattle.spec.specs.Body.{rewriting}
 use Rattle.spec.specs.Declarations.{Declared, recordLimit, recordWidth, recordsOf, bodyFrom, bodyOf, packed, numbersOf}
 use Rattle.spec.specs.Answers.{Result, resultOf, bodyResult, functionResult, withoutRecords, keptBehind, zeroedTo}
@@ -46,9 +47,9 @@ unfolding parsedOf
 parsed-names ds e = by (ltb 512 (length ds)) (λ p. ltb-true 512 (length ds) p) (λ p. let q : Count (length ds) (length (packed ds)) ≡ TooManyNames = rw p at e in absurd (apart (cc)))
 
 -- the call's result with too many names
-pub names-refused : (xs : List ℕ) → 512 < length (recordsOf xs) → functionResult xs ≡ withoutRecords refusal.TooManyNames []
+pub names-refused : (xs : List ℕ) (a : Actions) → 512 < length (recordsOf xs) → functionResult xs a ≡ withoutRecords refusal.TooManyNames []
 unfolding functionResult recordLimit
-names-refused xs h = rw (lt-ltb 512 (length (recordsOf xs)) h) refl
+names-refused xs a h = rw (lt-ltb 512 (length (recordsOf xs)) h) refl
 
 -- the records change an accepted answer's count, and no output
 pub records-answer : (ds : List Declared) (w : Rewriting) → withRecords (length ds) (resultOf [] w .answer) ≡ resultOf ds w .answer
@@ -116,7 +117,7 @@ module _ (xs work work′ : List ℕ) (m : work′ ≡ keptBehind (mapOf xs) wor
   the-records = ap recordsIn mapped ∙ records-in xs
 
   -- there are c records, whose texts have n bytes, and the passes ran over the body, which starts at `start`
-  module _ (start c n : ℕ) (b : drop start xs ≡ bodyFrom (first (keywordHere (ascii "BEGIN")) 0 (marked xs work′)) xs)
+  module _ (k : Actions) (start c n : ℕ) (b : drop start xs ≡ bodyFrom (first (keywordHere (ascii "BEGIN")) 0 (marked xs work′)) xs)
       (q : parsedOf (recordsIn (marked xs work′)) ≡ Count c n) where
     told : (length (recordsOf xs) ≤ 512) × (length (recordsOf xs) ≡ c) × (length (packed (recordsOf xs)) ≡ n)
     told = told-count (recordsOf xs) c n (ap parsedOf (sym the-records) ∙ q)
@@ -125,9 +126,9 @@ module _ (xs work work′ : List ℕ) (m : work′ ≡ keptBehind (mapOf xs) wor
     unfolding bodyOf
     the-body = sym (b ∙ ap (λ t. bodyFrom (first (keywordHere (ascii "BEGIN")) 0 t) xs) mapped)
 
-    result : functionResult xs ≡ resultOf (recordsOf xs) (rewriting actionOf (drop start xs))
+    result : functionResult xs k ≡ resultOf (recordsOf xs) (rewriting (actionOf k) (drop start xs))
     unfolding recordLimit
-    result = function-passes xs (told .0) ∙ ap (λ ys. resultOf (recordsOf xs) (rewriting actionOf ys)) the-body
+    result = function-passes xs k (told .0) ∙ ap (λ ys. resultOf (recordsOf xs) (rewriting (actionOf k) ys)) the-body
 
     pub count-small : c ≤ 512
     count-small = omega (arith, told .0, told .1)
@@ -138,42 +139,42 @@ module _ (xs work work′ : List ℕ) (m : work′ ≡ keptBehind (mapOf xs) wor
     pub texts-small : length xs ≤ 16384 → n ≤ 65536
     texts-small h = omega (arith, packed-fits xs, told .2, h)
 
-    pub output-is : bodyResult (drop start xs) .output ≡ functionResult xs .output
+    pub output-is : bodyResult (drop start xs) k .output ≡ functionResult xs k .output
     unfolding bodyResult
-    output-is = records-output (recordsOf xs) (rewriting actionOf (drop start xs)) ∙ sym (ap (λ (f : Result). f .output) result)
+    output-is = records-output (recordsOf xs) (rewriting (actionOf k) (drop start xs)) ∙ sym (ap (λ (f : Result). f .output) result)
 
-    module _ (r : Rewritten) (a : r ≡ bodyResult (drop start xs) .answer) where
-      pub answer-is : withRecords c r ≡ functionResult xs .answer
+    module _ (r : Rewritten) (a : r ≡ bodyResult (drop start xs) k .answer) where
+      pub answer-is : withRecords c r ≡ functionResult xs k .answer
       unfolding bodyResult
       answer-is =
-          rw (← told .1, a) (records-answer (recordsOf xs) (rewriting actionOf (drop start xs)) ∙ sym (ap (λ (f : Result). f .answer) result))
+          rw (← told .1, a) (records-answer (recordsOf xs) (rewriting (actionOf k) (drop start xs)) ∙ sym (ap (λ (f : Result). f .answer) result))
 
       module _ (d d′ rs rs′ : List ℕ) (held : Holds (recordsIn (marked xs work′)) d d′ rs rs′) where
         packed-as : Packed (recordsOf xs) d d′ rs′
         packed-as = (subst (λ (ds : List Declared). Holds ds d d′ rs rs′) the-records held) .accepted (told .0)
 
-        pub texts-are : take (ifAccepted r n) d′ ≡ functionResult xs .declared
+        pub texts-are : take (ifAccepted r n) d′ ≡ functionResult xs k .declared
         unfolding bodyResult
         texts-are =
             rw (← told .2, a)
-            (texts-held (recordsOf xs) (rewriting actionOf (drop start xs)) d′ (packed-as .front) ∙ sym (ap (λ (f : Result). f .declared) result))
+            (texts-held (recordsOf xs) (rewriting (actionOf k) (drop start xs)) d′ (packed-as .front) ∙ sym (ap (λ (f : Result). f .declared) result))
 
-        pub numbers-are : take (ifAccepted r (10 * c + 10)) rs′ ≡ functionResult xs .records
+        pub numbers-are : take (ifAccepted r (10 * c + 10)) rs′ ≡ functionResult xs k .records
         unfolding bodyResult
         numbers-are =
             rw (← told .1, a)
-            (numbers-held (recordsOf xs) (rewriting actionOf (drop start xs)) rs′ (packed-as .numbers) ∙ sym (ap (λ (f : Result). f .records) result))
+            (numbers-held (recordsOf xs) (rewriting (actionOf k) (drop start xs)) rs′ (packed-as .numbers) ∙ sym (ap (λ (f : Result). f .records) result))
 
         pub texts-kept : length xs ≤ 16384 → drop 65536 d′ ≡ drop 65536 d
         texts-kept h = ap (drop 65536) (packed-as .texts) ∙ sets-drop (packed (recordsOf xs)) d 0 65536 (omega (arith, packed-fits xs, h))
 
   -- there are too many names
-  module _ (q : parsedOf (recordsIn (marked xs work′)) ≡ TooManyNames) where
+  module _ (k : Actions) (q : parsedOf (recordsIn (marked xs work′)) ≡ TooManyNames) where
     many : 512 < length (recordsOf xs)
     many = parsed-names (recordsOf xs) (ap parsedOf (sym the-records) ∙ q)
 
-    pub refused-is : functionResult xs ≡ withoutRecords refusal.TooManyNames []
-    refused-is = names-refused xs many
+    pub refused-is : functionResult xs k ≡ withoutRecords refusal.TooManyNames []
+    refused-is = names-refused xs k many
 
     pub texts-same : (d d′ rs rs′ : List ℕ) → Holds (recordsIn (marked xs work′)) d d′ rs rs′ → d′ ≡ d
     texts-same d d′ rs rs′ held = (subst (λ (ds : List Declared). Holds ds d d′ rs rs′) the-records held) .refused many

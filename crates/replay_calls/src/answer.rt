@@ -1,5 +1,5 @@
-// A line `b` or `f` with NUMBER PLACE LENGTH RECORDS: the body call or the function call is made, and its numbers and all lent
-// buffers are compared with what they must be.
+// A line `b` or `f` with NUMBER PLACE LENGTH RECORDS: the body call or the function call is made, with a table of levels if the
+// letter is a capital, and its numbers and all lent buffers are compared with what they must be.
 use crate::call::CallNumbers;
 use crate::call::call_body;
 use crate::call::call_function;
@@ -120,12 +120,22 @@ fn are_buffers(
 }
 
 // The body call of a line, and whether its answer is the line's and its buffers are as they must be, after a place was changed.
-pub fn body_agrees(line: &[u8], text: &[u8], result: &[u8], lent: Lent, fault: Fault) -> bool {
+pub fn body_agrees(
+    line: &[u8],
+    text: &[u8],
+    by_levels: bool,
+    table: &[u8],
+    result: &[u8],
+    lent: Lent,
+    fault: Fault,
+) -> bool {
     let mut output = marked_bytes();
     let mut work = marked_bytes();
     let mut spare = marked_bytes();
     let got = call_body(
         text,
+        by_levels,
+        table,
         &mut output,
         lent.output,
         &mut work,
@@ -147,6 +157,8 @@ pub fn body_agrees(line: &[u8], text: &[u8], result: &[u8], lent: Lent, fault: F
 pub fn function_agrees(
     line: &[u8],
     text: &[u8],
+    by_levels: bool,
+    table: &[u8],
     result: &[u8],
     declarations: &[u8],
     numbers: &[u32],
@@ -161,6 +173,8 @@ pub fn function_agrees(
     let mut records = marked_numbers();
     let got = call_function(
         text,
+        by_levels,
+        table,
         &mut output,
         lent.output,
         &mut work,

@@ -1,6 +1,7 @@
-// The stored list, line by line. Seven kinds of line prepare for the calls behind them: `t RUNS` gives the text, `e RUNS` the
-// output that the call must leave, `d RUNS` the declaration text and `n NUMBER ..` the record numbers, `l` with five numbers
-// lends buffers of these lengths, `s ROW` names the report's row, and `z BUFFER PLACE` changes a place behind the next call.
+// The stored list, line by line. Eight kinds of line prepare for the calls behind them: `t RUNS` gives the text, `g RUNS` the
+// table of levels, `e RUNS` the output that the call must leave, `d RUNS` the declaration text and `n NUMBER ..` the record
+// numbers, `l` with five numbers lends buffers of these lengths, `s ROW` names the report's row, and `z BUFFER PLACE` changes a
+// place behind the next call.
 use crate::answer::Lent;
 use crate::answer::body_agrees;
 use crate::answer::function_agrees;
@@ -18,11 +19,12 @@ use stored_list::put_numbers;
 use stored_list::put_runs;
 
 // The report's row of the lines that are of no kind.
-const UNKNOWN: usize = 6;
+const UNKNOWN: usize = 9;
 
 pub struct State {
-    // How many bytes the text, the expected output and the expected declaration text have.
+    // How many bytes the text, the table, the expected output and the expected declaration text have.
     pub text: usize,
+    pub table: usize,
     pub result: usize,
     pub declared: usize,
     // How many record numbers are expected.
@@ -53,6 +55,7 @@ fn lent_of(line: &[u8]) -> Lent {
 fn first_state() -> State {
     State {
         text: 0,
+        table: 0,
         result: 0,
         declared: 0,
         numbers: 0,
@@ -75,6 +78,11 @@ fn with_text(mut state: State, n: usize) -> State {
     state.declared = 0;
     state.numbers = 0;
     state.fault = no_fault();
+    state
+}
+
+fn with_table(mut state: State, n: usize) -> State {
+    state.table = n;
     state
 }
 
@@ -108,26 +116,59 @@ fn with_fault(mut state: State, fault: Fault) -> State {
     state
 }
 
+// Whether a line of this kind makes the body call.
+fn is_body(kind: u8) -> bool {
+    if kind == b'b' {
+        return true;
+    }
+    kind == b'B'
+}
+
+// Whether a line of this kind makes the function call.
+fn is_function(kind: u8) -> bool {
+    if kind == b'f' {
+        return true;
+    }
+    kind == b'F'
+}
+
+// Whether the kind is a capital letter, or stands ahead of them: these calls are made with the table.
+fn is_by_levels(kind: u8) -> bool {
+    kind <= b'Z'
+}
+
 // Makes the call of a line, or counts the line as one of no kind.
 fn compare(
     kind: u8,
     line: &[u8],
     text: &[u8],
+    table: &[u8],
     result: &[u8],
     declared: &[u8],
     numbers: &[u32],
     state: State,
     tally: &mut [u32],
 ) {
-    if kind == b'b' {
-        let same = body_agrees(line, text, result, state.lent, state.fault);
+    let by_levels = is_by_levels(kind);
+    if is_body(kind) {
+        let same = body_agrees(
+            line,
+            text,
+            by_levels,
+            table,
+            result,
+            state.lent,
+            state.fault,
+        );
         note(tally, state.row, same);
         return;
     }
-    if kind == b'f' {
+    if is_function(kind) {
         let same = function_agrees(
             line,
             text,
+            by_levels,
+            table,
             result,
             declared,
             numbers,
@@ -145,6 +186,7 @@ fn compare(
 fn take_line(
     line: &[u8],
     text: &mut [u8],
+    table: &mut [u8],
     result: &mut [u8],
     declared: &mut [u8],
     numbers: &mut [u32],
@@ -154,6 +196,9 @@ fn take_line(
     let kind = byte_at(line, 0);
     if kind == b't' {
         return with_text(before, put_runs(line, text));
+    }
+    if kind == b'g' {
+        return with_table(before, put_runs(line, table));
     }
     if kind == b'e' {
         return with_result(before, put_runs(line, result));
@@ -177,6 +222,7 @@ fn take_line(
         kind,
         line,
         part(text, 0, before.text),
+        part(table, 0, before.table),
         part(result, 0, before.result),
         part(declared, 0, before.declared),
         numbers,
@@ -190,6 +236,7 @@ fn take_line(
 pub fn replay(
     buffer: &mut [u8],
     text: &mut [u8],
+    table: &mut [u8],
     result: &mut [u8],
     declared: &mut [u8],
     numbers: &mut [u32],
@@ -206,6 +253,7 @@ pub fn replay(
         state = take_line(
             part(buffer, line.start, line.end),
             text,
+            table,
             result,
             declared,
             numbers,

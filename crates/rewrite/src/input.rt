@@ -1,5 +1,4 @@
-// The text on standard input.
-use libc::STDIN_FILENO;
+// The text on standard input, and the table in a file.
 use output::put_all;
 ghost use mathlib.Core.Path.{_≡_};
 ghost use Prim.Native.Nat.{_≤_};
@@ -23,17 +22,17 @@ fn append(text: &mut [u8], n: usize, more: &[u8]) -> usize
     if end < text.len() { end } else { text.len() }
 }
 
-// Reads to the end of the input and gives how many bytes the text has; -1 if a read fails. Bytes that the text has no room
-// for are read and dropped, so that whoever writes them sees no error. A proved loop has to end, so this one counts its
+// Reads the file to its end and gives how many bytes the text has; -1 if a read fails. Bytes that the text has no room for
+// are read and dropped, so that whoever writes them sees no error. A proved loop has to end, so this one counts its
 // turns down, from a number that no input uses up.
-pub fn read_text(text: &mut [u8]) -> isize
+pub fn read_text(file: i32, text: &mut [u8]) -> isize
     requires { ⌜ length (now text) ≤ 16385 ⌝ }
 {
     let mut chunk = io::buffer();
     let mut n: usize = 0;
     let mut turns = u64::MAX;
     while turns > 0 {
-        let got = libc::read(STDIN_FILENO, &mut chunk);
+        let got = libc::read(file, &mut chunk);
         if got < 0 {
             return -1;
         }

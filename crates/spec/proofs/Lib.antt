@@ -24,6 +24,7 @@ pub mod UnchangedLaws
 pub mod UnchangedPasses
 pub mod RefusalOutcomes
 pub mod RefusalLaws
+pub mod TableNumbers
 pub mod RefusalCalls
 pub mod RefusalBounds
 pub mod MatchLaws
@@ -42,6 +43,8 @@ pub mod MessagePlaces
 pub mod UsingPlaces
 pub mod RaisePlaces
 pub mod RaiseWalk
+pub mod ActionLaws
+pub mod RaiseLength
 pub mod UsingExactly
 pub mod TargetPlaces
 pub mod RunPlaces
@@ -56,3 +59,13 @@ pub mod QualifiedExactly
 pub mod TargetRows
 pub mod DefaultLaws
 pub mod ConstantLaws
+pub mod LineLaws
+pub mod PrefixLaws
+pub mod TableLines
+pub mod TableWalk
+pub mod TableSize
+pub mod LevelLaws
+pub mod TableReach
+pub mod DefaultTable
+pub mod LevelRowForms
+pub mod LevelRows

@@ -11,7 +11,8 @@ use Rattle.spec.specs.Parts.{part}
 use Rattle.spec.specs.Map.{bytes, markedText}
 use Rattle.spec.specs.Assignments.{Target}
 use Rattle.spec.specs.Outcome.{qualifiedTarget, accepted, refused}
-use Rattle.spec.specs.Raise.{Level, Action}
+use Rattle.spec.specs.declared.Level.{Level}
+use Rattle.spec.specs.declared.Action.{Action}
 use Rattle.spec.specs.Body.{rewriting}
 
 -- 4: passes 1 and 2 accept, and in the text after pass 2 the first statement with a qualified target has `q.n`

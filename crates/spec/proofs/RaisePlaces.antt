@@ -1,14 +1,15 @@
--- A RAISE in document 01's words, by offsets of the text: its level, where its statement ends, which one is refused, and
--- where the search goes on. The definition gives exactly these. Assumes nothing.
+-- A RAISE in document 01's words, by offsets of the text and with any actions of the levels: its level, where its statement
+-- ends, which one is refused, what becomes of the others, and where the search goes on. The definition gives exactly these.
+-- Assumes nothing.
 use mathlib.Core.Path.{_≡_, refl, sym, ap, _∙_, subst}
-use mathlib.Core.Bool.{Bool, true, false, not, false≢true}
+use mathlib.Core.Bool.{Bool, true, false, cond, not, false≢true}
 use mathlib.Core.Logic.{_↔_}
 use mathlib.Core.List.{List}
 use mathlib.Core.Option.{Option, none, some}
 use Prim.Native.Nat.{ℕ, _+_, _-_, _≤_, _<_, zero-le}
 use native.Mathlib.Omega.{arith}
 use borrow.Author.Tests.{ltb-true, ltb-false, not-true, not-false}
-use lib.Dec.{ltb}
+use lib.Dec.{eqb, ltb}
 use lib.ListN.{length, take, drop, getD, length-drop}
 use lib.Seq.{drop-drop, getD-drop, length-take-le}
 use Rattle.spec.proofs.AheadLaws.{drop-one}
@@ -19,39 +20,50 @@ use Rattle.spec.proofs.FirstLaws.{LeastOf, NoneOf}
 use Rattle.spec.proofs.MapLaws.{text-bytes, text-length}
 use Rattle.spec.proofs.SearchLaws.{IsByteAt, byte-says}
 use Rattle.spec.proofs.TrimLaws.{IsTrimmed, trimmed-some, trimmed-part, part-of-front}
-use Rattle.spec.proofs.UsingPlaces.{MatchesAt, IsRefusedContent, starts-matches, matches-starts, abort-refused-exactly}
+use Rattle.spec.proofs.UsingPlaces.{MatchesAt, IsRefusedContent, Rewrites, starts-matches, matches-starts, fate-exactly}
 use Rattle.spec.proofs.WalkLaws.{passesAt, while-take, while-length, while-passes, while-fails, while-passes-at, while-fails-at, while-exactly}
 use Rattle.spec.specs.Bytes.{ascii, upper, isLower, within}
 use Rattle.spec.specs.Lists.{takeWhile}
 use Rattle.spec.specs.Map.{Marked, live, bytes, markedText, ofByte, isLiveByte}
 use Rattle.spec.specs.Search.{startsIgnoringCase, byteHere}
 use Rattle.spec.specs.Parts.{trim}
-use Rattle.spec.specs.Raise.{dropped, passed, refusedClause, abortFate, Level, exception, notice, warning, debug, log, info, levelWords, levelIn, endsLevel, isException, levelLen, actionOf, contentOf, actionFate, Raised, raisedAt}
+use Rattle.spec.specs.Raise.{Fate, rewritten, dropped, passed, refusedClause, levelWords, levelIn, endsLevel, isException, levelLen, contentOf, actionFate, Raised, raisedAt}
+use Rattle.spec.specs.declared.Level.{Level}
+use Rattle.spec.specs.declared.Level.the-variants.{Exception, Notice, Warning, Debug, Log, Info}
+use Rattle.spec.specs.declared.Action.{Action}
+use Rattle.spec.specs.declared.Action.the-variants.{Drop, Raise}
 
 -- ---- the words
 
--- the words of the levels other than EXCEPTION: INFO has a space, a newline or `;`
-pub data IsOtherWord : List ℕ → Type 0 where
-  is-notice : IsOtherWord (ascii "NOTICE")
-  is-warning : IsOtherWord (ascii "WARNING")
-  is-debug : IsOtherWord (ascii "DEBUG")
-  is-log : IsOtherWord (ascii "LOG")
-  info-space : IsOtherWord (ascii "INFO ")
-  info-newline : IsOtherWord (ascii "INFO\n")
-  info-semicolon : IsOtherWord (ascii "INFO;")
+-- the words of the levels: INFO has a space, a newline or `;`
+pub data IsLevelWord : Level → List ℕ → Type 0 where
+  is-exception : IsLevelWord Exception (ascii "EXCEPTION")
+  is-notice : IsLevelWord Notice (ascii "NOTICE")
+  is-warning : IsLevelWord Warning (ascii "WARNING")
+  is-debug : IsLevelWord Debug (ascii "DEBUG")
+  is-log : IsLevelWord Log (ascii "LOG")
+  info-space : IsLevelWord Info (ascii "INFO ")
+  info-newline : IsLevelWord Info (ascii "INFO\n")
+  info-semicolon : IsLevelWord Info (ascii "INFO;")
 
--- one of them stands at p, ignoring case
-pub record IsOtherLevel (xs : List ℕ) (p : ℕ) : Type 0 where
-  pub word : List ℕ
-  pub is-word : IsOtherWord word
-  pub stands : MatchesAt word xs p
-
--- such a level runs from p to W or `;` at l, or to the end
-pub record IsLevelEnd (xs : List ℕ) (p l : ℕ) : Type 0 where
+-- what starts at p runs to W or `;` at l, or to the end
+pub record IsRunEnd (xs : List ℕ) (p l : ℕ) : Type 0 where
   pub from : p ≤ l
   pub inside : l ≤ length xs
   pub before : (k : ℕ) → p ≤ k → k < l → endsLevel (getD xs k 0) ≡ false
   pub stops : l < length xs → endsLevel (getD xs l 0) ≡ true
+
+-- where a level that starts at p ends: EXCEPTION behind its nine letters, each other one where its run does
+pub data LevelEnds (xs : List ℕ) (p : ℕ) : Level → ℕ → Type 0 where
+  behind-letters : LevelEnds xs p Exception (p + 9)
+  behind-run : {v : Level} {l : ℕ} → isException v ≡ false → IsRunEnd xs p l → LevelEnds xs p v l
+
+-- the level v stands at p, ignoring case, and ends at l
+pub record IsLevelAt (xs : List ℕ) (p : ℕ) (v : Level) (l : ℕ) : Type 0 where
+  pub word : List ℕ
+  pub is-word : IsLevelWord v word
+  pub stands : MatchesAt word xs p
+  pub ends : LevelEnds xs p v l
 
 -- the statement, of which ys stands behind the level, runs to the next live `;` of ys read afresh, or to the end
 pub data EndsAt (ys : List ℕ) : ℕ → Type 0 where
@@ -59,22 +71,24 @@ pub data EndsAt (ys : List ℕ) : ℕ → Type 0 where
   at-end : NoneOf (IsByteAt ys 59) 0 → EndsAt ys (length ys)
 
 -- where the search that found a RAISE at k goes on: behind the separator at k + 5 if no level stands there, as none does
--- where the text ends; else behind the statement's `;`. Past the end it finds none.
+-- where the text ends; else behind the statement's `;`. Past the end it finds none. The levels' actions have no part in it.
 pub data GoesOn (xs : List ℕ) (k : ℕ) : ℕ → Type 0 where
-  no-level : (MatchesAt (ascii "EXCEPTION") xs (k + 6) → ⊥) → (IsOtherLevel xs (k + 6) → ⊥) → GoesOn xs k (k + 6)
-  behind-exception : {e : ℕ} → MatchesAt (ascii "EXCEPTION") xs (k + 6) → EndsAt (drop (k + 15) xs) e → GoesOn xs k (k + 15 + e + 1)
-  behind-other : {l e : ℕ} → IsOtherLevel xs (k + 6) → IsLevelEnd xs (k + 6) l → EndsAt (drop l xs) e → GoesOn xs k (l + e + 1)
+  no-level : ((v : Level) (l : ℕ) → IsLevelAt xs (k + 6) v l → ⊥) → GoesOn xs k (k + 6)
+  behind-level : {v : Level} {l e : ℕ} → IsLevelAt xs (k + 6) v l → EndsAt (drop l xs) e → GoesOn xs k (l + e + 1)
 
--- the RAISE at k is refused with the clause c: its level is EXCEPTION, and what stands behind that, up to the statement's
--- end and trimmed, is c, a refused content
-pub record IsRefusedRaise (xs : List ℕ) (k : ℕ) (c : List ℕ) : Type 0 where
-  pub level : MatchesAt (ascii "EXCEPTION") xs (k + 6)
+-- the RAISE at k is refused with the clause c: the action of its level is not drop, and what stands behind the level, up to
+-- the statement's end and trimmed, is c, a refused content
+pub record IsRefusedRaise (act : Level → Action) (xs : List ℕ) (k : ℕ) (c : List ℕ) : Type 0 where
+  pub level : Level
+  pub behind : ℕ
+  pub stands : IsLevelAt xs (k + 6) level behind
+  pub not-dropped : act level ≡ Drop → ⊥
   pub end : ℕ
-  pub ends : EndsAt (drop (k + 15) xs) end
+  pub ends : EndsAt (drop behind xs) end
   pub i : ℕ
   pub j : ℕ
-  pub trimmed : IsTrimmed (take end (drop (k + 15) xs)) i j
-  pub clause : c ≡ take (j - i) (drop (k + 15 + i) xs)
+  pub trimmed : IsTrimmed (take end (drop behind xs)) i j
+  pub clause : c ≡ take (j - i) (drop (behind + i) xs)
   pub refuses : IsRefusedContent c
 
 -- ---- the statement's end
@@ -175,96 +189,13 @@ module _ (v : List Marked) (e : ℕ) (w : EndsAt (bytes v) e) where
       ∙ (ap (take (j - i)) (bytes-drop i (contentOf v) ∙ ap (drop i) content-bytes)
       ∙ part-of-front (j - i) i e (bytes v) (omega (arith, u .ordered, u .inside))))
 
--- ---- the level
-
--- the RAISE at the front of u
-abbrev pub raiseOf : List Marked → Raised
-raiseOf u = raisedAt actionOf (levelIn levelWords (drop 6 u)) u
-
--- what the definition reads at p, and what stands there
-data Reads (t : List Marked) (p : ℕ) : Type 0 where
-  reads-exception : levelIn levelWords (drop p t) ≡ some exception → MatchesAt (ascii "EXCEPTION") (bytes t) p → Reads t p
-  reads-other : (l : Level) → levelIn levelWords (drop p t) ≡ some l → isException l ≡ false
-      → (MatchesAt (ascii "EXCEPTION") (bytes t) p → ⊥)
-      → IsOtherLevel (bytes t) p
-      → Reads t p
-  reads-none : levelIn levelWords (drop p t) ≡ none → (MatchesAt (ascii "EXCEPTION") (bytes t) p → ⊥) → (IsOtherLevel (bytes t) p → ⊥)
-      → Reads t p
-
-module _ (t : List Marked) (p : ℕ) where
-  abbrev here : List ℕ → Bool
-  here w = startsIgnoringCase w (drop p t)
-
-  fails : (w : List ℕ) → here w ≡ false → MatchesAt w (bytes t) p → ⊥
-  fails w e s = false≢true (sym e ∙ matches-starts t w p s)
-
-  stood : (w : List ℕ) → IsOtherWord w → 0 < length w → here w ≡ true → IsOtherLevel (bytes t) p
-  stood w i h e = record { word = w; is-word = i; stands = starts-matches t w p e h }
-
-  -- where EXCEPTION does not stand, the words of the other levels are tried in turn
-  reads-on : here (ascii "EXCEPTION") ≡ false → Reads t p
-  unfolding levelWords levelIn
-  reads-on x =
-      let no = fails (ascii "EXCEPTION") x in
-      by (here (ascii "NOTICE")) (λ e. reads-other notice (rw (x, e)) refl no (stood _ is-notice (omega arith) e)) (λ a.
-      by (here (ascii "WARNING")) (λ e. reads-other warning (rw (x, a, e)) refl no (stood _ is-warning (omega arith) e)) (λ b.
-      by (here (ascii "DEBUG")) (λ e. reads-other debug (rw (x, a, b, e)) refl no (stood _ is-debug (omega arith) e)) (λ c.
-      by (here (ascii "LOG")) (λ e. reads-other log (rw (x, a, b, c, e)) refl no (stood _ is-log (omega arith) e)) (λ d.
-      by (here (ascii "INFO "))
-      (λ e. reads-other info (rw (x, a, b, c, d, e)) refl no (stood _ info-space (omega arith) e)) (λ f.
-      by (here (ascii "INFO\n"))
-      (λ e. reads-other info (rw (x, a, b, c, d, f, e)) refl no (stood _ info-newline (omega arith) e)) (λ g.
-      by (here (ascii "INFO;"))
-      (λ e. reads-other info (rw (x, a, b, c, d, f, g, e)) refl no (stood _ info-semicolon (omega arith) e)) (λ h.
-      reads-none (rw (x, a, b, c, d, f, g, h)) no
-      (λ o. fails (o .word) (each a b c d f g h (o .word) (o .is-word)) (o .stands)))))))))
-    where
-      each : here (ascii "NOTICE") ≡ false → here (ascii "WARNING") ≡ false → here (ascii "DEBUG") ≡ false
-          → here (ascii "LOG") ≡ false
-          → here (ascii "INFO ") ≡ false
-          → here (ascii "INFO\n") ≡ false
-          → here (ascii "INFO;") ≡ false
-          → (w : List ℕ)
-          → IsOtherWord w
-          → here w ≡ false
-      each a b c d f g h w is-notice = a
-      each a b c d f g h w is-warning = b
-      each a b c d f g h w is-debug = c
-      each a b c d f g h w is-log = d
-      each a b c d f g h w info-space = f
-      each a b c d f g h w info-newline = g
-      each a b c d f g h w info-semicolon = h
-
-  reads : Reads t p
-  unfolding levelWords levelIn
-  reads =
-      by (here (ascii "EXCEPTION"))
-      (λ e. reads-exception (rw e) (starts-matches t (ascii "EXCEPTION") p e (omega arith))) reads-on
-
--- EXCEPTION is none of the others: they have another first letter
-other-letter : (w : List ℕ) → IsOtherWord w → (0 < length w) × (upper (getD w 0 0) ≡ 69 → ⊥)
-unfolding upper isLower within
-other-letter w is-notice = (omega arith, λ e. omega arith)
-other-letter w is-warning = (omega arith, λ e. omega arith)
-other-letter w is-debug = (omega arith, λ e. omega arith)
-other-letter w is-log = (omega arith, λ e. omega arith)
-other-letter w info-space = (omega arith, λ e. omega arith)
-other-letter w info-newline = (omega arith, λ e. omega arith)
-other-letter w info-semicolon = (omega arith, λ e. omega arith)
-
-not-both : (xs : List ℕ) (p : ℕ) → MatchesAt (ascii "EXCEPTION") xs p → IsOtherLevel xs p → ⊥
-unfolding upper isLower within
-not-both xs p e o =
-    let l = other-letter (o .word) (o .is-word) in
-    l .1 (sym (o .stands .same 0 (l .0)) ∙ e .same 0 (omega arith))
-
--- ---- where another level ends
+-- ---- where a level ends
 
 abbrev staysLevel : ℕ → Bool
 staysLevel c = not (endsLevel c)
 
-level-long : (xs : List ℕ) (p l : ℕ) → IsLevelEnd xs p l → p + length (takeWhile staysLevel (drop p xs)) ≡ l
-level-long xs p l w =
+run-long : (xs : List ℕ) (p l : ℕ) → IsRunEnd xs p l → p + length (takeWhile staysLevel (drop p xs)) ≡ l
+run-long xs p l w =
     let n : length (drop p xs) ≡ length xs - p = length-drop p xs in
     let z : p + (l - p) ≡ l = omega (arith, w .from) in
     let m = while-exactly staysLevel (drop p xs) 0 (l - p) (omega (arith, w .inside))
@@ -274,8 +205,8 @@ level-long xs p l w =
     ∙ (ap (λ (k : ℕ). staysLevel (getD xs k 0)) z ∙ ap not (w .stops (omega (arith, w .from))))) in
     omega (arith, w .from)
 
-level-some : (xs : List ℕ) (p : ℕ) → p ≤ length xs → IsLevelEnd xs p (p + length (takeWhile staysLevel (drop p xs)))
-level-some xs p h =
+run-some : (xs : List ℕ) (p : ℕ) → p ≤ length xs → IsRunEnd xs p (p + length (takeWhile staysLevel (drop p xs)))
+run-some xs p h =
     let n = length (takeWhile staysLevel (drop p xs)) in
     record {
       from = omega arith;
@@ -284,139 +215,303 @@ level-some xs p h =
       stops = λ b. not-false (endsLevel (getD xs (p + n) 0)) (while-fails-at staysLevel xs 0 p b);
     }
 
--- ---- a RAISE, by what is read behind its separator
+-- as the definition reads it at p
+module _ (t : List Marked) (p : ℕ) where
+  run-bytes : length (takeWhile (ofByte staysLevel) (drop p t)) ≡ length (takeWhile staysLevel (drop p (bytes t)))
+  run-bytes =
+      while-length-bytes staysLevel (drop p t) ∙ ap (λ (v : List ℕ). length (takeWhile staysLevel v)) (bytes-drop p t)
 
-module _ (u : List Marked) where
-  none-is : levelIn levelWords (drop 6 u) ≡ none → raiseOf u ≡ record { length = 6; fate = passed (take 6 u) }
-  unfolding raisedAt
-  none-is e = rw e
+  ends-only : (v : Level) (l : ℕ) → LevelEnds (bytes t) p v l → p + levelLen v (drop p t) ≡ l
+  unfolding levelLen
+  ends-only v l behind-letters = refl
+  ends-only v l (behind-run e w) = rw (e, run-bytes) (run-long (bytes t) p l w)
 
-  exception-is : levelIn levelWords (drop 6 u) ≡ some exception
-      → raiseOf u ≡ record { length = 15 + length (contentOf (drop 15 u)) + 1; fate = abortFate (trim (contentOf (drop 15 u))) }
-  unfolding raisedAt levelLen actionFate actionOf
-  exception-is e = rw e
+  ends-level : (v : Level) → p ≤ length (bytes t) → LevelEnds (bytes t) p v (p + levelLen v (drop p t))
+  unfolding levelLen
+  ends-level v h = at v
+    where
+      run : (u : Level) → isException u ≡ false → LevelEnds (bytes t) p u (p + length (takeWhile (ofByte staysLevel) (drop p t)))
+      run u e =
+          let r : IsRunEnd (bytes t) p (p + length (takeWhile (ofByte staysLevel) (drop p t))) = rw run-bytes (run-some (bytes t) p h) in
+          behind-run e r
 
-  -- how long another level is
-  abbrev otherLen : ℕ
-  otherLen = length (takeWhile (ofByte staysLevel) (drop 6 u))
+      at : (u : Level) → LevelEnds (bytes t) p u (p + levelLen u (drop p t))
+      at Exception = behind-letters
+      at Notice = run Notice refl
+      at Warning = run Warning refl
+      at Debug = run Debug refl
+      at Log = run Log refl
+      at Info = run Info refl
 
-  other-is : (l : Level) → levelIn levelWords (drop 6 u) ≡ some l → isException l ≡ false
-      → raiseOf u ≡ record { length = 6 + otherLen + length (contentOf (drop (6 + otherLen) u)) + 1; fate = dropped }
-  unfolding raisedAt levelLen actionFate actionOf
-  other-is l e f = rw (e, f)
+-- ---- the level
+
+-- a level is told by its word's first letter, so no two stand at one place
+abbrev letterLevel : ℕ → Level
+letterLevel b =
+    cond (eqb b 69) Exception (cond (eqb b 78) Notice (cond (eqb b 87) Warning (cond (eqb b 68) Debug (cond (eqb b 76) Log Info))))
+
+word-letter : (v : Level) (w : List ℕ) → IsLevelWord v w → (0 < length w) × (letterLevel (upper (getD w 0 0)) ≡ v)
+unfolding upper isLower within
+word-letter v w is-exception = (omega arith, refl)
+word-letter v w is-notice = (omega arith, refl)
+word-letter v w is-warning = (omega arith, refl)
+word-letter v w is-debug = (omega arith, refl)
+word-letter v w is-log = (omega arith, refl)
+word-letter v w info-space = (omega arith, refl)
+word-letter v w info-newline = (omega arith, refl)
+word-letter v w info-semicolon = (omega arith, refl)
+
+pub one-level : (xs : List ℕ) (p l m : ℕ) (v u : Level) → IsLevelAt xs p v l → IsLevelAt xs p u m → v ≡ u
+one-level xs p l m v u a b =
+    let x = word-letter v (a .word) (a .is-word) in
+    let y = word-letter u (b .word) (b .is-word) in
+    sym (x .1) ∙ (ap letterLevel (sym (a .stands .same 0 (x .0)) ∙ b .stands .same 0 (y .0)) ∙ y .1)
+
+-- what the definition reads at p, and what stands there
+data Reads (t : List Marked) (p : ℕ) : Type 0 where
+  reads-level : (v : Level) → levelIn levelWords (drop p t) ≡ some v → IsLevelAt (bytes t) p v (p + levelLen v (drop p t))
+      → Reads t p
+  reads-none : levelIn levelWords (drop p t) ≡ none → ((v : Level) (l : ℕ) → IsLevelAt (bytes t) p v l → ⊥) → Reads t p
+
+module _ (t : List Marked) (p : ℕ) where
+  abbrev here : List ℕ → Bool
+  here w = startsIgnoringCase w (drop p t)
+
+  stood : (v : Level) (w : List ℕ) → levelIn levelWords (drop p t) ≡ some v → IsLevelWord v w → here w ≡ true → Reads t p
+  stood v w q i e =
+      let s = starts-matches t w p e (word-letter v w i .0) in
+      reads-level v q (record { word = w; is-word = i; stands = s; ends = ends-level t p v (omega (arith, s .fits)) })
+
+  -- the words are tried in turn
+  reads : Reads t p
+  unfolding levelWords levelIn
+  reads =
+      by (here (ascii "EXCEPTION")) (λ e. stood Exception _ (rw e) is-exception e) (λ x.
+      by (here (ascii "NOTICE")) (λ e. stood Notice _ (rw (x, e)) is-notice e) (λ a.
+      by (here (ascii "WARNING")) (λ e. stood Warning _ (rw (x, a, e)) is-warning e) (λ b.
+      by (here (ascii "DEBUG")) (λ e. stood Debug _ (rw (x, a, b, e)) is-debug e) (λ c.
+      by (here (ascii "LOG")) (λ e. stood Log _ (rw (x, a, b, c, e)) is-log e) (λ d.
+      by (here (ascii "INFO ")) (λ e. stood Info _ (rw (x, a, b, c, d, e)) info-space e) (λ f.
+      by (here (ascii "INFO\n")) (λ e. stood Info _ (rw (x, a, b, c, d, f, e)) info-newline e) (λ g.
+      by (here (ascii "INFO;")) (λ e. stood Info _ (rw (x, a, b, c, d, f, g, e)) info-semicolon e) (λ h.
+      reads-none (rw (x, a, b, c, d, f, g, h))
+      (λ v l w. false≢true (sym (each x a b c d f g h v (w .word) (w .is-word)) ∙ matches-starts t (w .word) p (w .stands)))))))))))
+    where
+      each : here (ascii "EXCEPTION") ≡ false → here (ascii "NOTICE") ≡ false → here (ascii "WARNING") ≡ false
+          → here (ascii "DEBUG") ≡ false
+          → here (ascii "LOG") ≡ false
+          → here (ascii "INFO ") ≡ false
+          → here (ascii "INFO\n") ≡ false
+          → here (ascii "INFO;") ≡ false
+          → (v : Level) (w : List ℕ)
+          → IsLevelWord v w
+          → here w ≡ false
+      each x a b c d f g h v w is-exception = x
+      each x a b c d f g h v w is-notice = a
+      each x a b c d f g h v w is-warning = b
+      each x a b c d f g h v w is-debug = c
+      each x a b c d f g h v w is-log = d
+      each x a b c d f g h v w info-space = f
+      each x a b c d f g h v w info-newline = g
+      each x a b c d f g h v w info-semicolon = h
+
+  -- a level is read exactly where it stands, with its length
+  pub level-exactly : (v : Level) (l : ℕ)
+      → IsLevelAt (bytes t) p v l
+      ↔ ((levelIn levelWords (drop p t) ≡ some v) × (p + levelLen v (drop p t) ≡ l))
+  level-exactly v l = ((λ w. (to reads w, ends-only t p v l (w .ends))), (λ r. from reads (r .0) (r .1)))
+    where
+      to : Reads t p → IsLevelAt (bytes t) p v l → levelIn levelWords (drop p t) ≡ some v
+      to (reads-level u e s) w = e ∙ ap some (one-level (bytes t) p _ l u v s w)
+      to (reads-none e n) w = absurd (n v l w)
+
+      from : Reads t p → levelIn levelWords (drop p t) ≡ some v → p + levelLen v (drop p t) ≡ l → IsLevelAt (bytes t) p v l
+      from (reads-level u f s) e z =
+          let same : u ≡ v = cc in
+          subst (IsLevelAt (bytes t) p v) z (subst (λ (x : Level). IsLevelAt (bytes t) p x (p + levelLen x (drop p t))) same s)
+      from (reads-none f n) e z = absurd (apart (cc))
 
 -- ---- the RAISE at k
 
-module _ (t : List Marked) (k : ℕ) where
+-- the RAISE at the front of u
+abbrev pub raiseOf : (Level → Action) → List Marked → Raised
+raiseOf act u = raisedAt act (levelIn levelWords (drop 6 u)) u
+
+-- the condition of each fate that an action gives a content
+abbrev ActionCondition : Action → List Marked → Fate → Type 0
+ActionCondition a t (rewritten w m) = (a ≡ Raise w) × Rewrites (trim t) m
+ActionCondition a t dropped = a ≡ Drop
+ActionCondition a t (passed u) = ⊥
+ActionCondition a t (refusedClause c) = (a ≡ Drop → ⊥) × IsRefusedContent (bytes (trim t)) × (c ≡ bytes (trim t))
+
+action-exactly : (a : Action) (t : List Marked) (f : Fate) → (actionFate a t ≡ f) ↔ ActionCondition a t f
+unfolding actionFate
+action-exactly Drop t (rewritten w m) = ((λ h. absurd (apart (cc))), (λ r. let e = r .0 in absurd (apart (cc))))
+action-exactly Drop t dropped = ((λ h. refl), (λ e. refl))
+action-exactly Drop t (passed u) = ((λ h. absurd (apart (cc))), (λ n. absurd n))
+action-exactly Drop t (refusedClause c) = ((λ h. absurd (apart (cc))), (λ r. absurd (r .0 refl)))
+action-exactly (Raise x) t (rewritten w m) = (
+  (λ h. let r = fate-exactly x (trim t) (rewritten w m) .0 h in (ap Raise (sym (r .0)), r .1)),
+  (λ r. let e = r .0 in let same : w ≡ x = cc in fate-exactly x (trim t) (rewritten w m) .1 (same, r .1)),
+)
+action-exactly (Raise x) t dropped = ((λ h. absurd (fate-exactly x (trim t) dropped .0 h)), (λ e. absurd (apart (cc))))
+action-exactly (Raise x) t (passed u) = ((λ h. absurd (fate-exactly x (trim t) (passed u) .0 h)), (λ n. absurd n))
+action-exactly (Raise x) t (refusedClause c) = (
+  (λ h. let r = fate-exactly x (trim t) (refusedClause c) .0 h in ((λ e. apart (cc)), r .0, r .1)),
+  (λ r. fate-exactly x (trim t) (refusedClause c) .1 (r .1, r .2)),
+)
+
+-- what becomes of the RAISE at k: it is rewritten with the word of its level's action and with the message of what stands
+-- behind the level up to the statement's end, trimmed; it is dropped where that action is drop; it passes, with its separator,
+-- where no level stands; else it is refused
+abbrev pub RaiseBecomes : (Level → Action) → List Marked → ℕ → Fate → Type 0
+RaiseBecomes act t k (rewritten w m) =
+    (v : Level) × (l : ℕ) × IsLevelAt (bytes t) (k + 6) v l × (act v ≡ Raise w) × Rewrites (trim (contentOf (drop l t))) m
+RaiseBecomes act t k dropped = (v : Level) × (l : ℕ) × IsLevelAt (bytes t) (k + 6) v l × (act v ≡ Drop)
+RaiseBecomes act t k (passed u) = ((v : Level) (l : ℕ) → IsLevelAt (bytes t) (k + 6) v l → ⊥) × (u ≡ take 6 (drop k t))
+RaiseBecomes act t k (refusedClause c) = IsRefusedRaise act (bytes t) k c
+
+module _ (act : Level → Action) (t : List Marked) (k : ℕ) where
   level-at : (o : Option Level) → levelIn levelWords (drop (k + 6) t) ≡ o → levelIn levelWords (drop 6 (drop k t)) ≡ o
   level-at o e = ap (levelIn levelWords) (drop-drop 6 k t) ∙ e
 
-  -- what stands behind EXCEPTION
-  abbrev behind : List Marked
-  behind = drop (k + 15) t
+  -- with no level behind its separator
+  none-is : levelIn levelWords (drop (k + 6) t) ≡ none → raiseOf act (drop k t) ≡ record { length = 6; fate = passed (take 6 (drop k t)) }
+  unfolding raisedAt
+  none-is e = rw (level-at none e)
 
-  exception-at : levelIn levelWords (drop (k + 6) t) ≡ some exception
-      → raiseOf (drop k t) ≡ record { length = 15 + length (contentOf behind) + 1; fate = abortFate (trim (contentOf behind)) }
-  exception-at e = rw (drop-drop 15 k t) at (exception-is (drop k t) (level-at (some exception) e))
+  -- with the level v, which ends at l
+  level-is : (v : Level) (l : ℕ) → levelIn levelWords (drop (k + 6) t) ≡ some v → k + 6 + levelLen v (drop (k + 6) t) ≡ l
+      → (k + raiseOf act (drop k t) .length ≡ l + length (contentOf (drop l t)) + 1)
+      × (raiseOf act (drop k t) .fate ≡ actionFate (act v) (contentOf (drop l t)))
+  unfolding raisedAt
+  level-is v l e z =
+      let u = drop k t in
+      let n = levelLen v (drop 6 u) in
+      let m : n ≡ levelLen v (drop (k + 6) t) = ap (levelLen v) (drop-drop 6 k t) in
+      let place : k + (6 + n) ≡ l = omega arith in
+      let at : drop (6 + n) u ≡ drop l t = drop-drop (6 + n) k t ∙ ap (λ (i : ℕ). drop i t) place in
+      let is : raiseOf act u
+      ≡ record { length = 6 + n + length (contentOf (drop (6 + n) u)) + 1; fate = actionFate (act v) (contentOf (drop (6 + n) u)) } =
+      rw (level-at (some v) e) in
+      let c : length (contentOf (drop (6 + n) u)) ≡ length (contentOf (drop l t)) = ap (λ (i : List Marked). length (contentOf i)) at in (
+        omega (arith, ap (λ (r : Raised). r .length) is),
+        ap (λ (r : Raised). r .fate) is ∙ ap (λ (i : List Marked). actionFate (act v) (contentOf i)) at,
+      )
 
-  clause-at : (e i j : ℕ) → EndsAt (drop (k + 15) (bytes t)) e → IsTrimmed (take e (drop (k + 15) (bytes t))) i j
-      → bytes (trim (contentOf behind)) ≡ take (j - i) (drop (k + 15 + i) (bytes t))
-  clause-at e i j w u =
-      let same : bytes behind ≡ drop (k + 15) (bytes t) = bytes-drop (k + 15) t in
-      content-trim behind e (rw same w) i j (rw same u)
-      ∙ ap (take (j - i)) (ap (drop i) same ∙ drop-drop i (k + 15) (bytes t))
+  -- what stands behind the level, up to the statement's end and trimmed
+  clause-at : (l e i j : ℕ) → EndsAt (drop l (bytes t)) e → IsTrimmed (take e (drop l (bytes t))) i j
+      → bytes (trim (contentOf (drop l t))) ≡ take (j - i) (drop (l + i) (bytes t))
+  clause-at l e i j w u =
+      let same : bytes (drop l t) ≡ drop l (bytes t) = bytes-drop l t in
+      content-trim (drop l t) e (rw same w) i j (rw same u)
+      ∙ ap (take (j - i)) (ap (drop i) same ∙ drop-drop i l (bytes t))
 
-  -- it is refused with c exactly if it is, in the words above
-  pub raise-refused-exactly : (c : List ℕ) → (raiseOf (drop k t) .fate ≡ refusedClause c) ↔ IsRefusedRaise (bytes t) k c
-  raise-refused-exactly c = (to (reads t (k + 6)), from (reads t (k + 6)))
+  -- each fate is given exactly if the RAISE becomes that, in the words above
+  pub raise-exactly : (f : Fate) → (raiseOf act (drop k t) .fate ≡ f) ↔ RaiseBecomes act t k f
+  raise-exactly f = (to (reads t (k + 6)) f, from f)
     where
-      to : Reads t (k + 6) → raiseOf (drop k t) .fate ≡ refusedClause c → IsRefusedRaise (bytes t) k c
-      to (reads-exception e s) h =
-          let w = abort-refused-exactly (trim (contentOf behind)) c .0 (sym (ap (λ (r : Raised). r .fate) (exception-at e)) ∙ h) in
-          let n = ends-some (drop (k + 15) (bytes t)) in
-          let m = trimmed-some (take (n .0) (drop (k + 15) (bytes t))) in
+      by-action : (v : Level) → levelIn levelWords (drop (k + 6) t) ≡ some v → (g : Fate) → raiseOf act (drop k t) .fate ≡ g
+          → ActionCondition (act v) (contentOf (drop (k + 6 + levelLen v (drop (k + 6) t)) t)) g
+      by-action v e g h = action-exactly (act v) _ g .0 (sym (level-is v _ e refl .1) ∙ h)
+
+      to : Reads t (k + 6) → (g : Fate) → raiseOf act (drop k t) .fate ≡ g → RaiseBecomes act t k g
+      to (reads-level v e s) (rewritten w m) h = let r = by-action v e (rewritten w m) h in (v, _, s, r .0, r .1)
+      to (reads-level v e s) dropped h = (v, _, s, by-action v e dropped h)
+      to (reads-level v e s) (passed u) h = absurd (by-action v e (passed u) h)
+      to (reads-level v e s) (refusedClause c) h =
+          let l = k + 6 + levelLen v (drop (k + 6) t) in
+          let w = by-action v e (refusedClause c) h in
+          let n = ends-some (drop l (bytes t)) in
+          let m = trimmed-some (take (n .0) (drop l (bytes t))) in
           record {
-            level = s;
+            level = v;
+            behind = l;
+            stands = s;
+            not-dropped = w .0;
             end = n .0;
             ends = n .1;
             i = m .0;
             j = m .1;
             trimmed = m .2;
-            clause = w .1 ∙ clause-at (n .0) (m .0) (m .1) (n .1) (m .2);
-            refuses = rw (w .1) (w .0);
+            clause = w .2 ∙ clause-at l (n .0) (m .0) (m .1) (n .1) (m .2);
+            refuses = rw (w .2) (w .1);
           }
-      to (reads-other l e a n o) h =
-          let f = ap (λ (r : Raised). r .fate) (other-is (drop k t) l (level-at (some l) e) a) in
-          absurd (apart (cc))
-      to (reads-none e n o) h =
-          let f = ap (λ (r : Raised). r .fate) (none-is (drop k t) (level-at none e)) in
-          absurd (apart (cc))
+      to (reads-none e n) (rewritten w m) h = let i = ap (λ (r : Raised). r .fate) (none-is e) in absurd (apart (cc))
+      to (reads-none e n) dropped h = let i = ap (λ (r : Raised). r .fate) (none-is e) in absurd (apart (cc))
+      to (reads-none e n) (passed u) h =
+          let i = ap (λ (r : Raised). r .fate) (none-is e) in
+          let same : u ≡ take 6 (drop k t) = cc in
+          (n, same)
+      to (reads-none e n) (refusedClause c) h = let i = ap (λ (r : Raised). r .fate) (none-is e) in absurd (apart (cc))
 
-      from : Reads t (k + 6) → IsRefusedRaise (bytes t) k c → raiseOf (drop k t) .fate ≡ refusedClause c
-      from (reads-exception e s) w =
-          let same : c ≡ bytes (trim (contentOf behind)) =
-          w .clause ∙ sym (clause-at (w .end) (w .i) (w .j) (w .ends) (w .trimmed)) in
-          let r : IsRefusedContent (bytes (trim (contentOf behind))) = rw same at (w .refuses) in
-          ap (λ (r : Raised). r .fate) (exception-at e) ∙ abort-refused-exactly (trim (contentOf behind)) c .1 (r, same)
-      from (reads-other l e a n o) w = absurd (n (w .level))
-      from (reads-none e n o) w = absurd (n (w .level))
+      -- a level that stands at k + 6 is read there
+      at : (v : Level) (l : ℕ) → IsLevelAt (bytes t) (k + 6) v l → (g : Fate) → ActionCondition (act v) (contentOf (drop l t)) g
+          → raiseOf act (drop k t) .fate ≡ g
+      at v l s g r =
+          let read = level-exactly t (k + 6) v l .0 s in
+          level-is v l (read .0) (read .1) .1 ∙ action-exactly (act v) (contentOf (drop l t)) g .1 r
+
+      from : (g : Fate) → RaiseBecomes act t k g → raiseOf act (drop k t) .fate ≡ g
+      from (rewritten w m) r = at (r .0) (r .1) (r .2) (rewritten w m) (r .3, r .4)
+      from dropped r = at (r .0) (r .1) (r .2) dropped (r .3)
+      from (passed u) r = passes (reads t (k + 6))
+        where
+          passes : Reads t (k + 6) → raiseOf act (drop k t) .fate ≡ passed u
+          passes (reads-level v e s) = absurd (r .0 v _ s)
+          passes (reads-none e n) = ap (λ (r : Raised). r .fate) (none-is e) ∙ ap passed (sym (r .1))
+      from (refusedClause c) w =
+          let l = w .behind in
+          let same : c ≡ bytes (trim (contentOf (drop l t))) =
+          w .clause ∙ sym (clause-at l (w .end) (w .i) (w .j) (w .ends) (w .trimmed)) in
+          let r : IsRefusedContent (bytes (trim (contentOf (drop l t)))) = rw same at (w .refuses) in
+          at (w .level) l (w .stands) (refusedClause c) (w .not-dropped, r, same)
+
+  -- so for refusal 5
+  pub raise-refused-exactly : (c : List ℕ) → (raiseOf act (drop k t) .fate ≡ refusedClause c) ↔ IsRefusedRaise act (bytes t) k c
+  raise-refused-exactly c = raise-exactly (refusedClause c)
+
+  -- and where the action is drop, USING is not read
+  pub raise-dropped-exactly : (raiseOf act (drop k t) .fate ≡ dropped)
+      ↔ ((v : Level) × (l : ℕ) × IsLevelAt (bytes t) (k + 6) v l × (act v ≡ Drop))
+  raise-dropped-exactly = raise-exactly dropped
 
   -- ---- where the search goes on
 
-  exception-goes : (e : ℕ) → levelIn levelWords (drop (k + 6) t) ≡ some exception → EndsAt (drop (k + 15) (bytes t)) e
-      → k + 15 + e + 1 ≡ k + raiseOf (drop k t) .length
-  exception-goes e h w =
-      let same : bytes behind ≡ drop (k + 15) (bytes t) = bytes-drop (k + 15) t in
-      let v : EndsAt (bytes behind) e = rw same w in
-      omega (arith, content-long behind e v, ap (λ (r : Raised). r .length) (exception-at h))
-
-  other-goes : (o : Level) (l e : ℕ) → levelIn levelWords (drop (k + 6) t) ≡ some o → isException o ≡ false
-      → IsLevelEnd (bytes t) (k + 6) l
+  level-goes : (v : Level) (l e : ℕ) → levelIn levelWords (drop (k + 6) t) ≡ some v → k + 6 + levelLen v (drop (k + 6) t) ≡ l
       → EndsAt (drop l (bytes t)) e
-      → l + e + 1 ≡ k + raiseOf (drop k t) .length
-  other-goes o l e h a m w =
-      let u = drop k t in
-      let n = otherLen u in
-      let long : n ≡ length (takeWhile staysLevel (drop (k + 6) (bytes t))) =
-      while-length-bytes staysLevel (drop 6 u)
-      ∙ ap (λ (v : List ℕ). length (takeWhile staysLevel v)) (ap bytes (drop-drop 6 k t) ∙ bytes-drop (k + 6) t) in
-      let z : k + (6 + n) ≡ l = omega (arith, level-long (bytes t) (k + 6) l m) in
-      let at : drop (6 + n) u ≡ drop l t = drop-drop (6 + n) k t ∙ ap (λ (i : ℕ). drop i t) z in
+      → l + e + 1 ≡ k + raiseOf act (drop k t) .length
+  level-goes v l e h z w =
       let same : bytes (drop l t) ≡ drop l (bytes t) = bytes-drop l t in
-      let v : EndsAt (bytes (drop l t)) e = rw same w in
-      let c : length (contentOf (drop (6 + n) u)) ≡ e =
-      ap (λ (i : List Marked). length (contentOf i)) at ∙ content-long (drop l t) e v in
-      omega (arith, ap (λ (r : Raised). r .length) (other-is u o (level-at (some o) h) a))
+      let u : EndsAt (bytes (drop l t)) e = rw same w in
+      omega (arith, content-long (drop l t) e u, level-is v l h z .0)
 
-  pub goes-exactly : (n : ℕ) → GoesOn (bytes t) k n ↔ (n ≡ k + raiseOf (drop k t) .length)
-  goes-exactly n = ((λ g. to g (reads t (k + 6))), (λ e. subst (GoesOn (bytes t) k) (sym e) (some-on (reads t (k + 6)))))
+  -- there, whatever the actions are
+  pub goes-exactly : (n : ℕ) → GoesOn (bytes t) k n ↔ (n ≡ k + raiseOf act (drop k t) .length)
+  goes-exactly n = (to, (λ e. subst (GoesOn (bytes t) k) (sym e) (some-on (reads t (k + 6)))))
     where
-      to : {n : ℕ} → GoesOn (bytes t) k n → Reads t (k + 6) → n ≡ k + raiseOf (drop k t) .length
-      to (no-level x y) (reads-exception e s) = absurd (x s)
-      to (no-level x y) (reads-other l e a i o) = absurd (y o)
-      to (no-level x y) (reads-none e i o) = omega (arith, ap (λ (r : Raised). r .length) (none-is (drop k t) (level-at none e)))
-      to (behind-exception {e} s w) (reads-exception h i) = exception-goes e h w
-      to (behind-exception s w) (reads-other l e a i o) = absurd (i s)
-      to (behind-exception s w) (reads-none e i o) = absurd (i s)
-      to (behind-other o m w) (reads-exception e s) = absurd (not-both (bytes t) (k + 6) s o)
-      to (behind-other {l} {e} o m w) (reads-other v h a i j) = other-goes v l e h a m w
-      to (behind-other o m w) (reads-none e i j) = absurd (j o)
+      to : {n : ℕ} → GoesOn (bytes t) k n → n ≡ k + raiseOf act (drop k t) .length
+      to (no-level x) = at (reads t (k + 6))
+        where
+          at : Reads t (k + 6) → k + 6 ≡ k + raiseOf act (drop k t) .length
+          at (reads-level v e s) = absurd (x v _ s)
+          at (reads-none e y) = omega (arith, ap (λ (r : Raised). r .length) (none-is e))
+      to (behind-level {v} {l} {e} s w) = let read = level-exactly t (k + 6) v l .0 s in level-goes v l e (read .0) (read .1) w
 
-      some-on : Reads t (k + 6) → GoesOn (bytes t) k (k + raiseOf (drop k t) .length)
-      some-on (reads-exception e s) =
-          let n = ends-some (drop (k + 15) (bytes t)) in
-          subst (GoesOn (bytes t) k) (exception-goes (n .0) e (n .1)) (behind-exception s (n .1))
-      some-on (reads-other l e a i o) =
-          let h : k + 6 ≤ length (bytes t) = omega (arith, o .stands .fits) in
-          let m = level-some (bytes t) (k + 6) h in
-          let n = ends-some (drop (k + 6 + length (takeWhile staysLevel (drop (k + 6) (bytes t)))) (bytes t)) in
-          subst (GoesOn (bytes t) k) (other-goes l _ (n .0) e a m (n .1)) (behind-other o m (n .1))
-      some-on (reads-none e i o) =
-          let n = ap (λ (r : Raised). k + r .length) (none-is (drop k t) (level-at none e)) in
-          subst (GoesOn (bytes t) k) (sym n) (no-level i o)
+      some-on : Reads t (k + 6) → GoesOn (bytes t) k (k + raiseOf act (drop k t) .length)
+      some-on (reads-level v e s) =
+          let l = k + 6 + levelLen v (drop (k + 6) t) in
+          let n = ends-some (drop l (bytes t)) in
+          subst (GoesOn (bytes t) k) (level-goes v l (n .0) e refl (n .1)) (behind-level s (n .1))
+      some-on (reads-none e x) =
+          let n = ap (λ (r : Raised). k + r .length) (none-is e) in
+          subst (GoesOn (bytes t) k) (sym n) (no-level x)
 
 -- that is behind the RAISE
 pub goes-further : (xs : List ℕ) (k n : ℕ) → GoesOn xs k n → k < n
-goes-further xs k n (no-level x y) = omega arith
-goes-further xs k n (behind-exception s w) = omega arith
-goes-further xs k n (behind-other o m w) = omega (arith, m .from)
+goes-further xs k n (no-level x) = omega arith
+goes-further xs k n (behind-level s w) = omega (arith, level-from xs (k + 6) _ _ (s .ends))
+  where
+    level-from : (xs : List ℕ) (p : ℕ) (v : Level) (l : ℕ) → LevelEnds xs p v l → p ≤ l
+    level-from xs p v l behind-letters = omega arith
+    level-from xs p v l (behind-run e w) = w .from

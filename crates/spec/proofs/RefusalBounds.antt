@@ -24,11 +24,18 @@ use Rattle.spec.specs.Map.{Marked, live, byte, bytes, markedText, frontB
 use Rattle.spec.specs.Search.{byteHere, piecesFrom, pieces, startsIgnoringCase, wordHere}
 use Rattle.spec.specs.Assignments.{Target, orElse, assignHere, targetBefore, assignTarget, loneEquals, equalsTarget, Mark, opensCase, closesCase, opensStatement, Marking, markings, markingHere, casesBehind, targetPast, targetBehind, markedTarget, statementTarget}
 use Rattle.spec.specs.Parts.{trim}
-use Rattle.spec.specs.Raise.{Fate, rewritten, refusedClause, message, usingFate, abortFate, Level, levelIn, levelWords, levelLen, actionOf, Action, abort, drops, contentOf, actionFate, raisedAt, Token, raisesFrom}
+use Rattle.spec.specs.Raise.{Fate, rewritten, refusedClause, message, usingFate, raiseFate, levelIn, levelWords, levelLen, actionOf, contentOf, actionFate, raisedAt, Token, raisesFrom}
+use Rattle.spec.specs.declared.Level.{Level}
+use Rattle.spec.specs.declared.RaiseType.{RaiseType}
+use Rattle.spec.specs.declared.Action.{Action}
+use Rattle.spec.specs.declared.Action.the-variants.{Drop, Raise}
+use Rattle.spec.specs.declared.Actions.{Actions}
+use Rattle.spec.specs.declared.Table.{Table}
+use Rattle.spec.specs.declared.Table.the-variants as table
 use Rattle.spec.specs.Outcome.{qualifiedTarget, usingClause, resultTooLong, accepted, refused, Rewriting}
 use Rattle.spec.specs.Body.{bufferSize, rewriting}
 use Rattle.spec.specs.Declarations.{recordLimit, Declared, recordsOf, bodyOf}
-use Rattle.spec.specs.Answers.{Result, resultOf, bodyResult, functionResult}
+use Rattle.spec.specs.Answers.{Result, resultOf, bodyResult, functionResult, byTable}
 
 pub bytes-length : (t : List Marked) → length (bytes t) ≡ length t
 unfolding bytes
@@ -185,9 +192,10 @@ qualified-fits act xs q n h =
 
 -- ---- a clause is no longer than the text that pass 5 reads
 
-using-within : (content behind : List Marked) → Within length (fateClause (usingFate content behind)) (length content)
+using-within : (w : RaiseType) (content behind : List Marked)
+    → Within length (fateClause (usingFate w content behind)) (length content)
 unfolding usingFate
-using-within content behind =
+using-within w content behind =
     let a = dropWhile (ofByte isW) behind in
     let b = dropWhile (ofByte isW) (drop 7 a) in
     let c = dropWhile (ofByte isW) (drop 1 b) in
@@ -196,23 +204,24 @@ using-within content behind =
     startsIgnoringCase (ascii "MESSAGE") a
     && (eqb (frontByte b) 61
     && (eqb (frontByte c) 39 && isEmpty (dropWhile (ofByte isW) (drop (length m) c)))) in
-    cond-case (λ (f : Fate). Within length (fateClause f) (length content)) fits (rewritten m) (refusedClause (bytes content))
+    cond-case (λ (f : Fate). Within length (fateClause f) (length content)) fits (rewritten w m) (refusedClause (bytes content))
     (λ _. tt)
     (λ _. omega (arith, bytes-length content))
 
-abort-within : (content : List Marked) → Within length (fateClause (abortFate content)) (length content)
-unfolding abortFate
-abort-within content =
+fate-within : (w : RaiseType) (content : List Marked) → Within length (fateClause (raiseFate w content)) (length content)
+unfolding raiseFate
+fate-within w content =
     cond-case (λ (f : Fate). Within length (fateClause f) (length content)) (startsIgnoringCase (ascii "USING") content) _ _
-    (λ _. using-within content (drop 5 content))
+    (λ _. using-within w content (drop 5 content))
     (λ _. tt)
 
 action-within : (a : Action) (content : List Marked) → Within length (fateClause (actionFate a content)) (length content)
 unfolding actionFate
-action-within abort content = within-le length (fateClause (abortFate (trim content))) _ _ (trim-le content) (abort-within (trim content))
-action-within drops content = tt
+action-within Drop content = tt
+action-within (Raise w) content =
+    within-le length (fateClause (raiseFate w (trim content))) _ _ (trim-le content) (fate-within w (trim content))
 
-content-le : (t : List Marked) → length (contentOf t) ≤ length t
+pub content-le : (t : List Marked) → length (contentOf t) ≤ length t
 unfolding contentOf
 content-le t =
     omega (
@@ -263,24 +272,36 @@ using-fits act xs c h =
 
 -- ---- the calls
 
-result-fits : (ds : List Declared) (xs : List ℕ) → length (resultOf ds (rewriting actionOf xs) .output) ≤ bufferSize
+result-fits : (act : Level → Action) (ds : List Declared) (xs : List ℕ) → length (resultOf ds (rewriting act xs) .output) ≤ bufferSize
 unfolding resultOf
-result-fits ds xs = go (rewriting actionOf xs) refl
+result-fits act ds xs = go (rewriting act xs) refl
   where
-    go : (r : Rewriting) → rewriting actionOf xs ≡ r → length (resultOf ds r .output) ≤ bufferSize
-    go (accepted zs) e = accepted-fits actionOf xs zs e
-    go (refused (qualifiedTarget q n)) e = qualified-fits actionOf xs q n e
-    go (refused (usingClause c)) e = using-fits actionOf xs c e
+    go : (r : Rewriting) → rewriting act xs ≡ r → length (resultOf ds r .output) ≤ bufferSize
+    go (accepted zs) e = accepted-fits act xs zs e
+    go (refused (qualifiedTarget q n)) e = qualified-fits act xs q n e
+    go (refused (usingClause c)) e = using-fits act xs c e
     go (refused resultTooLong) e = zero-le
 
--- the output of the body call, and of the function call, is within the buffer size, refusals included
-pub body-output-fits : (xs : List ℕ) → length (bodyResult xs .output) ≤ bufferSize
+-- the output of the body call, and of the function call, is within the buffer size, with any actions and refusals included
+pub body-output-fits : (xs : List ℕ) (a : Actions) → length (bodyResult xs a .output) ≤ bufferSize
 unfolding bodyResult
-body-output-fits xs = result-fits [] xs
+body-output-fits xs a = result-fits (actionOf a) [] xs
 
-pub function-output-fits : (xs : List ℕ) → length (functionResult xs .output) ≤ bufferSize
+pub function-output-fits : (xs : List ℕ) (a : Actions) → length (functionResult xs a .output) ≤ bufferSize
 unfolding functionResult
-function-output-fits xs =
+function-output-fits xs a =
     cond-case (λ (r : Result). length (r .output) ≤ bufferSize) (ltb recordLimit (length (recordsOf xs))) _ _
     (λ _. zero-le)
-    (λ _. result-fits (recordsOf xs) (bodyOf xs))
+    (λ _. result-fits (actionOf a) (recordsOf xs) (bodyOf xs))
+
+-- so it is whatever the table says: a refused table leaves nothing in it
+pub by-table-fits : (levels : Table) (call : Actions → Result) → ((a : Actions) → length (call a .output) ≤ bufferSize)
+    → length (byTable levels call .output) ≤ bufferSize
+by-table-fits (table.Given a) call fits = fits a
+by-table-fits (table.Refused r) call fits = zero-le
+
+pub body-table-fits : (levels : Table) (xs : List ℕ) → length (byTable levels (bodyResult xs) .output) ≤ bufferSize
+body-table-fits levels xs = by-table-fits levels (bodyResult xs) (body-output-fits xs)
+
+pub function-table-fits : (levels : Table) (xs : List ℕ) → length (byTable levels (functionResult xs) .output) ≤ bufferSize
+function-table-fits levels xs = by-table-fits levels (functionResult xs) (function-output-fits xs)

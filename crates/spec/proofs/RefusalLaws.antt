@@ -17,7 +17,9 @@ use Rattle.spec.specs.Elsif.{elsif}
 use Rattle.spec.specs.Assignments.{Target, assignments}
 use Rattle.spec.specs.SelectInto.{quoteWalk, selectInto}
 use Rattle.spec.specs.Outcome.{PassRefusal, qualifiedTarget, usingClause, resultTooLong, accepted, refused, Rewriting, forget}
-use Rattle.spec.specs.Raise.{Level, Action, raisesFrom, raise}
+use Rattle.spec.specs.Raise.{raisesFrom, raise}
+use Rattle.spec.specs.declared.Level.{Level}
+use Rattle.spec.specs.declared.Action.{Action}
 use Rattle.spec.specs.Body.{bufferSize, requotePass, elsifPass, assignPass, selectPass, raisePass, limited, andThen, rewriting}
 
 -- ---- one pass after another

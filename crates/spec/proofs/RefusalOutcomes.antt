@@ -5,13 +5,12 @@ use mathlib.Core.List.{List, [], _∷_, _++_}
 use mathlib.Core.Option.{Option, none, some}
 use Prim.Native.Nat.{ℕ}
 use Rattle.spec.proofs.FirstFound.{eitherOf, firstSome}
-use Rattle.spec.specs.Bytes.{ascii}
 use Rattle.spec.specs.Lists.{isEmpty, takeWhile, dropWhile}
 use Rattle.spec.specs.Search.{firstFrom, first}
-use Rattle.spec.specs.Map.{Marked, live, bytes, lives}
+use Rattle.spec.specs.Map.{Marked, live, bytes}
 use Rattle.spec.specs.Outcome.{qualifiedTarget, usingClause, Outcome, accepted, refused, _⊕_}
 use Rattle.spec.specs.Assignments.{orElse, assignTarget, equalsTarget, markedTarget, assignmentAt, Target, statementTarget, assignment, checkedStatement, statement, joinStatements}
-use Rattle.spec.specs.Raise.{Fate, rewritten, dropped, passed, refusedClause, Token, kept, raised, fateText, tokenText, joinTokens}
+use Rattle.spec.specs.Raise.{Fate, rewritten, dropped, passed, refusedClause, Token, kept, raised, fateText, raiseText, tokenText, joinTokens}
 
 -- ---- outcomes joined
 
@@ -70,7 +69,7 @@ join-statements (s ∷ r ∷ ss) =
 -- ---- tokens with their first refused clause
 
 abbrev pub fateClause : Fate → Option (List ℕ)
-fateClause (rewritten m) = none
+fateClause (rewritten w m) = none
 fateClause dropped = none
 fateClause (passed t) = none
 fateClause (refusedClause c) = some c
@@ -85,7 +84,7 @@ firstClause ps = firstSome tokenClause ps
 
 -- the text made of the tokens, a refused one left out
 unfoldable pub fateBytes : Fate → List Marked
-fateBytes (rewritten m) = lives (ascii "SELECT RAISE(ABORT, ") ++ (m ++ lives (ascii ");"))
+fateBytes (rewritten w m) = raiseText w m
 fateBytes dropped = []
 fateBytes (passed t) = t
 fateBytes (refusedClause c) = []
@@ -114,8 +113,8 @@ join-tokens (kept x ∷ ps) = rw (join-tokens ps) (go (firstClause ps) (x ∷ []
 join-tokens (raised r ∷ ps) = rw (join-tokens ps) (go (r .fate) (firstClause ps) (tokensText ps))
   where
     go : (f : Fate) (o : Option (List ℕ)) (u : List Marked) → fateText f ⊕ clauseOr o u ≡ clauseOr (eitherOf (fateClause f) o) (fateBytes f ++ u)
-    go (rewritten m) none u = refl
-    go (rewritten m) (some c) u = refl
+    go (rewritten w m) none u = refl
+    go (rewritten w m) (some c) u = refl
     go dropped none u = refl
     go dropped (some c) u = refl
     go (passed t) none u = refl

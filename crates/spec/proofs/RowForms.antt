@@ -10,6 +10,7 @@ use lib.ListN.{getD, take, drop}
 use Rattle.spec.specs.Bytes.{ascii, isSame}
 use Rattle.spec.specs.Closed.{isClosed}
 use Rattle.spec.specs.Declarations.{Declared, recordsOf, recordWidth, recordLimit, chainFrom}
+use Rattle.spec.specs.Raise.{defaultActions}
 use Rattle.spec.specs.Computed.{computed}
 use Rattle.spec.specs.Answers.{CallNumbers, callNumbers, Result, bodyResult, functionResult}
 
@@ -18,9 +19,13 @@ pub record Row : Type 0 where
   pub numbers : CallNumbers
   pub output : List ℕ
 
--- the body call on this text
+-- the row of what a call gives
+unfoldable pub resultRow : Result → Row
+resultRow r = record { numbers = callNumbers (r .answer); output = r .output }
+
+-- the body call on this text, without a table
 unfoldable pub body : String → Row
-body s = record { numbers = callNumbers (bodyResult (ascii s) .answer); output = bodyResult (ascii s) .output }
+body s = resultRow (bodyResult (ascii s) defaultActions)
 
 -- number, place, output length and records, then the output
 abbrev pub row : ℕ → ℕ → ℕ → ℕ → String → Row
@@ -56,11 +61,11 @@ pub record FunctionRow : Type 0 where
 unfoldable pub rowOf : Result → FunctionRow
 rowOf r =
     let declared = unpackedAll (r .records) (r .declared) (chainFrom recordLimit (r .records) (getD (r .records) 0 0)) in
-    record { row = record { numbers = callNumbers (r .answer); output = r .output }; declared = declared }
+    record { row = resultRow r; declared = declared }
 
--- the function call on this text
+-- the function call on this text, without a table
 unfoldable pub function : String → FunctionRow
-function s = rowOf (functionResult (ascii s))
+function s = rowOf (functionResult (ascii s) defaultActions)
 
 abbrev pub functionRow : ℕ → ℕ → ℕ → ℕ → String → List ℕ → FunctionRow
 functionRow n p l r s ds = record { row = row n p l r s; declared = ds }
@@ -68,10 +73,10 @@ functionRow n p l r s ds = record { row = row n p l r s; declared = ds }
 -- a is not closed, and rewriting a with x behind it is not the two rewritings joined
 unfoldable pub isLoss : String → String → Bool
 isLoss a x =
-    not (isClosed (ascii a))
-    && not (isSame (bodyResult (ascii a ++ ascii x) .output) (bodyResult (ascii a) .output ++ bodyResult (ascii x) .output))
+    let output : List ℕ → List ℕ = λ xs. bodyResult xs defaultActions .output in
+    not (isClosed (ascii a)) && not (isSame (output (ascii a ++ ascii x)) (output (ascii a) ++ output (ascii x)))
 
 -- with these and all definitions unfolded a row is computed
 unfoldable pub tabled : Unit {0}
-unfolding computed body unpacked unpackedAll rowOf function isLoss
+unfolding computed resultRow body unpacked unpackedAll rowOf function isLoss
 tabled = tt

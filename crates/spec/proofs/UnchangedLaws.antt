@@ -16,7 +16,9 @@ use Rattle.spec.specs.Search.{Test, firstFrom, first, keywordHere, findK
 use Rattle.spec.specs.Requote.{requoteSpan, requoteLexeme, requoted}
 use Rattle.spec.specs.Elsif.{elsifFrom, elsif}
 use Rattle.spec.specs.Outcome.{accepted, _⊕_, forget}
-use Rattle.spec.specs.Raise.{Level, Action, raisesFrom, tokenText, joinTokens, raise}
+use Rattle.spec.specs.Raise.{raisesFrom, tokenText, joinTokens, raise}
+use Rattle.spec.specs.declared.Level.{Level}
+use Rattle.spec.specs.declared.Action.{Action}
 use Rattle.spec.specs.Body.{requotePass, elsifPass, raisePass}
 use Rattle.spec.specs.declared.Found.the-variants.{At, Nothing}
 use Rattle.spec.specs.declared.Span.{Span}

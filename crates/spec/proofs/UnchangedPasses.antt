@@ -22,7 +22,10 @@ use Rattle.spec.specs.Search.{Test, firstFrom, first, isFound, starts, n
 use Rattle.spec.specs.Assignments.{assignHere, assignmentAt, assignment}
 use Rattle.spec.specs.SelectInto.{quoteAfter, quoteWalk, topWordHere, intoAt, selectAt, selectStatement, joinSelects, selectInto}
 use Rattle.spec.specs.Outcome.{accepted}
-use Rattle.spec.specs.Raise.{Level, Action, actionOf}
+use Rattle.spec.specs.Raise.{actionOf}
+use Rattle.spec.specs.declared.Level.{Level}
+use Rattle.spec.specs.declared.Action.{Action}
+use Rattle.spec.specs.declared.Actions.{Actions}
 use Rattle.spec.specs.Body.{bufferSize, requotePass, elsifPass, assignPass, selectPass, raisePass, rewriting}
 use Rattle.spec.specs.Answers.{resultOf, bodyResult}
 use Rattle.spec.specs.Computed.{computed}
@@ -182,14 +185,14 @@ plain-unchanged act xs p =
     (select-unchanged xs (p .noSelectInto)) h)
     (raise-unchanged act xs (p .noRaise)) h
 
--- the body call accepts it, with the text as the output
-pub plain-answer : (xs : List ℕ) → Plain xs → bodyResult xs .answer ≡ rewritten.Accepted (length xs) 0
+-- the body call accepts it with any actions, with the text as the output
+pub plain-answer : (xs : List ℕ) (a : Actions) → Plain xs → bodyResult xs a .answer ≡ rewritten.Accepted (length xs) 0
 unfolding bodyResult resultOf
-plain-answer xs p = rw (plain-unchanged actionOf xs p)
+plain-answer xs a p = rw (plain-unchanged (actionOf a) xs p)
 
-pub plain-output : (xs : List ℕ) → Plain xs → bodyResult xs .output ≡ xs
+pub plain-output : (xs : List ℕ) (a : Actions) → Plain xs → bodyResult xs a .output ≡ xs
 unfolding bodyResult resultOf
-plain-output xs p = rw (plain-unchanged actionOf xs p)
+plain-output xs a p = rw (plain-unchanged (actionOf a) xs p)
 
 -- such texts exist
 plain-row : Plain (ascii "UPDATE t SET a = 'x;$$' WHERE b = (SELECT 1);")

@@ -1,5 +1,5 @@
--- The clause of an abort in document 01's words, by offsets of its content: what is refused and what is rewritten is exactly
--- that. Assumes nothing.
+-- The content of a RAISE whose action is not drop, in document 01's words and by its offsets: what is refused and what is
+-- rewritten is exactly that, and the word is the action's. Assumes nothing.
 use mathlib.Core.Path.{_≡_, refl, sym, ap, _∙_, subst}
 use mathlib.Core.Bool.{Bool, true, false, cond, _&&_, false≢true}
 use mathlib.Core.Logic.{_↔_}
@@ -27,7 +27,8 @@ use Rattle.spec.specs.Bytes.{ascii, upper, isW, isLower, within, prefixB
 use Rattle.spec.specs.Lists.{isEmpty, dropWhile}
 use Rattle.spec.specs.Map.{Marked, bytes, ofByte}
 use Rattle.spec.specs.Search.{startsIgnoringCase}
-use Rattle.spec.specs.Raise.{message, Fate, rewritten, dropped, passed, refusedClause, usingFate, abortFate}
+use Rattle.spec.specs.Raise.{message, Fate, rewritten, dropped, passed, refusedClause, usingFate, raiseFate}
+use Rattle.spec.specs.declared.RaiseType.{RaiseType}
 
 -- w stands at j of xs, ignoring ASCII case
 abbrev pub MatchesAt : List ℕ → List ℕ → ℕ → Type 0
@@ -145,9 +146,9 @@ module _ (t : List Marked) (a b c : ℕ)
       && (eqb (getD (bytes t) b 0) 61
       && (eqb (getD (bytes t) c 0) 39 && isEmpty (dropWhile (ofByte isW) (drop (c + length (message (drop c t))) t))))
 
-  using-is : usingFate t (drop 5 t) ≡ cond fits (rewritten (message (drop c t))) (refusedClause (bytes t))
+  using-is : (w : RaiseType) → usingFate w t (drop 5 t) ≡ cond fits (rewritten w (message (drop c t))) (refusedClause (bytes t))
   unfolding usingFate
-  using-is =
+  using-is w =
       rw (
         run t 5 .rest,
         pa,
@@ -206,21 +207,21 @@ pub data Rewrites (t m : List Marked) : Type 0 where
   of-content : {i j : ℕ} → (MatchesAt (ascii "USING") (bytes t) 0 → ⊥) → IsMessage (bytes t) i j → m ≡ take (j - i) (drop i t)
       → Rewrites t m
 
--- the condition of each fate
-abbrev pub AbortCondition : List Marked → Fate → Type 0
-AbortCondition t (rewritten m) = Rewrites t m
-AbortCondition t dropped = ⊥
-AbortCondition t (passed u) = ⊥
-AbortCondition t (refusedClause c) = IsRefusedContent (bytes t) × (c ≡ bytes t)
+-- the condition of each fate, where the action is SQLite's RAISE with the word w
+abbrev pub RaiseCondition : RaiseType → List Marked → Fate → Type 0
+RaiseCondition w t (rewritten v m) = (v ≡ w) × Rewrites t m
+RaiseCondition w t dropped = ⊥
+RaiseCondition w t (passed u) = ⊥
+RaiseCondition w t (refusedClause c) = IsRefusedContent (bytes t) × (c ≡ bytes t)
 
-module _ (t : List Marked) where
-  abort-using : MatchesAt (ascii "USING") (bytes t) 0 → abortFate t ≡ usingFate t (drop 5 t)
-  unfolding abortFate
-  abort-using u = rw (matches-starts t (ascii "USING") 0 u)
+module _ (w : RaiseType) (t : List Marked) where
+  fate-using : MatchesAt (ascii "USING") (bytes t) 0 → raiseFate w t ≡ usingFate w t (drop 5 t)
+  unfolding raiseFate
+  fate-using u = rw (matches-starts t (ascii "USING") 0 u)
 
-  abort-content : (MatchesAt (ascii "USING") (bytes t) 0 → ⊥) → abortFate t ≡ rewritten (message t)
-  unfolding abortFate
-  abort-content n =
+  fate-content : (MatchesAt (ascii "USING") (bytes t) 0 → ⊥) → raiseFate w t ≡ rewritten w (message t)
+  unfolding raiseFate
+  fate-content n =
       by (startsIgnoringCase (ascii "USING") t)
       (λ e. absurd (n (starts-matches t (ascii "USING") 0 e (omega arith))))
       (λ e. rw e)
@@ -235,60 +236,65 @@ module _ (t : List Marked) where
   abbrev cEnd : ℕ
   cEnd = endFrom isW (bytes t) (bEnd + 1)
 
-  abort-gives : (f : Fate) → AbortCondition t f → abortFate t ≡ f
-  abort-gives (rewritten m) (of-clause {a} {b} {c} {d} w e) =
-      let pa = place-message (bytes t) a b c d w in
-      let pb = place-equals (bytes t) a b c d w in
-      let pc = place-quote (bytes t) a b c d w in
-      abort-using (w .at-using)
-      ∙ (using-is t a b c pa pb pc
-      ∙ rw (clause-fits t a b c pa pb pc d w) (ap rewritten (message-from t c d (w .is-message) .0 ∙ sym e)))
-  abort-gives (rewritten m) (of-content {i} {j} n w e) = abort-content n ∙ ap rewritten (message-part t i j w ∙ sym e)
-  abort-gives (refusedClause c) w =
-      abort-using (w .0 .at-using)
-      ∙ (using-is t aEnd bEnd cEnd refl refl refl
-      ∙ by (fits t aEnd bEnd cEnd refl refl refl)
-      (λ e. absurd (w .0 .no-clause aEnd bEnd cEnd _ (fits-clause t aEnd bEnd cEnd refl refl refl (w .0 .at-using) e)))
-      (λ e. rw e (ap refusedClause (sym (w .1)))))
+  -- m is put in, with the word w
+  fate-rewrites : (m : List Marked) → Rewrites t m → raiseFate w t ≡ rewritten w m
+  fate-rewrites m (of-clause {a} {b} {c} {d} v e) =
+      let pa = place-message (bytes t) a b c d v in
+      let pb = place-equals (bytes t) a b c d v in
+      let pc = place-quote (bytes t) a b c d v in
+      fate-using (v .at-using)
+      ∙ (using-is t a b c pa pb pc w
+      ∙ rw (clause-fits t a b c pa pb pc d v) (ap (rewritten w) (message-from t c d (v .is-message) .0 ∙ sym e)))
+  fate-rewrites m (of-content {i} {j} n v e) = fate-content n ∙ ap (rewritten w) (message-part t i j v ∙ sym e)
 
-  abort-decided : (f : Fate) × AbortCondition t f
-  abort-decided =
+  fate-gives : (f : Fate) → RaiseCondition w t f → raiseFate w t ≡ f
+  fate-gives (rewritten v m) c = fate-rewrites m (c .1) ∙ ap (λ (u : RaiseType). rewritten u m) (sym (c .0))
+  fate-gives (refusedClause c) v =
+      fate-using (v .0 .at-using)
+      ∙ (using-is t aEnd bEnd cEnd refl refl refl w
+      ∙ by (fits t aEnd bEnd cEnd refl refl refl)
+      (λ e. absurd (v .0 .no-clause aEnd bEnd cEnd _ (fits-clause t aEnd bEnd cEnd refl refl refl (v .0 .at-using) e)))
+      (λ e. rw e (ap refusedClause (sym (v .1)))))
+
+  fate-decided : (f : Fate) × RaiseCondition w t f
+  fate-decided =
       by (startsIgnoringCase (ascii "USING") t)
       (λ h.
       let u = starts-matches t (ascii "USING") 0 h (omega arith) in
       by (fits t aEnd bEnd cEnd refl refl refl)
       (λ e.
-      let w = fits-clause t aEnd bEnd cEnd refl refl refl u e in
-      (rewritten (take (length (message (drop cEnd t))) (drop cEnd t)), of-clause w refl))
+      let v = fits-clause t aEnd bEnd cEnd refl refl refl u e in
+      (rewritten w (take (length (message (drop cEnd t))) (drop cEnd t)), (refl, of-clause v refl)))
       (λ e. (
         refusedClause (bytes t),
         (
           record {
             at-using = u;
-            no-clause = λ a b c d w.
-                let one = abort-gives (rewritten (take d (drop c t))) (of-clause w refl) in
-                let two : abortFate t ≡ refusedClause (bytes t) = abort-using u ∙ (using-is t aEnd bEnd cEnd refl refl refl ∙ rw e) in
+            no-clause = λ a b c d v.
+                let one = fate-rewrites (take d (drop c t)) (of-clause v refl) in
+                let two : raiseFate w t ≡ refusedClause (bytes t) = fate-using u ∙ (using-is t aEnd bEnd cEnd refl refl refl w ∙ rw e) in
                 absurd (apart (cc));
           },
           refl,
         ),
       )))
       (λ h.
-      let w = message-some t in (
-        rewritten (take (w .1 - w .0) (drop (w .0) t)),
-        of-content (λ u. false≢true (sym h ∙ matches-starts t (ascii "USING") 0 u)) (w .2) refl,
+      let v = message-some t in (
+        rewritten w (take (v .1 - v .0) (drop (v .0) t)),
+        (refl, of-content (λ u. false≢true (sym h ∙ matches-starts t (ascii "USING") 0 u)) (v .2) refl),
       ))
 
   -- each fate is given exactly on its condition
-  pub abort-exactly : (f : Fate) → (abortFate t ≡ f) ↔ AbortCondition t f
-  abort-exactly f =
-      let d = abort-decided in
-      ((λ h. subst (AbortCondition t) (sym (abort-gives (d .0) (d .1)) ∙ h) (d .1)), abort-gives f)
+  pub fate-exactly : (f : Fate) → (raiseFate w t ≡ f) ↔ RaiseCondition w t f
+  fate-exactly f =
+      let d = fate-decided in
+      ((λ h. subst (RaiseCondition w t) (sym (fate-gives (d .0) (d .1)) ∙ h) (d .1)), fate-gives f)
 
 -- refusal 5 is given exactly for a refused content, with all of it
-pub abort-refused-exactly : (t : List Marked) (c : List ℕ)
-    → (abortFate t ≡ refusedClause c) ↔ (IsRefusedContent (bytes t) × (c ≡ bytes t))
-abort-refused-exactly t c = abort-exactly t (refusedClause c)
+pub fate-refused-exactly : (w : RaiseType) (t : List Marked) (c : List ℕ)
+    → (raiseFate w t ≡ refusedClause c) ↔ (IsRefusedContent (bytes t) × (c ≡ bytes t))
+fate-refused-exactly w t c = fate-exactly w t (refusedClause c)
 
-pub abort-rewritten-exactly : (t m : List Marked) → (abortFate t ≡ rewritten m) ↔ Rewrites t m
-abort-rewritten-exactly t m = abort-exactly t (rewritten m)
+-- the word put in is the action's, and the message is of the clause or of the content
+pub fate-rewritten-exactly : (w v : RaiseType) (t m : List Marked) → (raiseFate w t ≡ rewritten v m) ↔ ((v ≡ w) × Rewrites t m)
+fate-rewritten-exactly w v t m = fate-exactly w t (rewritten v m)

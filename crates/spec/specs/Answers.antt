@@ -1,4 +1,4 @@
--- Document 01, "Numbers handed back, and the limits", and Note 1 for requoting: what each call answers, and what each lent
+-- Document 01, "Numbers handed back, and the limits", Note 1 for requoting and Note 10 for tables: what each call answers, and what each lent
 -- buffer holds at exit, for every text and every length of the lent buffers. Assumes nothing.
 use Prim.Native.Nat.{ℕ, _+_, _-_}
 use mathlib.Core.Bool.{Bool, true, false, cond, not, _&&_}
@@ -17,7 +17,7 @@ use Rattle.spec.specs.Declarations.{recordLimit, recordNumbers, Declared
 use Rattle.spec.specs.declared.Found.{Found}
 use Rattle.spec.specs.declared.Found.the-variants.{At, Nothing}
 use Rattle.spec.specs.declared.Refusal.{Refusal}
-use Rattle.spec.specs.declared.Refusal.the-variants.{TextTooLong, NotAscii, BufferTooShort, QualifiedTarget, UsingClause, ResultTooLong, TooManyNames}
+use Rattle.spec.specs.declared.Refusal.the-variants.{TextTooLong, NotAscii, BufferTooShort, QualifiedTarget, UsingClause, ResultTooLong, TooManyNames, MalformedLine, RepeatedLevel, MissingLevel}
 use Rattle.spec.specs.declared.RefusalNumbers.{RefusalNumbers}
 use Rattle.spec.specs.declared.Check.{Check}
 use Rattle.spec.specs.declared.Check.the-variants as check
@@ -27,6 +27,9 @@ use Rattle.spec.specs.declared.Filled.{Filled}
 use Rattle.spec.specs.declared.Filled.the-variants as filled
 use Rattle.spec.specs.declared.Rewritten.{Rewritten}
 use Rattle.spec.specs.declared.Rewritten.the-variants as rewritten
+use Rattle.spec.specs.declared.Actions.{Actions}
+use Rattle.spec.specs.declared.Table.{Table}
+use Rattle.spec.specs.declared.Table.the-variants as table
 
 -- the most bytes that a call's text may have, and a search's
 unfoldable pub textLimit : ℕ
@@ -170,6 +173,9 @@ refusalNumbers (QualifiedTarget q n) = record { number = 4; place = q; length = 
 refusalNumbers (UsingClause n) = record { number = 5; place = 0; length = n }
 refusalNumbers ResultTooLong = record { number = 6; place = 0; length = 0 }
 refusalNumbers TooManyNames = record { number = 7; place = 0; length = 0 }
+refusalNumbers (MalformedLine i) = record { number = 11; place = i; length = 0 }
+refusalNumbers (RepeatedLevel i) = record { number = 12; place = i; length = 0 }
+refusalNumbers (MissingLevel i) = record { number = 13; place = i; length = 0 }
 
 -- a search gives its number, a found flag and the place; none is an ordinary answer: 0, 0, 0
 pub record SearchNumbers : Type 0 where
@@ -221,15 +227,20 @@ resultOf ds (accepted ys) =
     record { answer = rewritten.Accepted (length ys) (length ds); output = ys; declared = packed ds; records = numbersOf ds }
 resultOf ds (refused r) = withoutRecords (handedBack r .refusal) (handedBack r .output)
 
--- the body call: it lends no records and no declaration text, never gives 7, and its count is 0
-unfoldable pub bodyResult : List ℕ → Result
-bodyResult xs = resultOf [] (rewriting actionOf xs)
+-- the body call with these actions: it lends no records and no declaration text, never gives 7, and its count is 0
+unfoldable pub bodyResult : List ℕ → Actions → Result
+bodyResult xs a = resultOf [] (rewriting (actionOf a) xs)
 
--- the function call: 7 if over 512 different names are declared, then the passes over the body
-unfoldable pub functionResult : List ℕ → Result
-functionResult xs =
-    let ran = resultOf (recordsOf xs) (rewriting actionOf (bodyOf xs)) in
+-- the function call with these actions: 7 if over 512 different names are declared, then the passes over the body
+unfoldable pub functionResult : List ℕ → Actions → Result
+functionResult xs a =
+    let ran = resultOf (recordsOf xs) (rewriting (actionOf a) (bodyOf xs)) in
     cond (ltb recordLimit (length (recordsOf xs))) (withoutRecords TooManyNames []) ran
+
+-- Note 10: 11, 12 or 13 of the table, else what the call gives with the table's actions
+abbrev pub byTable : Table → (Actions → Result) → Result
+byTable (table.Given a) call = call a
+byTable (table.Refused r) call = withoutRecords r []
 
 abbrev pub callAnswer : Check → Rewritten → Rewritten
 callAnswer check.Passed a = a
@@ -242,11 +253,12 @@ areLent out work spare = leb bufferSize (length out) && (leb bufferSize (length 
 unfoldable pub bodyCheck : List ℕ → List ℕ → List ℕ → List ℕ → Check
 bodyCheck xs out work spare = checkOf textLimit (areLent out work spare) xs []
 
-unfoldable pub bodyAnswer : List ℕ → List ℕ → List ℕ → List ℕ → Rewritten
-bodyAnswer xs out work spare = callAnswer (bodyCheck xs out work spare) (bodyResult xs .answer)
+unfoldable pub bodyAnswer : Table → List ℕ → List ℕ → List ℕ → List ℕ → Rewritten
+bodyAnswer levels xs out work spare = callAnswer (bodyCheck xs out work spare) (byTable levels (bodyResult xs) .answer)
 
-unfoldable pub bodyOutput : List ℕ → List ℕ → List ℕ → List ℕ → List ℕ
-bodyOutput xs out work spare = exitOf (bodyCheck xs out work spare) (zeroedTo bufferSize (bodyResult xs .output) out) out
+unfoldable pub bodyOutput : Table → List ℕ → List ℕ → List ℕ → List ℕ → List ℕ
+bodyOutput levels xs out work spare =
+    exitOf (bodyCheck xs out work spare) (zeroedTo bufferSize (byTable levels (bodyResult xs) .output) out) out
 
 -- a work buffer at exit, of any call whose checks gave this: all zeros
 unfoldable pub workExit : Check → List ℕ → List ℕ
@@ -261,17 +273,17 @@ functionCheck xs out work spare text numbers =
     xs
     []
 
-unfoldable pub functionAnswer : List ℕ → List ℕ → List ℕ → List ℕ → List ℕ → List ℕ → Rewritten
-functionAnswer xs out work spare text numbers = callAnswer (functionCheck xs out work spare text numbers) (functionResult xs .answer)
+unfoldable pub functionAnswer : Table → List ℕ → List ℕ → List ℕ → List ℕ → List ℕ → List ℕ → Rewritten
+functionAnswer levels xs out work spare text numbers = callAnswer (functionCheck xs out work spare text numbers) (byTable levels (functionResult xs) .answer)
 
-unfoldable pub functionOutput : List ℕ → List ℕ → List ℕ → List ℕ → List ℕ → List ℕ → List ℕ
-functionOutput xs out work spare text numbers =
-    exitOf (functionCheck xs out work spare text numbers) (zeroedTo bufferSize (functionResult xs .output) out) out
+unfoldable pub functionOutput : Table → List ℕ → List ℕ → List ℕ → List ℕ → List ℕ → List ℕ → List ℕ
+functionOutput levels xs out work spare text numbers =
+    exitOf (functionCheck xs out work spare text numbers) (zeroedTo bufferSize (byTable levels (functionResult xs) .output) out) out
 
-unfoldable pub functionText : List ℕ → List ℕ → List ℕ → List ℕ → List ℕ → List ℕ → List ℕ
-functionText xs out work spare text numbers =
-    exitOf (functionCheck xs out work spare text numbers) (zeroedTo bufferSize (functionResult xs .declared) text) text
+unfoldable pub functionText : Table → List ℕ → List ℕ → List ℕ → List ℕ → List ℕ → List ℕ → List ℕ
+functionText levels xs out work spare text numbers =
+    exitOf (functionCheck xs out work spare text numbers) (zeroedTo bufferSize (byTable levels (functionResult xs) .declared) text) text
 
-unfoldable pub functionRecords : List ℕ → List ℕ → List ℕ → List ℕ → List ℕ → List ℕ → List ℕ
-functionRecords xs out work spare text numbers =
-    exitOf (functionCheck xs out work spare text numbers) (zeroedTo recordNumbers (functionResult xs .records) numbers) numbers
+unfoldable pub functionRecords : Table → List ℕ → List ℕ → List ℕ → List ℕ → List ℕ → List ℕ → List ℕ
+functionRecords levels xs out work spare text numbers =
+    exitOf (functionCheck xs out work spare text numbers) (zeroedTo recordNumbers (byTable levels (functionResult xs) .records) numbers) numbers

@@ -10,7 +10,9 @@ use Rattle.spec.specs.Elsif.{elsif}
 use Rattle.spec.specs.Outcome.{resultTooLong, accepted, refused, Rewriting, forget}
 use Rattle.spec.specs.Assignments.{assignments}
 use Rattle.spec.specs.SelectInto.{quoteWalk, selectInto}
-use Rattle.spec.specs.Raise.{Level, Action, raise}
+use Rattle.spec.specs.Raise.{raise}
+use Rattle.spec.specs.declared.Level.{Level}
+use Rattle.spec.specs.declared.Action.{Action}
 
 -- the bytes of each lent byte buffer that a call fills, and the most that a pass's result may have
 unfoldable pub bufferSize : ℕ

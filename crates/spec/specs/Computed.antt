@@ -12,6 +12,7 @@ use Rattle.spec.specs.Assignments as assignments
 use Rattle.spec.specs.Parts as parts
 use Rattle.spec.specs.SelectInto as selectInto
 use Rattle.spec.specs.Raise as raise
+use Rattle.spec.specs.Levels as levels
 use Rattle.spec.specs.Body as body
 use Rattle.spec.specs.Declarations as declarations
 use Rattle.spec.specs.Closed as closed
@@ -62,8 +63,12 @@ unfolding selectInto.quoteAfter selectInto.quoteWalk selectInto.depthOf selectIn
 inSelectInto = tt
 
 unfoldable inRaise : Unit {0}
-unfolding raise.closeLen raise.message raise.usingFate raise.abortFate raise.levelWords raise.levelIn raise.endsLevel raise.levelLen raise.actionOf raise.contentOf raise.actionFate raise.raisedAt raise.raisesFrom raise.fateText raise.tokenText raise.joinTokens raise.raise
+unfolding raise.closeLen raise.message raise.usingFate raise.raiseFate raise.levelWords raise.levelIn raise.endsLevel raise.levelLen raise.contentOf raise.actionFate raise.actionName raise.raiseWord raise.raiseText raise.raisedAt raise.raisesFrom raise.fateText raise.tokenText raise.joinTokens raise.raise
 inRaise = tt
+
+unfoldable inLevels : Unit {0}
+unfolding levels.levelName levels.isLevel levels.lineText levels.allLevels levels.allActions levels.allEntries levels.entryIn levels.entryOf levels.linesOf levels.givenAction levels.tableEnd levels.tableFrom levels.tableOf
+inLevels = tt
 
 unfoldable inBody : Unit {0}
 unfolding body.bufferSize body.requotePass body.elsifPass body.assignPass body.selectPass body.raisePass body.limited body.andThen body.rewriting
@@ -82,5 +87,5 @@ unfolding answers.textLimit answers.searchLimit answers.firstHigh answers.checkO
 inAnswers = tt
 
 unfoldable pub computed : Unit {0}
-unfolding inLists inBytes inSpans inMap inSearch inRequote inElsif inOutcome inAssignments inParts inSelectInto inRaise inBody inDeclarations inClosed inAnswers
+unfolding inLists inBytes inSpans inMap inSearch inRequote inElsif inOutcome inAssignments inParts inSelectInto inRaise inLevels inBody inDeclarations inClosed inAnswers
 computed = tt

@@ -10,6 +10,7 @@ pub mod Outcome
 pub mod Assignments
 pub mod SelectInto
 pub mod Raise
+pub mod Levels
 pub mod Body
 pub mod Declarations
 pub mod Closed

@@ -1,17 +1,24 @@
--- Document 01, "The rewritten body", pass 5: RAISE, and refusal 5. First what becomes of each RAISE, then the text made of
--- it. Assumes nothing.
+-- Document 01, "The rewritten body", pass 5: RAISE, and refusal 5; Note 10 for the action of each level. First what becomes
+-- of each RAISE, then the text made of it. Assumes nothing.
 use Prim.Native.Nat.{ℕ, zero, suc, _+_, _-_}
 use mathlib.Core.Bool.{Bool, true, false, cond, not, _&&_, _||_}
-use mathlib.Core.List.{List, [], _∷_, _++_}
+use mathlib.Core.List.{List, [], _∷_, _++_, map}
 use mathlib.Core.Option.{Option, none, some}
 use lib.Dec.{eqb}
 use lib.ListN.{length, take, drop}
-use Rattle.spec.specs.Bytes.{ascii, isWord, isW}
+use Rattle.spec.specs.Bytes.{ascii, isWord, isW, upper}
 use Rattle.spec.specs.Lists.{isEmpty, takeWhile, dropWhile}
 use Rattle.spec.specs.Map.{Marked, byte, bytes, lives, markedText, frontByte, ofByte, isLiveByte}
 use Rattle.spec.specs.Search.{wordHere, startsIgnoringCase}
 use Rattle.spec.specs.Outcome.{usingClause, Outcome, accepted, refused, _⊕_}
 use Rattle.spec.specs.Parts.{trim}
+use Rattle.spec.specs.declared.Level.{Level}
+use Rattle.spec.specs.declared.Level.the-variants.{Debug, Log, Info, Notice, Warning, Exception}
+use Rattle.spec.specs.declared.RaiseType.{RaiseType}
+use Rattle.spec.specs.declared.RaiseType.the-variants.{Abort, Fail, Rollback}
+use Rattle.spec.specs.declared.Action.{Action}
+use Rattle.spec.specs.declared.Action.the-variants.{Drop, Raise}
+use Rattle.spec.specs.declared.Actions.{Actions}
 
 -- behind an opening `'`: the length through the quote that closes the literal, 0 if none does; `''` stays inside,
 -- backslash is plain
@@ -37,8 +44,8 @@ message t =
 
 -- what becomes of a RAISE
 pub data Fate : Type 0 where
-  -- `SELECT RAISE(ABORT, m);` with this m
-  rewritten : List Marked → Fate
+  -- `SELECT RAISE(w, m);` with this w and m
+  rewritten : RaiseType → List Marked → Fate
   dropped : Fate
   -- it passes, with its separator
   passed : List Marked → Fate
@@ -46,8 +53,8 @@ pub data Fate : Type 0 where
   refusedClause : List ℕ → Fate
 
 -- the content behind USING: MESSAGE, `=`, then text starting with `'`, its m with only W behind; anything else is refused
-unfoldable pub usingFate : List Marked → List Marked → Fate
-usingFate content behind =
+unfoldable pub usingFate : RaiseType → List Marked → List Marked → Fate
+usingFate w content behind =
     let a = dropWhile (ofByte isW) behind in
     let b = dropWhile (ofByte isW) (drop 7 a) in
     let c = dropWhile (ofByte isW) (drop 1 b) in
@@ -56,17 +63,14 @@ usingFate content behind =
     startsIgnoringCase (ascii "MESSAGE") a
     && (eqb (frontByte b) 61
     && (eqb (frontByte c) 39 && isEmpty (dropWhile (ofByte isW) (drop (length m) c)))) in
-    cond fits (rewritten m) (refusedClause (bytes content))
+    cond fits (rewritten w m) (refusedClause (bytes content))
 
--- the trimmed content of a statement that aborts
-unfoldable pub abortFate : List Marked → Fate
-abortFate content =
-    let clauseFate = usingFate content (drop 5 content) in
-    let plainFate = rewritten (message content) in
+-- the trimmed content of a statement that becomes SQLite's RAISE
+unfoldable pub raiseFate : RaiseType → List Marked → Fate
+raiseFate w content =
+    let clauseFate = usingFate w content (drop 5 content) in
+    let plainFate = rewritten w (message content) in
     cond (startsIgnoringCase (ascii "USING") content) clauseFate plainFate
-
-pub data Level : Type 0 where
-  exception notice warning debug log info : Level
 
 pub record LevelWord : Type 0 where
   pub word : List ℕ
@@ -75,14 +79,14 @@ pub record LevelWord : Type 0 where
 -- the levels are prefixes; INFO with a space, newline or `;`
 unfoldable pub levelWords : List LevelWord
 levelWords =
-    record { word = ascii "EXCEPTION"; level = exception }
-    ∷ record { word = ascii "NOTICE"; level = notice }
-    ∷ record { word = ascii "WARNING"; level = warning }
-    ∷ record { word = ascii "DEBUG"; level = debug }
-    ∷ record { word = ascii "LOG"; level = log }
-    ∷ record { word = ascii "INFO "; level = info }
-    ∷ record { word = ascii "INFO\n"; level = info }
-    ∷ record { word = ascii "INFO;"; level = info }
+    record { word = ascii "EXCEPTION"; level = Exception }
+    ∷ record { word = ascii "NOTICE"; level = Notice }
+    ∷ record { word = ascii "WARNING"; level = Warning }
+    ∷ record { word = ascii "DEBUG"; level = Debug }
+    ∷ record { word = ascii "LOG"; level = Log }
+    ∷ record { word = ascii "INFO "; level = Info }
+    ∷ record { word = ascii "INFO\n"; level = Info }
+    ∷ record { word = ascii "INFO;"; level = Info }
     ∷ []
 
 -- the level that stands at the front, ignoring case
@@ -98,12 +102,12 @@ endsLevel c = isW c || eqb c 59
 
 -- EXCEPTION is told from the others by its length, whatever its action
 abbrev pub isException : Level → Bool
-isException exception = true
-isException notice = false
-isException warning = false
-isException debug = false
-isException log = false
-isException info = false
+isException Exception = true
+isException Notice = false
+isException Warning = false
+isException Debug = false
+isException Log = false
+isException Info = false
 
 -- how long the level is: EXCEPTION its own letters, the others run to W or `;`
 unfoldable pub levelLen : Level → List Marked → ℕ
@@ -111,20 +115,28 @@ levelLen l t =
     let run = length (takeWhile (ofByte (λ c. not (endsLevel c))) t) in
     cond (isException l) 9 run
 
-pub data Action : Type 0 where
-  abort drops : Action
+-- the action of a level; what follows takes it as `act`
+abbrev pub actionOf : Actions → Level → Action
+actionOf a Debug = a .debug
+actionOf a Log = a .log
+actionOf a Info = a .info
+actionOf a Notice = a .notice
+actionOf a Warning = a .warning
+actionOf a Exception = a .exception
 
--- EXCEPTION aborts, the others vanish: what follows takes the action of each level as `act`, and this is one choice of it
-unfoldable pub actionOf : Level → Action
-actionOf l = cond (isException l) abort drops
+-- without a table: EXCEPTION aborts, the others vanish
+abbrev pub defaultActions : Actions
+defaultActions =
+    record { debug = Drop; log = Drop; info = Drop; notice = Drop; warning = Drop; exception = Raise Abort }
 
 -- the statement's content: read afresh behind the level, up to the next live `;` or the end
 unfoldable pub contentOf : List Marked → List Marked
 contentOf t = takeWhile (λ (x : Marked). not (isLiveByte 59 x)) (markedText (bytes t))
 
+-- messages and USING are read as for EXCEPTION wherever the action isn't drop
 unfoldable pub actionFate : Action → List Marked → Fate
-actionFate abort content = abortFate (trim content)
-actionFate drops content = dropped
+actionFate Drop content = dropped
+actionFate (Raise w) content = raiseFate w (trim content)
 
 -- a RAISE: how many bytes it takes, up to where the search goes on, and its fate
 pub record Raised : Type 0 where
@@ -154,9 +166,24 @@ raisesFrom act zero p (x ∷ t) =
     cond (wordHere isWord (ascii "RAISE") p (x ∷ t)) goes stays
 raisesFrom act (suc k) p (x ∷ t) = raisesFrom act k (byte x) t
 
+-- an action as a table writes it
+unfoldable pub actionName : Action → List ℕ
+actionName Drop = ascii "drop"
+actionName (Raise Abort) = ascii "abort"
+actionName (Raise Fail) = ascii "fail"
+actionName (Raise Rollback) = ascii "rollback"
+
+-- SQLite's RAISE word is the action in capitals
+unfoldable pub raiseWord : RaiseType → List ℕ
+raiseWord w = map upper (actionName (Raise w))
+
+-- the text of a RAISE that SQLite reads
+unfoldable pub raiseText : RaiseType → List Marked → List Marked
+raiseText w m = lives (ascii "SELECT RAISE(" ++ (raiseWord w ++ ascii ", ")) ++ (m ++ lives (ascii ");"))
+
 -- the text made of a fate
 unfoldable pub fateText : Fate → Outcome (List Marked)
-fateText (rewritten m) = accepted (lives (ascii "SELECT RAISE(ABORT, ") ++ (m ++ lives (ascii ");")))
+fateText (rewritten w m) = accepted (raiseText w m)
 fateText dropped = accepted []
 fateText (passed t) = accepted t
 fateText (refusedClause c) = refused (usingClause c)

@@ -1,4 +1,4 @@
-// The types that document 01's definitions name. The definitions themselves stand in specs/.
+// The types that the definitions of document 01 and of the requests name. The definitions themselves stand in specs/.
 
 // A dollar literal: its length, where its inside starts and how long that is, and whether it is closed.
 pub struct DollarQuoted {
@@ -41,6 +41,12 @@ pub enum Refusal {
     ResultTooLong,
     // 7: over 512 different names are declared.
     TooManyNames,
+    // 11: a table's first bad line, at this offset, is malformed.
+    MalformedLine(usize),
+    // 12: a table's first bad line, at this offset, gives a level again.
+    RepeatedLevel(usize),
+    // 13: no line of a table is bad and a level is missing; the table's length.
+    MissingLevel(usize),
 }
 
 // What is handed back of a refusal: its number, its place, and how many bytes the output holds.
@@ -74,5 +80,44 @@ pub enum Filled {
 // What a rewriting call answers.
 pub enum Rewritten {
     Accepted { length: usize, records: usize },
+    Refused(Refusal),
+}
+
+// The level of a RAISE.
+pub enum Level {
+    Debug,
+    Log,
+    Info,
+    Notice,
+    Warning,
+    Exception,
+}
+
+// The words of SQLite's RAISE that take a message.
+pub enum RaiseType {
+    Abort,
+    Fail,
+    Rollback,
+}
+
+// What becomes of a RAISE of some level: it vanishes, or it becomes SQLite's RAISE with this word.
+pub enum Action {
+    Drop,
+    Raise(RaiseType),
+}
+
+// The action of each level.
+pub struct Actions {
+    pub debug: Action,
+    pub log: Action,
+    pub info: Action,
+    pub notice: Action,
+    pub warning: Action,
+    pub exception: Action,
+}
+
+// What a table of levels says.
+pub enum Table {
+    Given(Actions),
     Refused(Refusal),
 }

@@ -35,23 +35,40 @@ fn run(input: impl BufRead, out: &mut impl Write) -> Result<(), String> {
 
 fn reply(line: &str) -> Result<String, String> {
     match line.split(' ').collect::<Vec<_>>().as_slice() {
-        ["body", text] => Ok(body(&hex::decode(text)?)),
-        ["function", text] => Ok(function(&hex::decode(text)?)),
-        _ => Err("the library is asked `body TEXT` and `function TEXT` alone".to_string()),
+        ["body", text] => Ok(body(&hex::decode(text)?, None)),
+        ["function", text] => Ok(function(&hex::decode(text)?, None)),
+        ["body_by_levels", table, text] => {
+            Ok(body(&hex::decode(text)?, Some(&hex::decode(table)?)))
+        }
+        ["function_by_levels", table, text] => {
+            Ok(function(&hex::decode(text)?, Some(&hex::decode(table)?)))
+        }
+        _ => Err(
+            "the library is asked `body TEXT`, `function TEXT`, `body_by_levels TABLE TEXT` and \
+                  `function_by_levels TABLE TEXT` alone"
+                .to_string(),
+        ),
     }
 }
 
-fn body(text: &[u8]) -> String {
+fn body(text: &[u8], table: Option<&[u8]>) -> String {
     let [mut output, mut work, mut spare] = [(); 3].map(|()| vec![0; BUFFER_SIZE]);
-    let answer = library::transform_body(text, &mut output, &mut work, &mut spare);
+    let (o, w, s) = (&mut output, &mut work, &mut spare);
+    let answer = match table {
+        Some(table) => library::transform_body_by_levels(text, table, o, w, s),
+        None => library::transform_body(text, o, w, s),
+    };
     numbers(&answer, &output)
 }
 
-fn function(text: &[u8]) -> String {
+fn function(text: &[u8], table: Option<&[u8]>) -> String {
     let [mut output, mut work, mut spare, mut declared] = [(); 4].map(|()| vec![0; BUFFER_SIZE]);
     let mut records = vec![0; RECORD_NUMBERS];
     let (o, w, s, d) = (&mut output, &mut work, &mut spare, &mut declared);
-    let answer = library::preprocess(text, o, w, s, d, &mut records);
+    let answer = match table {
+        Some(table) => library::preprocess_by_levels(text, table, o, w, s, d, &mut records),
+        None => library::preprocess(text, o, w, s, d, &mut records),
+    };
     numbers(&answer, &output) + &declarations(&declared, &records)
 }
 

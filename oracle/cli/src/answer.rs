@@ -3,7 +3,9 @@
 use reference::constants::Variable;
 use reference::context::PlPgSqlContext;
 use reference::declarations::Declaration;
+use reference::levels::{Refusal, Table};
 use reference::preprocessor::PlPgSqlPreprocessor;
+use reference::raises::{self, Raised};
 use reference::reading::Reading;
 use reference::reasons::Reasons;
 use reference::records::Records;
@@ -18,10 +20,14 @@ use crate::stored_call::{Answer, Function};
 /// The field of a default that is not present.
 const ABSENT: &str = ".";
 
+const NOT_RESPELLED: &str = "a function that cannot be respelled";
+
 pub fn answer(question: &Question) -> Result<String, String> {
     Ok(match question {
         Question::Body(text) => return body(text),
-        Question::Function(text) => return function(text),
+        Question::Function(text) => return function(Reading::published(text)?),
+        Question::BodyByLevels(table, text) => numbers(&rewritten_under(text, table)?, 0),
+        Question::FunctionByLevels(table, text) => return function_under(text, table),
         Question::Regions(text) => regions(text),
         Question::FindKeyword(text, keyword, from) => {
             place(Scanner::new(text).find_keyword(keyword, *from))
@@ -54,14 +60,49 @@ pub fn rewritten(text: &str) -> Result<Answer, String> {
     }
 }
 
-fn function(text: &str) -> Result<String, String> {
-    let Reading { output, list, .. } = Reading::published(text)?;
+/// The same under a table of levels.
+pub fn rewritten_under(text: &str, table: &[u8]) -> Result<Answer, String> {
+    let table = match Table::read(table) {
+        Ok(table) => table,
+        Err(refusal) => return Ok(refused_table(refusal)),
+    };
+    match raises::transform_body(text, &table) {
+        Ok(Raised { text, .. }) => Ok(Answer::accepted(&text)),
+        Err(error) => refused(&error),
+    }
+}
+
+fn refused_table(Refusal { number, place }: Refusal) -> Answer {
+    Answer::refused(number as usize, place)
+}
+
+fn function_under(text: &str, table: &[u8]) -> Result<String, String> {
+    match Table::read(table) {
+        Ok(table) => function(Reading::under(text, &table)?.ok_or(NOT_RESPELLED)?),
+        Err(refusal) => Ok(numbers(&refused_table(refusal), 0)),
+    }
+}
+
+/// The line of a function that is read so.
+fn function(Reading { output, list, .. }: Reading) -> Result<String, String> {
     match output {
         Ok(output) => {
             let fields: String = list.iter().map(|one| format!(" {}", fields(one))).collect();
             Ok(numbers(&Answer::accepted(&output), list.len()) + &fields)
         }
         Err(error) => Ok(numbers(&refused(&error)?, 0)),
+    }
+}
+
+/// A function under a table of levels, with the answer and the records that the notes want. `None` if the
+/// reference cannot tell them.
+pub fn preprocessed_under(text: &str, table: &[u8]) -> Result<Option<Function>, String> {
+    match Table::read(table) {
+        Ok(table) => Reading::under(text, &table)?.map(|reading| stored(text, reading)).transpose(),
+        Err(refusal) => {
+            let text = Runs::one(text.as_bytes());
+            Ok(Some(Function::new(text, refused_table(refusal), &[])))
+        }
     }
 }
 

@@ -5,7 +5,7 @@
 use std::io::{self, Write};
 
 use crate::runs::Runs;
-use crate::stored_call::{Answer, Body, Function, Stored, BODY_LONGER, FUNCTION_LEAST};
+use crate::stored_call::{Answer, Body, ByLevels, Function, Stored, BODY_LONGER, FUNCTION_LEAST};
 use crate::wrong_calls::declaring;
 
 /// More than the least, and another length for each buffer.
@@ -21,7 +21,17 @@ pub fn write(out: &mut impl Write) -> io::Result<()> {
     let refused = Function::from(Body { text: Runs::with_byte(2, 1, 200), answer });
     write_faults(&refused, LENT, &ends(), out)?;
     let body = Body::new("v := 1;", Answer::accepted("SET v = 1;"));
-    write_faults(&body, BODY_LONGER, &[(1, 0), (2, 0)], out)
+    write_faults(&body, BODY_LONGER, &[(1, 0), (2, 0)], out)?;
+    write_refused_tables(out)
+}
+
+/// A refused table leaves zeros.
+fn write_refused_tables(out: &mut impl Write) -> io::Result<()> {
+    let body = Body::new("v := 1;", Answer::refused(11, 0));
+    let refused = ByLevels { table: Runs::one(b"x"), stored: body };
+    write_faults(&refused, BODY_LONGER, &[(0, 0), (1, 0), (2, 0)], out)?;
+    let function = ByLevels::<Function>::from(refused);
+    write_faults(&function, LENT, &behind_results(&function.stored), out)
 }
 
 /// In each buffer the first zero behind the result, the last one, the first place behind the
@@ -84,6 +94,8 @@ mod tests {
         let list = String::from_utf8(out).unwrap();
         let kinds: String = list.lines().filter_map(|line| line.chars().next()).collect();
         let calls = |count: usize, kind: &str| format!("zl{kind}").repeat(count);
-        assert_eq!(kinds, format!("tedn{}te{}te{}", calls(20, "f"), calls(10, "f"), calls(2, "b")));
+        let (accepted, refused, body) = (calls(20, "f"), calls(10, "f"), calls(2, "b"));
+        let (table_body, table) = (calls(3, "B"), calls(20, "F"));
+        assert_eq!(kinds, format!("tedn{accepted}te{refused}te{body}gte{table_body}gte{table}"));
     }
 }

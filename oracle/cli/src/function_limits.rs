@@ -53,6 +53,11 @@ fn text(block: &str, body: &[Run]) -> Runs {
     Runs::new(&all)
 }
 
+/// A function that declares so many names, with this body behind them.
+pub fn declaring(count: usize, body: &[Run]) -> Runs {
+    text(&block(&names(count)), body)
+}
+
 /// An accepted function whose body passes as it is.
 fn accepted(block: &str, body: &[Run], declared: &[Variable]) -> Function {
     let answer = Answer { number: 0, place: 0, output: Runs::new(body) };

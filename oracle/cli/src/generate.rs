@@ -2,6 +2,7 @@
 
 use std::io::Write;
 
+use texts::levels;
 use texts::parts;
 use texts::random::Random;
 
@@ -11,9 +12,17 @@ use crate::Stop;
 type Maker = fn(&mut Random) -> Question;
 
 /// The rewriting calls.
-const CALLS: [(&str, Maker); 2] = [
+const CALLS: [(&str, Maker); 4] = [
     ("body", |random| Question::Body(texts::body(random))),
     ("function", |random| Question::Function(texts::function(random))),
+    ("body_by_levels", |random| {
+        let table = levels::mixed_table(random);
+        Question::BodyByLevels(table, levels::body(random))
+    }),
+    ("function_by_levels", |random| {
+        let table = levels::mixed_table(random);
+        Question::FunctionByLevels(table, levels::function(random))
+    }),
 ];
 
 /// The searches, which the kind `searches` mixes.

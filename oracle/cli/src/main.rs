@@ -10,7 +10,10 @@ mod function_limits;
 mod function_rows;
 mod generate;
 mod lent;
+mod level_limits;
+mod level_rows;
 mod question;
+mod refused_levels;
 #[cfg(test)]
 mod rows;
 mod runs;
@@ -21,6 +24,7 @@ mod stored_calls;
 mod stored_limits;
 mod wrong;
 mod wrong_calls;
+mod wrong_levels;
 mod wrong_searches;
 
 use std::io::{self, BufWriter, ErrorKind, Write};

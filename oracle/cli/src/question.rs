@@ -8,6 +8,9 @@ use crate::hex;
 pub enum Question {
     Body(String),
     Function(String),
+    /// A table of levels, which may hold any byte, and the text.
+    BodyByLevels(Vec<u8>, String),
+    FunctionByLevels(Vec<u8>, String),
     Regions(String),
     FindKeyword(String, String, usize),
     FindInCode(String, u8),
@@ -28,6 +31,10 @@ impl Question {
         Ok(match fields.as_slice() {
             ["body", t] => Self::Body(text(t)?),
             ["function", t] => Self::Function(text(t)?),
+            ["body_by_levels", table, t] => Self::BodyByLevels(hex::decode(table)?, text(t)?),
+            ["function_by_levels", table, t] => {
+                Self::FunctionByLevels(hex::decode(table)?, text(t)?)
+            }
             ["regions", t] => Self::Regions(text(t)?),
             ["find_keyword", t, keyword, from] => {
                 Self::FindKeyword(text(t)?, text(keyword)?, number(from)?)
@@ -64,6 +71,12 @@ impl fmt::Display for Question {
         match self {
             Self::Body(t) => write!(out, "body {}", coded(t)),
             Self::Function(t) => write!(out, "function {}", coded(t)),
+            Self::BodyByLevels(table, t) => {
+                write!(out, "body_by_levels {} {}", hex::encode(table), coded(t))
+            }
+            Self::FunctionByLevels(table, t) => {
+                write!(out, "function_by_levels {} {}", hex::encode(table), coded(t))
+            }
             Self::Regions(t) => write!(out, "regions {}", coded(t)),
             Self::FindKeyword(t, keyword, from) => {
                 write!(out, "find_keyword {} {} {from}", coded(t), coded(keyword))

@@ -10,6 +10,7 @@ pub const LONGEST: usize = 4_096;
 /// Some bytes, with how often they stand.
 pub type Run<'a> = (usize, &'a [u8]);
 
+#[derive(Clone)]
 pub struct Runs(Vec<(usize, Vec<u8>)>);
 
 impl Runs {

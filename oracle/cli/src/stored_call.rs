@@ -1,5 +1,5 @@
 //! The two rewriting calls in the list of the program `replay_calls`: a text, its answer, and what
-//! is lent.
+//! is lent, without a table of levels or under one.
 
 use std::io::{self, Write};
 
@@ -73,11 +73,19 @@ pub trait Stored {
     /// A length for each lent buffer.
     type Lent: Copy;
 
+    /// The kind of a line that makes the call.
+    const KIND: char;
+
     /// The lines of the text and of what it must give.
     fn write_text(&self, out: &mut impl Write) -> io::Result<()>;
 
+    /// The lines of a call of this kind on the text written last.
+    fn write_kind(&self, kind: char, lent: Self::Lent, out: &mut impl Write) -> io::Result<()>;
+
     /// The lines of a call on the text written last.
-    fn write_call(&self, lent: Self::Lent, out: &mut impl Write) -> io::Result<()>;
+    fn write_call(&self, lent: Self::Lent, out: &mut impl Write) -> io::Result<()> {
+        self.write_kind(Self::KIND, lent, out)
+    }
 
     /// The text, and a call with each of the lent lengths.
     fn write_calls(&self, lents: &[Self::Lent], out: &mut impl Write) -> io::Result<()> {
@@ -104,13 +112,15 @@ impl Body {
 impl Stored for Body {
     type Lent = [usize; 3];
 
+    const KIND: char = 'b';
+
     fn write_text(&self, out: &mut impl Write) -> io::Result<()> {
         writeln!(out, "t {}", self.text)?;
         writeln!(out, "e {}", self.answer.output)
     }
 
-    fn write_call(&self, lent: [usize; 3], out: &mut impl Write) -> io::Result<()> {
-        self.answer.write('b', &lent, 0, out)
+    fn write_kind(&self, kind: char, lent: [usize; 3], out: &mut impl Write) -> io::Result<()> {
+        self.answer.write(kind, &lent, 0, out)
     }
 }
 
@@ -136,6 +146,8 @@ impl Function {
 impl Stored for Function {
     type Lent = [usize; 5];
 
+    const KIND: char = 'f';
+
     /// Without records there are zeros alone.
     fn write_text(&self, out: &mut impl Write) -> io::Result<()> {
         writeln!(out, "t {}", self.text)?;
@@ -147,8 +159,8 @@ impl Stored for Function {
         Ok(())
     }
 
-    fn write_call(&self, lent: [usize; 5], out: &mut impl Write) -> io::Result<()> {
-        self.answer.write('f', &lent, self.records.count(), out)
+    fn write_kind(&self, kind: char, lent: [usize; 5], out: &mut impl Write) -> io::Result<()> {
+        self.answer.write(kind, &lent, self.records.count(), out)
     }
 }
 
@@ -156,6 +168,33 @@ impl Stored for Function {
 impl From<Body> for Function {
     fn from(Body { text, answer }: Body) -> Self {
         Self::new(text, answer, &[])
+    }
+}
+
+/// A text under a table of levels. Its calls have the same kind as without one, in capitals.
+pub struct ByLevels<S> {
+    pub table: Runs,
+    pub stored: S,
+}
+
+impl<S: Stored> Stored for ByLevels<S> {
+    type Lent = S::Lent;
+
+    const KIND: char = S::KIND.to_ascii_uppercase();
+
+    fn write_text(&self, out: &mut impl Write) -> io::Result<()> {
+        writeln!(out, "g {}", self.table)?;
+        self.stored.write_text(out)
+    }
+
+    fn write_kind(&self, kind: char, lent: S::Lent, out: &mut impl Write) -> io::Result<()> {
+        self.stored.write_kind(kind, lent, out)
+    }
+}
+
+impl From<ByLevels<Body>> for ByLevels<Function> {
+    fn from(ByLevels { table, stored }: ByLevels<Body>) -> Self {
+        Self { table, stored: Function::from(stored) }
     }
 }
 

@@ -164,14 +164,15 @@ fn wrong(kind: char, function: &Function) -> Vec<Said> {
     }
     let outputs = wrong_outputs(&function.answer.output);
     list.extend(outputs.iter().map(|output| right.with_output(output)));
-    if kind == 'f' {
+    if kind.eq_ignore_ascii_case(&'f') {
         list.extend(right.wrong_declared());
         list.extend(right.wrong_records());
     }
     list
 }
 
-fn write_wrong(
+/// A call of this kind with all that can be said wrong of it.
+pub fn write_wrong(
     kind: char,
     function: &Function,
     lent: [usize; 5],

@@ -5,6 +5,7 @@ use reference::scanner::Scanner;
 use sizes::{BUFFER_SIZE, RECORD_NUMBERS};
 
 use crate::lent::Lent;
+use crate::levels;
 
 /// The most bytes of a search's text.
 pub const SEARCH_LIMIT: usize = 65_536;
@@ -29,6 +30,9 @@ pub struct Call {
     pub enough: fn(&[u8]) -> Vec<usize>,
     pub order: Order,
     pub has_needle: bool,
+    /// What is handed over in the place of a needle where the call is to accept a text: nothing, or a
+    /// table of levels.
+    pub accepts_with: &'static [u8],
     /// Which of the four numbers is the place.
     pub place_at: usize,
     /// Of a call that answers 0, 0, 0 and a length that the text alone decides: that length.
@@ -87,6 +91,7 @@ const fn search(name: &'static str, run: Run) -> Call {
         enough: |text| vec![text.len()],
         order: Order::BuffersFirst,
         has_needle: false,
+        accepts_with: b"",
         place_at: 2,
         length: None,
         run,
@@ -117,7 +122,30 @@ pub const PREPROCESS: Call = rewriting(
     },
 );
 
-pub const CALLS: [Call; 13] = [
+/// The same calls with a table of levels in the needle's place.
+pub const TRANSFORM_BODY_BY_LEVELS: Call = Call {
+    name: "transform_body_by_levels",
+    accepts_with: levels::NO_TABLE,
+    run: |text, lent, table| {
+        let [output, work, spare] = &mut lent.bytes[..] else { unreachable!() };
+        let (o, w, s) = (output.lend(), work.lend(), spare.lend());
+        library::transform_body_by_levels(text, table, o, w, s)
+    },
+    ..TRANSFORM_BODY
+};
+
+pub const PREPROCESS_BY_LEVELS: Call = Call {
+    name: "preprocess_by_levels",
+    accepts_with: levels::NO_TABLE,
+    run: |text, lent, table| {
+        let [output, work, spare, declared, _] = &mut lent.bytes[..] else { unreachable!() };
+        let (o, w, s, d) = (output.lend(), work.lend(), spare.lend(), declared.lend());
+        library::preprocess_by_levels(text, table, o, w, s, d, lent.numbers[4].lend())
+    },
+    ..PREPROCESS
+};
+
+pub const CALLS: [Call; 15] = [
     search("regions", |text, lent, _| library::regions(text, lent.bytes[0].lend())),
     Call {
         has_needle: true,
@@ -166,4 +194,6 @@ pub const CALLS: [Call; 13] = [
     search("is_closed", |text, lent, _| library::is_closed(text, lent.bytes[0].lend())),
     TRANSFORM_BODY,
     PREPROCESS,
+    TRANSFORM_BODY_BY_LEVELS,
+    PREPROCESS_BY_LEVELS,
 ];

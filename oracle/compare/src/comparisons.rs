@@ -4,6 +4,7 @@ use texts::random::Random;
 
 use crate::bodies;
 use crate::functions;
+use crate::levels;
 use crate::report::{Report, Row};
 use crate::searches;
 use crate::subject::Subject;
@@ -28,9 +29,13 @@ pub const SEARCHES: &[Comparison] = &[
     One("has_exception_handler", searches::handler),
 ];
 
-pub const BODIES: &[Comparison] = &[One("transform_body", bodies::transform_body)];
+pub const BODIES: &[Comparison] = &[Several(&bodies::ROWS, bodies::transform_body)];
 
 pub const FUNCTIONS: &[Comparison] = &[Several(&functions::ROWS, functions::preprocess)];
+
+pub const BODIES_BY_LEVELS: &[Comparison] = &[Several(&levels::ROWS, levels::bodies)];
+
+pub const FUNCTIONS_BY_LEVELS: &[Comparison] = &[Several(&levels::ROWS, levels::functions)];
 
 impl Comparison {
     fn names(&self) -> &[&'static str] {

@@ -1,4 +1,5 @@
-//! The texts of a file of questions: each line is a kind, a text in hex and what else is asked.
+//! The texts of a file of questions: each line is a kind, a text in hex and what else is asked. A question by
+//! levels has its table ahead of the text.
 
 use std::fs;
 
@@ -14,7 +15,8 @@ pub fn texts_in(path: &str) -> Result<Vec<String>, String> {
 }
 
 fn text_of(line: &str) -> Result<String, String> {
-    match line.split(' ').nth(1) {
+    let kind = line.split(' ').next().unwrap_or_default();
+    match line.split(' ').nth(if kind.ends_with("_by_levels") { 2 } else { 1 }) {
         Some(field) => hex::decode_ascii(field),
         None => Err(format!("`{line}` has no text")),
     }

@@ -1,4 +1,5 @@
-//! Joining: a closed body and any body behind it, rewritten apart and together.
+//! Joining: a closed body and any body behind it, rewritten apart and together, without a table of levels
+//! or under one.
 //!
 //! Whether a body is closed is asked of the proved library.
 
@@ -7,6 +8,7 @@ use sizes::BUFFER_SIZE;
 use texts::random::Random;
 
 use crate::bodies;
+use crate::levels;
 use crate::report::Report;
 
 /// The pairs, judged by the joining law; how many of them are accepted, and how many of these are
@@ -26,13 +28,35 @@ const PIECES: usize = 3;
 pub fn short_front(text: &str, random: &mut Random, report: &mut Report) {
     let front = format!("{text};");
     if is_closed(front.as_bytes()) {
-        Pairs::new(body(random)).compare(&front, report);
+        Pairs::new(body(random), None).compare(&front, report);
     }
 }
 
 /// Several random closed bodies in front of one random body.
 pub fn random_fronts(random: &mut Random, report: &mut Report) {
-    let mut pairs = Pairs::new(body(random));
+    let pairs = Pairs::new(body(random), None);
+    with_fronts(pairs, random, report, closed);
+}
+
+/// The same under one table, with RAISE statements of every level.
+pub fn fronts_under_a_table(random: &mut Random, report: &mut Report) {
+    let body = match random.percent(50) {
+        true => texts::levels::raises(random),
+        false => body(random),
+    };
+    let pairs = Pairs::new(body, Some(texts::levels::table(random)));
+    with_fronts(pairs, random, report, |random| match random.percent(50) {
+        true => closed_of(random, texts::levels::raises),
+        false => closed(random),
+    });
+}
+
+fn with_fronts(
+    mut pairs: Pairs,
+    random: &mut Random,
+    report: &mut Report,
+    closed: fn(&mut Random) -> String,
+) {
     for _ in 0..FRONTS {
         let pieces = random.between(1, PIECES);
         let front: String = (0..pieces).map(|_| closed(random)).collect();
@@ -49,8 +73,12 @@ fn body(random: &mut Random) -> String {
 
 /// The first closed text among random ones, at times with `;` behind them.
 pub fn closed(random: &mut Random) -> String {
+    closed_of(random, texts::body)
+}
+
+fn closed_of(random: &mut Random, text: fn(&mut Random) -> String) -> String {
     loop {
-        let mut text = texts::body(random);
+        let mut text = text(random);
         if random.percent(60) {
             text.push(';');
         }
@@ -68,6 +96,7 @@ fn is_closed(text: &[u8]) -> bool {
 /// The pairs of one body behind, whose own rewriting is asked for once.
 struct Pairs {
     behind: String,
+    table: Option<Vec<u8>>,
     last: Rewritten,
     buffers: [Vec<u8>; 3],
 }
@@ -75,24 +104,30 @@ struct Pairs {
 type Rewritten = (Answer, Vec<u8>);
 
 impl Pairs {
-    fn new(behind: String) -> Self {
+    fn new(behind: String, table: Option<Vec<u8>>) -> Self {
         let mut buffers = [0; 3].map(|_| vec![0; BUFFER_SIZE]);
-        let last = rewrite(&behind, &mut buffers);
-        Self { behind, last, buffers }
+        let last = rewrite(&behind, table.as_deref(), &mut buffers);
+        Self { behind, table, last, buffers }
     }
 
     fn compare(&mut self, front: &str, report: &mut Report) {
         let text = format!("{front}{}", self.behind);
-        let first = rewrite(front, &mut self.buffers);
-        let whole = rewrite(&text, &mut self.buffers);
+        let table = self.table.as_deref();
+        let first = rewrite(front, table, &mut self.buffers);
+        let whole = rewrite(&text, table, &mut self.buffers);
         let is_changed = |text: &str, result: &Rewritten| text.as_bytes() != result.1;
         let both = is_changed(front, &first) && is_changed(&self.behind, &self.last);
-        let shown = || format!("{front:?} and {:?}", self.behind);
+        let under = table.map_or(String::new(), levels::shown);
+        let shown = || format!("{front:?} and {:?} {under}", self.behind);
         let [pairs, accepted, changed, same] = &mut report.rows[..] else { unreachable!() };
         pairs.note(agrees(&first, &self.last, &whole), shown);
         accepted.count(whole.0[0] == 0);
         changed.count(whole.0[0] == 0 && both);
-        same.note(bodies::expected(&text) == whole, shown);
+        let expected = match table {
+            Some(table) => levels::expected(&text, table),
+            None => bodies::expected(&text),
+        };
+        same.note(expected == whole, shown);
     }
 }
 
@@ -105,9 +140,12 @@ fn agrees(first: &Rewritten, last: &Rewritten, whole: &Rewritten) -> bool {
     (whole.0[0] == 0) == both && (!both || whole.1 == [&first.1[..], &last.1].concat())
 }
 
-fn rewrite(text: &str, buffers: &mut [Vec<u8>; 3]) -> Rewritten {
-    let [output, work, spare] = buffers;
-    let answer = library::transform_body(text.as_bytes(), output, work, spare);
+fn rewrite(text: &str, table: Option<&[u8]>, buffers: &mut [Vec<u8>; 3]) -> Rewritten {
+    let ([output, work, spare], text) = (buffers, text.as_bytes());
+    let answer = match table {
+        Some(table) => library::transform_body_by_levels(text, table, output, work, spare),
+        None => library::transform_body(text, output, work, spare),
+    };
     let result = output[..answer[2] as usize].to_vec();
     (answer, result)
 }

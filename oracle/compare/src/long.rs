@@ -61,6 +61,20 @@ pub const BODY_TEXTS: Long = Long {
 pub const ACCEPTED_TEXTS: Long =
     Long { limit: TEXT_LIMIT, front: "", back: "", patterns: &[], mixed: 150, piece: accepted };
 
+/// RAISE statements of every level, and what touches a level.
+pub const RAISING_TEXTS: Long = Long {
+    limit: TEXT_LIMIT,
+    front: "",
+    back: "",
+    patterns: &[
+        "RAISE DEBUG 'a';", "RAISE LOG'';", "RAISE INFO;", "RAISE NOTICE USING MESSAGE = 'm';",
+        "RAISE WARNING a, b;", "RAISE LOG; RAISE EXCEPTION 'a';", "RAISE LOGS ",
+        "RAISE EXCEPTIONS;",
+    ],
+    mixed: 50,
+    piece: texts::levels::raises,
+};
+
 /// A closed text that is accepted. Such texts joined are accepted too.
 fn accepted(random: &mut Random) -> String {
     loop {

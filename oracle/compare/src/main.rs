@@ -8,6 +8,7 @@ mod functions;
 mod given;
 mod joined;
 mod lent;
+mod levels;
 mod limits;
 mod long;
 mod options;
@@ -17,6 +18,7 @@ mod report;
 mod results;
 mod searches;
 mod subject;
+mod tables;
 mod work;
 
 use std::process::ExitCode;

@@ -4,7 +4,9 @@ use std::time::Instant;
 
 use texts::random::Random;
 
-use crate::comparisons::{compare, names, Comparison, BODIES, FUNCTIONS, SEARCHES};
+use crate::comparisons::{
+    compare, names, Comparison, BODIES, BODIES_BY_LEVELS, FUNCTIONS, FUNCTIONS_BY_LEVELS, SEARCHES,
+};
 use crate::every::{self, Every};
 use crate::functions;
 use crate::joined;
@@ -13,6 +15,7 @@ use crate::long::{self, Long};
 use crate::options::Options;
 use crate::report::{grouped, Report};
 use crate::results;
+use crate::tables;
 use crate::work::{share, Work};
 
 pub struct Part {
@@ -22,12 +25,13 @@ pub struct Part {
     run: fn(&mut Run),
 }
 
-pub const PARTS: [Part; 5] = [
+pub const PARTS: [Part; 6] = [
     Part { name: "limits", random: 0, run: run_limits },
     Part { name: "searches", random: 2_000_000, run: run_searches },
     Part { name: "bodies", random: 5_000_000, run: run_bodies },
     Part { name: "functions", random: 8_000_000, run: run_functions },
     Part { name: "joined", random: 5_000_000, run: run_joined },
+    Part { name: "levels", random: 2_000_000, run: run_levels },
 ];
 
 impl Part {
@@ -43,6 +47,7 @@ impl Part {
 fn run_limits(run: &mut Run) {
     run.section("limits and refusals".to_string(), limits::compare);
     run.section("rewriting calls at their limits".to_string(), results::compare);
+    run.section("tables that are refused".to_string(), tables::compare);
 }
 
 fn run_searches(run: &mut Run) {
@@ -65,7 +70,7 @@ fn run_bodies(run: &mut Run) {
 /// Every call on each of these texts; the answer is how many answers differ.
 pub fn run_given(options: &Options, texts: &[String]) -> u64 {
     let mut run = Run { options, random: 0, differing: 0 };
-    for list in [SEARCHES, BODIES, FUNCTIONS] {
+    for list in [SEARCHES, BODIES, FUNCTIONS, BODIES_BY_LEVELS, FUNCTIONS_BY_LEVELS] {
         let title = format!("{} texts of the file", grouped(texts.len() as u64));
         run.texts(list, title, texts.len() as u64, 64, |number, _| texts[number as usize].clone());
     }
@@ -102,10 +107,16 @@ const TOUCHING_FRAMES: &[Frame] =
 fn run_functions(run: &mut Run) {
     run.long(FUNCTIONS, &long::FUNCTION_TEXTS);
     run.long(FUNCTIONS, &long::DECLARING_TEXTS);
-    run.framed("quotes", &every::QUOTING, FRAMES);
-    run.framed("what begins a default", &every::DEFAULTS, TYPE_FRAMES);
-    run.framed("words around a type", &every::SPACED_WORDS, WORD_FRAMES);
-    run.framed("words that may touch", &every::TOUCHING_WORDS, TOUCHING_FRAMES);
+    run.framed(FUNCTIONS, "functions", "quotes", &every::QUOTING, FRAMES);
+    run.framed(FUNCTIONS, "functions", "what begins a default", &every::DEFAULTS, TYPE_FRAMES);
+    run.framed(FUNCTIONS, "functions", "words around a type", &every::SPACED_WORDS, WORD_FRAMES);
+    run.framed(
+        FUNCTIONS,
+        "functions",
+        "words that may touch",
+        &every::TOUCHING_WORDS,
+        TOUCHING_FRAMES,
+    );
     run.random(FUNCTIONS, "texts", |random| match random.percent(90) {
         true => texts::function(random),
         false => texts::any(random),
@@ -125,6 +136,32 @@ fn run_joined(run: &mut Run) {
     let title = format!("{pairs} random pairs, seed {}", run.options.seed);
     run.shared(title, &joined::ROWS, bodies, 1024, |_, random, report| {
         joined::random_fronts(random, report);
+    });
+}
+
+/// The short text stands behind a level: EXCEPTION, which has its letters, or another, which runs on.
+const LEVEL_FRAMES: &[Frame] =
+    &[["RAISE LOG", ";RAISE INFO 'a';"], ["RAISE EXCEPTION", ";RAISE INFO 'a';"]];
+
+fn run_levels(run: &mut Run) {
+    run.long(BODIES_BY_LEVELS, &long::BODY_TEXTS);
+    run.long(BODIES_BY_LEVELS, &long::ACCEPTED_TEXTS);
+    run.long(BODIES_BY_LEVELS, &long::RAISING_TEXTS);
+    run.framed(BODIES_BY_LEVELS, "bodies", "quotes behind a level", &every::QUOTING, LEVEL_FRAMES);
+    run.random(BODIES_BY_LEVELS, "texts", |random| match random.weighted(&[60, 25, 15]) {
+        0 => texts::levels::raises(random),
+        1 => texts::body(random),
+        _ => texts::any(random),
+    });
+    run.random(FUNCTIONS_BY_LEVELS, "functions", |random| match random.percent(50) {
+        true => functions::declaring(random) + " " + &texts::levels::raises(random),
+        false => texts::function(random),
+    });
+    let bodies = run.random.div_ceil(joined::FRONTS);
+    let pairs = grouped(bodies * joined::FRONTS);
+    let title = format!("{pairs} random pairs under a table, seed {}", run.options.seed);
+    run.shared(title, &joined::ROWS, bodies, 1024, |_, random, report| {
+        joined::fronts_under_a_table(random, report);
     });
 }
 
@@ -187,11 +224,18 @@ impl Run<'_> {
         self.texts(list, title, count, 4096, |number, _| every::QUOTING.text(number));
     }
 
-    /// Functions with every text of up to one piece less in each of the frames.
-    fn framed(&mut self, pieces: &str, every: &Every, frames: &[Frame]) {
+    /// A list of comparisons on every text of up to one piece less in each of the frames.
+    fn framed(
+        &mut self,
+        list: &[Comparison],
+        kind: &str,
+        pieces: &str,
+        every: &Every,
+        frames: &[Frame],
+    ) {
         let count = frames.len() as u64 * every::count(self.options.longest - 1);
-        let title = format!("{} functions with all short texts of {pieces}", grouped(count));
-        self.texts(FUNCTIONS, title, count, 4096, |number, _| {
+        let title = format!("{} {kind} with all short texts of {pieces}", grouped(count));
+        self.texts(list, title, count, 4096, |number, _| {
             let [front, back] = frames[number as usize % frames.len()];
             format!("{front}{}{back}", every.text(number / frames.len() as u64))
         });

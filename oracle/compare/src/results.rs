@@ -11,18 +11,23 @@ use sizes::{BUFFER_SIZE, RECORD_NUMBERS};
 use crate::bodies;
 use crate::calls::{self, Call, Made, TEXT_LIMIT};
 use crate::functions;
+use crate::levels;
 use crate::report::{Report, Row};
 use crate::subject::Outcome;
 
-/// One of the two calls.
+/// One of the two calls, without a table of levels or with one.
 struct Rewriting {
+    name: &'static str,
     call: &'static Call,
+    table: Option<&'static [u8]>,
     /// For each buffer a length that is too short, the least one, and longer ones.
     lengths: &'static [&'static [usize]],
     cases: fn() -> Vec<Case>,
     /// The outcomes of a text that gives this number, with buffers of each of these lengths.
-    outcomes: fn(&str, &[Vec<usize>], u32) -> Vec<Outcome>,
+    outcomes: Outcomes,
 }
+
+type Outcomes = fn(&str, Option<&[u8]>, &[Vec<usize>], u32) -> Vec<Outcome>;
 
 /// A text that passes the checks, and the number that it gives.
 struct Case {
@@ -35,23 +40,63 @@ const BYTES: &[usize] = &[BUFFER_SIZE - 1, BUFFER_SIZE, 70_000];
 
 const NUMBERS: &[usize] = &[RECORD_NUMBERS - 1, RECORD_NUMBERS, RECORD_NUMBERS + 1, 6_000];
 
-const REWRITINGS: [Rewriting; 2] = [
+const BODY: Rewriting = Rewriting {
+    name: "transform_body",
+    call: &calls::TRANSFORM_BODY,
+    table: None,
+    lengths: &[BYTES; 3],
+    cases: body_cases,
+    outcomes: bodies::limited,
+};
+
+const FUNCTION: Rewriting = Rewriting {
+    name: "preprocess",
+    call: &calls::PREPROCESS,
+    table: None,
+    lengths: &[BYTES, BYTES, BYTES, BYTES, NUMBERS],
+    cases: function_cases,
+    outcomes: functions::limited,
+};
+
+/// Under a table that equals none the cases are the same.
+const REWRITINGS: [Rewriting; 6] = [
+    BODY,
+    FUNCTION,
     Rewriting {
-        call: &calls::TRANSFORM_BODY,
-        lengths: &[BYTES; 3],
-        cases: body_cases,
-        outcomes: bodies::limited,
+        name: "transform_body_by_levels",
+        call: &calls::TRANSFORM_BODY_BY_LEVELS,
+        table: Some(levels::NO_TABLE),
+        ..BODY
     },
     Rewriting {
-        call: &calls::PREPROCESS,
-        lengths: &[BYTES, BYTES, BYTES, BYTES, NUMBERS],
-        cases: function_cases,
-        outcomes: functions::limited,
+        name: "preprocess_by_levels",
+        call: &calls::PREPROCESS_BY_LEVELS,
+        table: Some(levels::NO_TABLE),
+        ..FUNCTION
+    },
+    Rewriting {
+        name: "the body, all rolling back",
+        call: &calls::TRANSFORM_BODY_BY_LEVELS,
+        table: Some(ROLLBACK),
+        cases: rollback_cases,
+        ..BODY
+    },
+    Rewriting {
+        name: "the function, all rolling back",
+        call: &calls::PREPROCESS_BY_LEVELS,
+        table: Some(ROLLBACK),
+        cases: rollback_function_cases,
+        ..FUNCTION
     },
 ];
 
+/// The longest word for every level: `RAISE LOG;` grows from 10 bytes to 25.
+const ROLLBACK: &[u8] =
+    b"DEBUG rollback\nLOG rollback\nINFO rollback\nNOTICE rollback\nWARNING rollback\n\
+    EXCEPTION rollback\n";
+
 pub fn compare() -> Report {
-    let mut report = Report::new(&REWRITINGS.map(|one| one.call.name));
+    let mut report = Report::new(&REWRITINGS.map(|one| one.name));
     for (rewriting, row) in REWRITINGS.iter().zip(&mut report.rows) {
         for case in (rewriting.cases)() {
             rewriting.with_all_lengths(&case, row);
@@ -68,7 +113,7 @@ impl Rewriting {
         for lengths in short {
             self.untouched(case.text.as_bytes(), &lengths, [3, 0, 0, 0], case, row);
         }
-        let outcomes = (self.outcomes)(&case.text, &enough, case.number);
+        let outcomes = (self.outcomes)(&case.text, self.table, &enough, case.number);
         for (Outcome { expected, got, buffers }, lengths) in outcomes.iter().zip(&enough) {
             let right = expected == got && expected[0] == case.number;
             row.note(right && *buffers, || {
@@ -107,7 +152,7 @@ impl Rewriting {
         case: &Case,
         row: &mut Row,
     ) {
-        let made = self.call.make(text, lengths, b"");
+        let made = self.call.make(text, lengths, self.table.unwrap_or_default());
         row.note(made == Made { answer, is_untouched: true }, || {
             let held = if made.is_untouched { "untouched" } else { "written" };
             format!(
@@ -169,6 +214,70 @@ fn body_cases() -> Vec<Case> {
         case(4, "4 with a target of 16,001 bytes", format!("{long}.{long}:=1;")),
         case(5, "5 with a clause of 8,007 bytes", format!("RAISE EXCEPTION USING x{long}")),
     ]
+}
+
+/// Results on both sides of the limit where every RAISE becomes a ROLLBACK, also of the longest texts, and
+/// the order of the refusals for a level that is dropped without a table.
+fn rollback_cases() -> Vec<Case> {
+    let case = |number, title, text| Case { number, title, text };
+    let (log, using) = ("RAISE LOG;", "RAISE LOG USING x;");
+    let many = log.repeat(30);
+    let before = BUFFER_SIZE - 30 * ROLLBACK_GROWTH;
+    vec![
+        case(0, "many RAISE LOG", log.repeat(TEXT_LIMIT / log.len())),
+        case(0, "one RAISE LOG grows to 65,536", blown(BUFFER_SIZE - ROLLBACK_GROWTH, log)),
+        case(6, "one RAISE LOG grows to 65,537", blown(BUFFER_SIZE - ROLLBACK_GROWTH + 1, log)),
+        case(6, "one RAISE LOG grows from 65,536", blown(BUFFER_SIZE, log)),
+        case(0, "30 RAISE LOG grow to 65,536", blown(before, &many)),
+        case(6, "30 RAISE LOG grow to 65,537", blown(before + 1, &many)),
+        case(0, "the longest text, result of 65,536", longest(BUFFER_SIZE)),
+        case(6, "the longest text, result of 65,537", longest(BUFFER_SIZE + 1)),
+        case(5, "5 for LOG", using.to_string()),
+        case(5, "5 for LOG after its output passed 65,536", {
+            blown(BUFFER_SIZE, &format!("{log}{using}"))
+        }),
+        case(5, "5 for LOG before its output passes 65,536", {
+            blown(BUFFER_SIZE, &format!("{using}{log}"))
+        }),
+        case(6, "6 in pass 4 before 5 for LOG", blown(BUFFER_SIZE + 1, using)),
+        case(4, "4 in pass 3 before 5 for LOG", format!("{using}NEW.v := 1;")),
+    ]
+}
+
+/// How much longer a RAISE LOG becomes.
+const ROLLBACK_GROWTH: usize = "SELECT RAISE(ROLLBACK, );".len() - "RAISE LOG;".len();
+
+/// A text of the greatest length with many RAISE LOG, and a result of this length where they roll back.
+fn longest(result: usize) -> String {
+    let sizes = (90..=100).flat_map(|count| (300..500).map(move |table| (count, table)));
+    let of_size = |(count, table): (usize, usize)| {
+        let front = format!("SELECT {}", pairs(count, table));
+        let growth = rewritten(&front).len() - front.len();
+        let left = result - TEXT_LIMIT - growth;
+        let raises = "RAISE LOG;".repeat(left / ROLLBACK_GROWTH);
+        let filling = TEXT_LIMIT - front.len() - 1 - raises.len();
+        let text = format!("{front}{};{raises}", "x".repeat(filling));
+        left.is_multiple_of(ROLLBACK_GROWTH).then_some(text)
+    };
+    sizes.into_iter().find_map(of_size).expect("a growth that many RAISE LOG fill up")
+}
+
+fn rollback_function_cases() -> Vec<Case> {
+    let case = |number, title, text| Case { number, title, text };
+    let using = "RAISE LOG USING x;";
+    let (most, over) = (declared(512), declared(513));
+    let mut cases = rollback_cases();
+    cases.extend([
+        case(7, "7 before 5 for LOG", format!("{over} {using}")),
+        case(5, "5 for LOG behind 512 names", format!("{most} {using}")),
+        case(0, "names and a result of 65,536", {
+            declared(300) + ";" + &blown(BUFFER_SIZE - 6 - ROLLBACK_GROWTH, "RAISE LOG;")
+        }),
+        case(6, "names and a result of 65,537", {
+            declared(300) + ";" + &blown(BUFFER_SIZE - 5 - ROLLBACK_GROWTH, "RAISE LOG;")
+        }),
+    ]);
+    cases
 }
 
 /// The same texts, which hold no DECLARE and no BEGIN, and functions with declarations.
@@ -233,7 +342,7 @@ fn order_cases() -> [Case; 7] {
 }
 
 /// A function that declares so many names, not in the order of their bytes.
-fn declared(count: usize) -> String {
+pub fn declared(count: usize) -> String {
     format!("DECLARE {}BEGIN", names(count))
 }
 

@@ -58,6 +58,17 @@ extern "C" {
         declared: *mut u8, declared_length: usize, records: *mut u32, records_length: usize,
         answer: *mut Answer,
     );
+    fn plpgsql_transform_body_by_levels(
+        text: *const u8, text_length: usize, table: *const u8, table_length: usize,
+        output: *mut u8, output_length: usize, work: *mut u8, work_length: usize,
+        spare: *mut u8, spare_length: usize, answer: *mut Answer,
+    );
+    fn plpgsql_preprocess_by_levels(
+        text: *const u8, text_length: usize, table: *const u8, table_length: usize,
+        output: *mut u8, output_length: usize, work: *mut u8, work_length: usize,
+        spare: *mut u8, spare_length: usize, declared: *mut u8, declared_length: usize,
+        records: *mut u32, records_length: usize, answer: *mut Answer,
+    );
 }
 
 /// The answer of one call.
@@ -155,6 +166,47 @@ pub fn preprocess(
     answer(|out| unsafe {
         plpgsql_preprocess(
             t, t_length, o, o_length, w, w_length, s, s_length, d, d_length, r, r_length, out,
+        )
+    })
+}
+
+pub fn transform_body_by_levels(
+    text: &[u8],
+    table: &[u8],
+    output: &mut [u8],
+    work: &mut [u8],
+    spare: &mut [u8],
+) -> Answer {
+    let (t, t_length, l, l_length) = (text.as_ptr(), text.len(), table.as_ptr(), table.len());
+    let (o, o_length) = (output.as_mut_ptr(), output.len());
+    let (w, w_length) = (work.as_mut_ptr(), work.len());
+    let (s, s_length) = (spare.as_mut_ptr(), spare.len());
+    answer(|out| unsafe {
+        plpgsql_transform_body_by_levels(
+            t, t_length, l, l_length, o, o_length, w, w_length, s, s_length, out,
+        )
+    })
+}
+
+pub fn preprocess_by_levels(
+    text: &[u8],
+    table: &[u8],
+    output: &mut [u8],
+    work: &mut [u8],
+    spare: &mut [u8],
+    declared: &mut [u8],
+    records: &mut [u32],
+) -> Answer {
+    let (t, t_length, l, l_length) = (text.as_ptr(), text.len(), table.as_ptr(), table.len());
+    let (o, o_length) = (output.as_mut_ptr(), output.len());
+    let (w, w_length) = (work.as_mut_ptr(), work.len());
+    let (s, s_length) = (spare.as_mut_ptr(), spare.len());
+    let (d, d_length) = (declared.as_mut_ptr(), declared.len());
+    let (r, r_length) = (records.as_mut_ptr(), records.len());
+    answer(|out| unsafe {
+        plpgsql_preprocess_by_levels(
+            t, t_length, l, l_length, o, o_length, w, w_length, s, s_length, d, d_length, r,
+            r_length, out,
         )
     })
 }

@@ -9,6 +9,8 @@ pub mod block;
 pub mod constants;
 pub mod declarations;
 pub mod defaults;
+pub mod levels;
+pub mod raises;
 pub mod reading;
 pub mod reasons;
 pub mod records;

@@ -1,11 +1,17 @@
-//! What is read in a function: by the published source, and as Notes 2 and 5 want it.
+//! What is read in a function: by the published source, as Notes 2 and 5 want it, and under a table of
+//! levels.
 
 use crate::declarations::{self, Declaration};
+use crate::levels::Table;
 use crate::preprocessor::PlPgSqlPreprocessor;
+use crate::raises::{self, Raised};
 use crate::reasons::Reasons;
 use crate::records::first_declared;
 use crate::respelling::{put_back, respelled};
+use crate::scanner::Scanner;
 use crate::Error;
+
+const BEGIN: &str = "BEGIN";
 
 #[derive(Debug)]
 pub struct Reading {
@@ -47,5 +53,42 @@ impl Reading {
             true => Self::published(text).map(Some),
             false => Self::respelled(text),
         }
+    }
+
+    /// The same under a table of levels. The declarations are read ahead of an empty body, since a body
+    /// that the published source refuses may be accepted.
+    pub fn under(text: &str, table: &Table) -> Result<Option<Self>, String> {
+        let body = body_of(text);
+        let front = text[..text.len() - body.len()].to_string() + BEGIN;
+        let Some(declared) = Self::wanted(&front)? else { return Ok(None) };
+        let output = raises::transform_body(body, table).map(|Raised { text, .. }| text);
+        let list = if output.is_ok() { declared.list } else { Vec::new() };
+        Ok(Some(Self { output, list, order: declared.order }))
+    }
+}
+
+/// The body of a function: from the first live BEGIN on, and the whole text if there is none.
+pub fn body_of(text: &str) -> &str {
+    Scanner::new(text).find_keyword(BEGIN, 0).map_or(text, |start| &text[start..])
+}
+
+#[cfg(test)]
+mod tests {
+    use super::*;
+    use crate::levels::NO_TABLE;
+    use texts::random::Random;
+
+    #[test]
+    fn without_a_table_a_function_is_read_as_wanted() {
+        let mut random = Random::new(1);
+        let mut declaring = 0;
+        for _ in 0..20_000 {
+            let text = texts::function(&mut random);
+            let under = Reading::under(&text, &NO_TABLE).unwrap();
+            let wanted = Reading::wanted(&text).unwrap();
+            assert_eq!(format!("{under:?}"), format!("{wanted:?}"), "{text:?}");
+            declaring += usize::from(wanted.is_some_and(|wanted| !wanted.list.is_empty()));
+        }
+        assert!(declaring > 5_000, "{declaring}");
     }
 }

@@ -2,6 +2,7 @@
 //! texts, and prints the figures as Markdown tables.
 
 mod clock;
+mod levels;
 mod measure;
 mod requoting;
 mod texts;
@@ -27,6 +28,7 @@ fn main() -> ExitCode {
     let usual = realistic_bodies(&mut missed);
     families(usual, &mut missed);
     functions(usual, &mut missed);
+    levels::table(usual, &mut missed);
     requoting::table(&mut missed);
     println!();
     for line in &missed {
@@ -109,10 +111,14 @@ fn family(name: &str, texts: [String; 2], usual: f64, missed: &mut Vec<String>) 
          | {rust_whole:.0} | {rust_growth:.2} | {:.1} |",
         rust_whole / whole
     );
+    note_growth(name, growth, missed);
+    note_worst(name, worst, missed);
+}
+
+fn note_growth(name: &str, growth: f64, missed: &mut Vec<String>) {
     if growth > MOST_GROWTH {
         missed.push(format!("{name} grows {growth:.2} times, to reach: {MOST_GROWTH}"));
     }
-    note_worst(name, worst, missed);
 }
 
 fn note_worst(name: &str, worst: f64, missed: &mut Vec<String>) {

@@ -27,6 +27,15 @@ pub fn ours(text: &str) -> f64 {
     })
 }
 
+/// The same under a table of levels, which the reference does not have.
+pub fn ours_by_levels(text: &str, table: &str) -> f64 {
+    let [mut output, mut work, mut spare] = [0; 3].map(|_| vec![0; BUFFER_SIZE]);
+    best(|| -> Answer {
+        let (text, table) = (black_box(text).as_bytes(), black_box(table).as_bytes());
+        library::transform_body_by_levels(text, table, &mut output, &mut work, &mut spare)
+    })
+}
+
 /// Microseconds that the reference takes.
 pub fn reference(text: &str) -> f64 {
     best(|| PlPgSqlPreprocessor::transform_body(black_box(text), &PlPgSqlContext::new()))

@@ -185,7 +185,7 @@ impl Shape<'_> {
     }
 
     /// What stands behind the level of a RAISE.
-    fn content(&mut self) {
+    pub(crate) fn content(&mut self) {
         match self.random.weighted(&[40, 18, 28, 6, 8]) {
             0 => self.literal(),
             1 => self.expression(1),

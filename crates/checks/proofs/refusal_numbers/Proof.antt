@@ -25,6 +25,15 @@ enum-told-3 c = search needs
 enum-told-4 : tie.Need-enum-told-4
 enum-told-4 c = search needs
 
+enum-known-r-4 : tie.Need-enum-known-r-4
+enum-known-r-4 c = search needs
+
+enum-known-r-5 : tie.Need-enum-known-r-5
+enum-known-r-5 c = search needs
+
+enum-known-r-6 : tie.Need-enum-known-r-6
+enum-known-r-6 c = search needs
+
 returns : tie.Need-returns
 returns c = rw (c .enum-told .given .1) refl
 
@@ -46,6 +55,15 @@ returns-6 c = rw (c .enum-told3 .given .1) refl
 returns-7 : tie.Need-returns-7
 returns-7 c = rw (c .enum-told4 .given .1) refl
 
+returns-8 : tie.Need-returns-8
+returns-8 c = rw (c .before .r4 .given .1) refl
+
+returns-9 : tie.Need-returns-9
+returns-9 c = rw (c .before .r5 .given .1) refl
+
+returns-10 : tie.Need-returns-10
+returns-10 c = rw (c .before .r6 .given .1) refl
+
 pub refusal-numbers-spec : {M : Type 1} → statement M
 refusal-numbers-spec =
     tie.close
@@ -57,10 +75,16 @@ refusal-numbers-spec =
     enum-known-r-3
     enum-told-3
     enum-told-4
+    enum-known-r-4
+    enum-known-r-5
+    enum-known-r-6
     returns
     returns-2
     returns-3
     returns-4
     returns-5
     returns-6
-    returns-7)
+    returns-7
+    returns-8
+    returns-9
+    returns-10)

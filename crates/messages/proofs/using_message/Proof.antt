@@ -15,10 +15,11 @@ use Rattle.spec.specs.Bytes.{ascii, upper, isW, prefixBy}
 use Rattle.spec.specs.Map.{Marked, bytes, lives}
 use Rattle.spec.specs.Outcome.{usingClause, accepted, refused, forget}
 use Rattle.spec.specs.Raise.{usingFate, fateText}
-use Rattle.messages.specs.Readings.{aborting}
+use Rattle.messages.specs.Readings.{raising}
 use Rattle.runs.proofs.RunLaws.{end-le}
 use Rattle.messages.proofs.MessageLaws.{messageIn, message-is, message-le}
 use Rattle.messages.proofs.UsingLaws.{no-message, no-equals, no-quote, at-quote}
+use Rattle.spec.specs.declared.RaiseType.{RaiseType}
 use borrow.Author.Needs.{needs}
 use Rattle.messages.proofs.using_message.Statement.{statement}
 use Rattle.messages.proofs.using_message.Tie as tie
@@ -58,7 +59,7 @@ returns : tie.Need-returns
 returns c =
     let first = c .before .before .before .before in
     let xs = first .before .before .args .content .now in
-    ((λ t e. no-message t xs e _ _ _ _ (first .run-end .ensures .0) refl refl refl (sym (named (c .before)) ∙ not-true _ (c .if1 .taken))), omega arith)
+    ((λ w t e. no-message w t xs e _ _ _ _ (first .run-end .ensures .0) refl refl refl (sym (named (c .before)) ∙ not-true _ (c .if1 .taken))), omega arith)
 
 add-run-end : tie.Need-add-run-end
 add-run-end c =
@@ -76,7 +77,7 @@ returns-2 c =
     let test = c .before .before .before in
     let first = test .before .before .before .before in
     let xs = first .before .before .args .content .now in (
-      (λ t e. no-equals t xs e _ _ _ _ (first .run-end .ensures .0) (c .before .before .run-end2 .ensures .0) refl refl (message-named test) (ne-eqb _ _ (λ q. c .if2 .taken (c .before .byte-at .ensures ∙ q)))),
+      (λ w t e. no-equals w t xs e _ _ _ _ (first .run-end .ensures .0) (c .before .before .run-end2 .ensures .0) refl refl (message-named test) (ne-eqb _ _ (λ q. c .if2 .taken (c .before .byte-at .ensures ∙ q)))),
       omega arith,
     )
 
@@ -99,7 +100,7 @@ returns-3 c =
     let test = equals .before .before .before in
     let first = test .before .before .before .before in
     let xs = first .before .before .args .content .now in (
-      (λ t e. no-quote t xs e _ _ _ _ (first .run-end .ensures .0) (equals .before .before .run-end2 .ensures .0) (c .before .before .run-end3 .ensures .0) refl (message-named test) (eq-eqb _ _ (sym (equals .before .byte-at .ensures) ∙ equals .if2 .left)) (ne-eqb _ _ (λ q. c .if3 .taken (c .before .byte-at2 .ensures ∙ q)))),
+      (λ w t e. no-quote w t xs e _ _ _ _ (first .run-end .ensures .0) (equals .before .before .run-end2 .ensures .0) (c .before .before .run-end3 .ensures .0) refl (message-named test) (eq-eqb _ _ (sym (equals .before .byte-at .ensures) ∙ equals .if2 .left)) (ne-eqb _ _ (λ q. c .if3 .taken (c .before .byte-at2 .ensures ∙ q)))),
       omega arith,
     )
 
@@ -155,25 +156,25 @@ run-end-requires-4 : tie.Need-run-end-requires-4
 run-end-requires-4 c κs = search needs
 
 -- what it comes to
-judged : (c : tie.After-run-end4) (t : List Marked) → bytes t ≡ content-of (c .before .before .before)
+judged : (c : tie.After-run-end4) (w : RaiseType) (t : List Marked) → bytes t ≡ content-of (c .before .before .before)
     → let xs = content-of (c .before .before .before) in
-    forget (fateText (usingFate t (drop 5 t)))
-    ≡ cond (leb (length xs) (c .run-end4 .result)) (accepted (aborting (c .before .extract-first-string-literal .result .now))) (refused (usingClause xs))
-judged c t e =
+    forget (fateText (usingFate w t (drop 5 t)))
+    ≡ cond (leb (length xs) (c .run-end4 .result)) (accepted (raising w (c .before .extract-first-string-literal .result .now))) (refused (usingClause xs))
+judged c w t e =
     let quote = c .before .before .before in
     let equals = quote .before .before .before in
     let test = equals .before .before .before in
     let first = test .before .before .before .before in
     rw (c .run-end4 .ensures .0)
-    (at-quote t (first .before .before .args .content .now) e _ _ _ _
+    (at-quote w t (first .before .before .args .content .now) e _ _ _ _
     (first .run-end .ensures .0) (equals .before .before .run-end2 .ensures .0) (quote .before .before .run-end3 .ensures .0) (found (c .before)) (message-named test)
     (eq-eqb _ _ (sym (equals .before .byte-at .ensures) ∙ equals .if2 .left)) (eq-eqb _ _ (sym (quote .before .byte-at2 .ensures) ∙ quote .if3 .left)))
 
 returns-4 : tie.Need-returns-4
-returns-4 c = ((λ t e. judged (c .before) t e ∙ rw (lt-leb _ _ (c .if4 .taken)) refl), omega arith)
+returns-4 c = ((λ w t e. judged (c .before) w t e ∙ rw (lt-leb _ _ (c .if4 .taken)) refl), omega arith)
 
 returns-5 : tie.Need-returns-5
-returns-5 c = ((λ t e. judged (c .before) t e ∙ rw (le-leb _ _ (c .if4 .left)) refl), omega (arith, found-in (c .before .before)))
+returns-5 c = ((λ w t e. judged (c .before) w t e ∙ rw (le-leb _ _ (c .if4 .left)) refl), omega (arith, found-in (c .before .before)))
 
 pub using-message-spec : {M : Type 1} → statement M
 using-message-spec =

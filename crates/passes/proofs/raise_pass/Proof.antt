@@ -50,7 +50,7 @@ returns c =
     let xs = at-start .args .text .now in
     let m = front-map xs (at-map .map-text .last .1 .0) (at-start .args .map .now) (at-map .map-text .ensures) in
     let e = rw m at (at-pass .transform-raise-statements .ensures) in
-    let g = limited-gives (raise actionOf (markedText xs)) (at-pass .transform-raise-statements .result) (at-start .args .out .now) (at-pass .transform-raise-statements .last .1 .1 .0) (e .0) (e .1) (at-start .pre .1 .1) in
+    let g = limited-gives (raise (actionOf (at-start .args .actions)) (markedText xs)) (at-pass .transform-raise-statements .result) (at-start .args .out .now) (at-pass .transform-raise-statements .last .1 .1 .1 .0) (e .0) (e .1) (at-start .pre .1 .1) in
     rw (c .limit .ensures) g
 
 pub raise-pass-spec : {M : Type 1} → statement M

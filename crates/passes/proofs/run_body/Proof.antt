@@ -75,13 +75,13 @@ returns c =
     let s = at-start .args in
     let p = at-start .pre in
     let run = at-run-passes .run-passes in
-    let n = at-output-length .output-length .ensures ∙ (ap (λ r. callNumbers r .length) (run .ensures .answered) ∙ answer-length [] (rewriting actionOf (s .text .now))) in (
+    let n = at-output-length .output-length .ensures ∙ (ap (λ r. callNumbers r .length) (run .ensures .answered) ∙ answer-length [] (rewriting (actionOf (s .actions)) (s .text .now))) in (
       run .ensures .answered,
       (
-        at-fill .fill .ensures ∙ zeros-behind-part (s .size) (at-output-length .output-length .result) (run .last .1 .0) (s .output .now) (bodyResult (s .text .now) .output) (run .kept .1 .0 ∙ length-take-le (s .size) (s .output .now) (p .1 .1 .0)) n (run .ensures .held),
+        at-fill .fill .ensures ∙ zeros-behind-part (s .size) (at-output-length .output-length .result) (run .last .1 .1 .0) (s .output .now) (bodyResult (s .text .now) (s .actions) .output) (run .kept .1 .1 .0 ∙ length-take-le (s .size) (s .output .now) (p .1 .1 .0)) n (run .ensures .held),
         (
-          at-fill2 .fill2 .ensures ∙ zeros-behind-part (s .size) 0 (run .last .1 .1 .0) (s .work .now) [] (run .kept .1 .1 .0 ∙ length-take-le (s .size) (s .work .now) (p .1 .1 .1 .0)) refl refl,
-          c .before .before .fill3 .ensures ∙ zeros-behind-part (s .size) 0 (run .last .1 .1 .1 .0) (s .spare .now) [] (run .kept .1 .1 .1 .0 ∙ length-take-le (s .size) (s .spare .now) (p .1 .1 .1 .1)) refl refl,
+          at-fill2 .fill2 .ensures ∙ zeros-behind-part (s .size) 0 (run .last .1 .1 .1 .0) (s .work .now) [] (run .kept .1 .1 .1 .0 ∙ length-take-le (s .size) (s .work .now) (p .1 .1 .1 .0)) refl refl,
+          c .before .before .fill3 .ensures ∙ zeros-behind-part (s .size) 0 (run .last .1 .1 .1 .1 .0) (s .spare .now) [] (run .kept .1 .1 .1 .1 .0 ∙ length-take-le (s .size) (s .spare .now) (p .1 .1 .1 .1)) refl refl,
         ),
       ),
     )

@@ -12,6 +12,8 @@ use Rattle.spec.specs.Map.{markedText, bytes}
 use Rattle.spec.specs.Requote.{requoted}
 use Rattle.spec.specs.Elsif.{elsif}
 use Rattle.spec.specs.Raise.{actionOf}
+use Rattle.spec.specs.declared.Level.{Level}
+use Rattle.spec.specs.declared.Action.{Action}
 use Rattle.spec.specs.Body.{limited, assignPass, selectPass, raisePass}
 use Rattle.spec.specs.Answers.{resultOf}
 use Rattle.output.specs.declared.Pass.the-variants.{Done}
@@ -50,6 +52,10 @@ first-of c = start-of (requote-of c)
 -- the text
 abbrev text-of : tie.After-elsif-pass → List ℕ
 text-of c = first-of c .args .text .now
+
+-- the action of each level
+abbrev act-of : tie.After-elsif-pass → Level → Action
+act-of c = actionOf (first-of c .args .actions)
 
 -- ---- what is known there
 
@@ -90,8 +96,8 @@ selected-long c =
     let a = assign-of c in
     (c .select-pass .kept .1 .0 ∙ assigned-long a .0, c .select-pass .kept .1 .1 .0 ∙ spelled-long (elsif-of a) .0)
 
-raised-long : (c : tie.After-raise-pass) → length (c .raise-pass .last .1 .1 .0) ≡ 65536
-raised-long c = c .raise-pass .kept .1 .1 .0 ∙ assigned-long (assign-of (select-of c)) .1
+raised-long : (c : tie.After-raise-pass) → length (c .raise-pass .last .1 .1 .1 .0) ≡ 65536
+raised-long c = c .raise-pass .kept .1 .1 .1 .0 ∙ assigned-long (assign-of (select-of c)) .1
 
 -- what pass 3 reads, and what it gives
 abbrev third-text : tie.After-assign-pass → List ℕ
@@ -148,7 +154,7 @@ selected-fits c = given-fits _ _ _ (selected-done c) (selected-long (done-of-2 c
 
 raised-gives : (c : tie.After-raise-pass)
     → let k = told-of-2 c .before .selected .given .0 .0 in
-    Gives (resultOf [] (limited (raisePass actionOf (take k (select-of c .select-pass .last .1 .1 .0))))) (finished (c .raise-pass .result)) (c .raise-pass .last .1 .1 .0)
+    Gives (resultOf [] (limited (raisePass (act-of (elsif-of (assign-of (select-of c)))) (take k (select-of c .select-pass .last .1 .1 .0))))) (finished (c .raise-pass .result)) (c .raise-pass .last .1 .1 .1 .0)
 raised-gives c = c .raise-pass .ensures
 
 -- ---- the needs
@@ -219,7 +225,7 @@ returns c =
     let at-assign = at-told .before .before .before .before .before .before in
     let at-elsif = elsif-of at-assign in
     let g = assigned-gives at-assign in
-    let stops = third-stops actionOf (text-of at-elsif) (third-text at-assign) (first-of at-elsif .pre .0) (spelled-in at-elsif .1) _ _ (given-as _ _ _ _ g (at-told .enum-told .given .1)) in
+    let stops = third-stops (act-of at-elsif) (text-of at-elsif) (third-text at-assign) (first-of at-elsif .pre .0) (spelled-in at-elsif .1) _ _ (given-as _ _ _ _ g (at-told .enum-told .given .1)) in
     rw stops (gives-copied _ (at-assign .assign-pass .result) _ _ _ g (at-finish .finish .ensures .0) (at-finish .finish .ensures .1))
 
 slice-reshare-prefix-select-pass : tie.Need-slice-reshare-prefix-select-pass
@@ -265,7 +271,7 @@ returns-2 c =
     let at-select = at-told .before .before .before .before .before .before in
     let at-elsif = elsif-of (assign-of at-select) in
     let g = given-as _ _ _ _ (selected-gives at-select) (at-told .enum-told2 .given .1) in
-    let stops = fourth-stops actionOf (text-of at-elsif) (third-text (assign-of at-select)) (first-of at-elsif .pre .0) (spelled-in at-elsif .1) _ _ (assigned-done (told-of at-select)) _ _ g in
+    let stops = fourth-stops (act-of at-elsif) (text-of at-elsif) (third-text (assign-of at-select)) (first-of at-elsif .pre .0) (spelled-in at-elsif .1) _ _ (assigned-done (told-of at-select)) _ _ g in
     rw stops (too-long-gives _ _ _ _ _ g (at-finish .finish2 .ensures .0 ∙ ap finished (at-told .enum-told2 .given .1)))
 
 slice-reshare-prefix-raise-pass : tie.Need-slice-reshare-prefix-raise-pass
@@ -302,7 +308,7 @@ same-length-8 c =
     let at-spare = at-finish .before .before .before .before in
     let at-raise = at-spare .before .before .before in
     let at-select = select-of at-raise in
-    at-raise .raise-pass .kept .1 .0 ∙ (selected-long at-select .0 ∙ sym (first-of (elsif-of (assign-of at-select)) .pre .1 .1 .0))
+    at-raise .raise-pass .kept .1 .1 .0 ∙ (selected-long at-select .0 ∙ sym (first-of (elsif-of (assign-of at-select)) .pre .1 .1 .0))
 
 same-length-9 : tie.Need-same-length-9
 same-length-9 c =
@@ -318,7 +324,7 @@ returns-3 c =
     let at-raise = at-spare .before .before .before in
     let at-select = select-of at-raise in
     let at-elsif = elsif-of (assign-of at-select) in
-    let reached = fifth-gives actionOf (text-of at-elsif) (third-text (assign-of at-select)) (first-of at-elsif .pre .0) (spelled-in at-elsif .1) _ _ (assigned-done (told-of at-select)) _ _ (selected-done (told-of-2 at-raise)) in
+    let reached = fifth-gives (act-of at-elsif) (text-of at-elsif) (third-text (assign-of at-select)) (first-of at-elsif .pre .0) (spelled-in at-elsif .1) _ _ (assigned-done (told-of at-select)) _ _ (selected-done (told-of-2 at-raise)) in
     rw reached (gives-copied _ (at-raise .raise-pass .result) _ _ _ (raised-gives at-raise) (at-finish .finish3 .ensures .0) (at-finish .finish3 .ensures .1))
 
 pub run-passes-spec : {M : Type 1} → statement M

@@ -31,8 +31,8 @@ enum-known-parsed c = search needs
 enum-told : tie.Need-enum-told
 enum-told c = search needs
 
-refuse-names-requires : tie.Need-refuse-names-requires
-refuse-names-requires c κs =
+refuse-function-requires : tie.Need-refuse-function-requires
+refuse-function-requires c κs =
     let at-match = c .before .before .before .before .before .before in
     let at-parse-declarations = at-match .before .before .before .before .before in
     let at-body-start = at-parse-declarations .before .before .before .before in
@@ -61,8 +61,8 @@ same-length-5 c = search needs
 returns : tie.Need-returns
 returns c =
     let at-spare = c .before .before .before .before .before in
-    let at-refuse-names = at-spare .before .before .before .before .before in
-    let at-enum-told = at-refuse-names .before .before .before .before .before .before in
+    let at-refuse-function = at-spare .before .before .before .before .before in
+    let at-enum-told = at-refuse-function .before .before .before .before .before .before in
     let at-parse-declarations = at-enum-told .before .before .before .before .before .before in
     let at-body-start = at-parse-declarations .before .before .before .before in
     let at-map-text = at-body-start .before .before .before .before in
@@ -74,11 +74,11 @@ returns c =
     let m = at-map-text .map-text .ensures in
     let e = at-parse-declarations .parse-declarations .ensures in
     let q = sym (e .0) ∙ at-enum-told .enum-told .given .1 in
-    let f = at-refuse-names .refuse-names .ensures in
+    let f = at-refuse-function .refuse-function .ensures in
     let w : drop (s .size) (at-map-text .map-text .last .1 .0) ≡ drop (s .size) (s .work .now) = ap (drop (s .size)) m ∙ kept-drop (mapOf xs) (s .work .now) (s .size) (omega (arith, map-length xs, p .0, p .1 .1 .0)) in
-    let d = ap (drop (s .size)) (texts-same xs (s .work .now) _ m q (s .declared .now) _ (s .records .now) _ (e .1)) in
+    let d = ap (drop (s .size)) (texts-same xs (s .work .now) _ m (s .actions) q (s .declared .now) _ (s .records .now) _ (e .1)) in
     let n = subst (λ (k : ℕ). drop k (at-parse-declarations .parse-declarations .last .1 .1 .1 .0) ≡ drop k (s .records .now)) (sym (p .1 .0)) (e .1 .behind) in
-    rw (refused-is xs (s .work .now) _ m q) (f .0, (f .1 .0, (f .1 .1 .0 ∙ zeroed-same (s .size) [] _ (s .work .now) w, (f .1 .1 .1 .0, (f .1 .1 .1 .1 .0 ∙ zeroed-same (s .size) [] _ (s .declared .now) d, f .1 .1 .1 .1 .1 ∙ zeroed-same (s .numbers) [] _ (s .records .now) n)))))
+    rw (refused-is xs (s .work .now) _ m (s .actions) q) (f .0, (f .1 .0, (f .1 .1 .0 ∙ zeroed-same (s .size) [] _ (s .work .now) w, (f .1 .1 .1 .0, (f .1 .1 .1 .1 .0 ∙ zeroed-same (s .size) [] _ (s .declared .now) d, f .1 .1 .1 .1 .1 ∙ zeroed-same (s .numbers) [] _ (s .records .now) n)))))
 
 sub-run-body : tie.Need-sub-run-body
 sub-run-body c = search needs
@@ -115,7 +115,7 @@ mul-if-accepted c =
     let at-slice-known = at-map-text .before .before .before .before .before .before in
     let at-start = at-slice-known .before .before in
     let s = at-start .args in
-    let k = count-small (s .text .now) (s .work .now) _ (at-map-text .map-text .ensures) (at-body-start .body-start .result) _ _ (at-body-start .body-start .ensures .0) (sym (at-parse-declarations .parse-declarations .ensures .0) ∙ at-parsed .parsed .given .1) in
+    let k = count-small (s .text .now) (s .work .now) _ (at-map-text .map-text .ensures) (s .actions) (at-body-start .body-start .result) _ _ (at-body-start .body-start .ensures .0) (sym (at-parse-declarations .parse-declarations .ensures .0) ∙ at-parsed .parsed .given .1) in
     omega (arith, k)
 
 add-if-accepted : tie.Need-add-if-accepted
@@ -129,7 +129,7 @@ add-if-accepted c =
     let at-slice-known = at-map-text .before .before .before .before .before .before in
     let at-start = at-slice-known .before .before in
     let s = at-start .args in
-    let k = count-small (s .text .now) (s .work .now) _ (at-map-text .map-text .ensures) (at-body-start .body-start .result) _ _ (at-body-start .body-start .ensures .0) (sym (at-parse-declarations .parse-declarations .ensures .0) ∙ at-parsed .parsed .given .1) in
+    let k = count-small (s .text .now) (s .work .now) _ (at-map-text .map-text .ensures) (s .actions) (at-body-start .body-start .result) _ _ (at-body-start .body-start .ensures .0) (sym (at-parse-declarations .parse-declarations .ensures .0) ∙ at-parsed .parsed .given .1) in
     omega (arith, k)
 
 if-accepted-requires-2 : tie.Need-if-accepted-requires-2
@@ -156,7 +156,7 @@ same-length-7 c =
     let at-parse-declarations = at-parsed .before .before .before .before .before .before in
     let at-body-start = at-parse-declarations .before .before .before .before in
     let at-map-text = at-body-start .before .before .before .before in
-    at-run-body .run-body .kept .1 .1 .0 ∙ at-map-text .map-text .kept .1 .0
+    at-run-body .run-body .kept .1 .1 .1 .0 ∙ at-map-text .map-text .kept .1 .0
 
 same-length-8 : tie.Need-same-length-8
 same-length-8 c = search needs
@@ -192,22 +192,22 @@ returns-2 c =
     let f = at-run-body .run-body .ensures in
     let w : drop (s .size) (at-map-text .map-text .last .1 .0) ≡ drop (s .size) (s .work .now) = ap (drop (s .size)) m ∙ kept-drop (mapOf xs) (s .work .now) (s .size) (omega (arith, map-length xs, p .0, p .1 .1 .0)) in
     let v : take (length xs - at) (drop at xs) ≡ drop at xs = take-all (length xs - at) (drop at xs) (omega (arith, length-drop at xs)) in
-    let f₀ = f .0 ∙ ap (λ (ys : List ℕ). bodyResult ys .answer) v in
+    let f₀ = f .0 ∙ ap (λ (ys : List ℕ). bodyResult ys (s .actions) .answer) v in
     let r = at-run-body .run-body .result in
     let d′ = at-parse-declarations .parse-declarations .last .1 .1 .0 in
     let rs′ = at-parse-declarations .parse-declarations .last .1 .1 .1 .0 in
     let n = at-if-accepted .if-accepted .ensures in
     let k = at-if-accepted2 .if-accepted2 .ensures in
-    let small = texts-small xs (s .work .now) _ m at _ _ b q (p .1 .1 .0) in
-    let count = numbers-small xs (s .work .now) _ m at _ _ b q in
-    let texts = texts-are xs (s .work .now) _ m at _ _ b q r f₀ (s .declared .now) d′ (s .records .now) rs′ (e .1) in
-    let numbers = numbers-are xs (s .work .now) _ m at _ _ b q r f₀ (s .declared .now) d′ (s .records .now) rs′ (e .1) in
-    let d = subst (λ (i : ℕ). drop i d′ ≡ drop i (s .declared .now)) (sym (p .0)) (texts-kept xs (s .work .now) _ m at _ _ b q r f₀ (s .declared .now) d′ (s .records .now) rs′ (e .1) (p .1 .1 .0)) in
+    let small = texts-small xs (s .work .now) _ m (s .actions) at _ _ b q (p .1 .1 .0) in
+    let count = numbers-small xs (s .work .now) _ m (s .actions) at _ _ b q in
+    let texts = texts-are xs (s .work .now) _ m (s .actions) at _ _ b q r f₀ (s .declared .now) d′ (s .records .now) rs′ (e .1) in
+    let numbers = numbers-are xs (s .work .now) _ m (s .actions) at _ _ b q r f₀ (s .declared .now) d′ (s .records .now) rs′ (e .1) in
+    let d = subst (λ (i : ℕ). drop i d′ ≡ drop i (s .declared .now)) (sym (p .0)) (texts-kept xs (s .work .now) _ m (s .actions) at _ _ b q r f₀ (s .declared .now) d′ (s .records .now) rs′ (e .1) (p .1 .1 .0)) in
     let h = subst (λ (i : ℕ). drop i rs′ ≡ drop i (s .records .now)) (sym (p .1 .0)) (e .1 .behind) in
     let l = at-parse-declarations .parse-declarations .kept in (
-      c .with-records .ensures ∙ answer-is xs (s .work .now) _ m at _ _ b q r f₀,
+      c .with-records .ensures ∙ answer-is xs (s .work .now) _ m (s .actions) at _ _ b q r f₀,
       (
-        f .1 .0 ∙ ap (λ (ys : List ℕ). zeroedTo (s .size) ys (s .output .now)) (ap (λ (ys : List ℕ). bodyResult ys .output) v ∙ output-is xs (s .work .now) _ m at _ _ b q),
+        f .1 .0 ∙ ap (λ (ys : List ℕ). zeroedTo (s .size) ys (s .output .now)) (ap (λ (ys : List ℕ). bodyResult ys (s .actions) .output) v ∙ output-is xs (s .work .now) _ m (s .actions) at _ _ b q),
         (
           f .1 .1 .0 ∙ zeroed-same (s .size) [] _ (s .work .now) w,
           (
@@ -238,7 +238,7 @@ run-function-spec =
     parse-declarations-requires
     enum-known-parsed
     enum-told
-    refuse-names-requires
+    refuse-function-requires
     same-length
     same-length-2
     same-length-3

@@ -6,36 +6,36 @@ use Prim.Native.Nat.{ℕ, _+_, _-_}
 use lib.ListN.{length, take, drop, length-take}
 use lib.Seq.{length-take-le}
 use Rattle.messages.specs.Readings.{FateWithin}
-use Rattle.messages.specs.declared.RaiseFate.the-variants.{Aborts}
-use Rattle.raise.proofs.WrittenLaws.{twice-most}
+use Rattle.messages.specs.declared.RaiseFate.the-variants.{Raises}
+use Rattle.raise.proofs.WrittenLaws.{five-times-most}
 use borrow.Author.Needs.{needs}
 use Rattle.raise.proofs.put_raise.Statement.{statement}
 use Rattle.raise.proofs.put_raise.Tie as tie
 
--- where the content of a RAISE EXCEPTION stands
-within : (c : tie.After-known-told) → FateWithin (Aborts (c .before .fate .given .0 .0) (c .before .fate .given .0 .1 .0)) 15 (c .before .before .before .before .before .args .read .end)
+-- where the content of a RAISE that is not dropped stands
+within : (c : tie.After-known-told) → FateWithin (Raises (c .before .fate .given .0 .0) (c .before .fate .given .0 .1 .0) (c .before .fate .given .0 .1 .1 .0)) 6 (c .before .before .before .before .before .args .read .end)
 within c =
     let start = c .before .before .before .before .before in
-    let h : FateWithin (start .args .read .fate) 15 (start .args .read .end) = start .pre .1 .1 .1 in
+    let h : FateWithin (start .args .read .fate) 6 (start .args .read .end) = start .pre .1 .1 .1 in
     rw (c .before .fate .given .1) at h
 
 enum-known-fate : tie.Need-enum-known-fate
 enum-known-fate c = search needs
 
-sub-put-exception : tie.Need-sub-put-exception
-sub-put-exception c = omega (arith, within (c .before))
+sub-put-statement : tie.Need-sub-put-statement
+sub-put-statement c = omega (arith, within (c .before))
 
-part-put-exception-start : tie.Need-part-put-exception-start
-part-put-exception-start c = omega (arith, within (c .before))
+part-put-statement-start : tie.Need-part-put-statement-start
+part-put-statement-start c = omega (arith, within (c .before))
 
-part-put-exception-end : tie.Need-part-put-exception-end
-part-put-exception-end c = omega (arith, within (c .before))
+part-put-statement-end : tie.Need-part-put-statement-end
+part-put-statement-end c = omega (arith, within (c .before))
 
-put-exception-requires : tie.Need-put-exception-requires
-put-exception-requires c κs =
+put-statement-requires : tie.Need-put-statement-requires
+put-statement-requires c κs =
     let told = c .before .before .before in
-    let s = told .before .fate .given .0 .0 in
-    let e = told .before .fate .given .0 .1 .0 in
+    let s = told .before .fate .given .0 .1 .0 in
+    let e = told .before .fate .given .0 .1 .1 .0 in
     let short = length-take (e - s) (drop s (told .before .before .before .before .before .args .rest .now)) in
     (omega (arith, short, within told), omega (arith, short, within told))
 
@@ -62,13 +62,13 @@ returns : tie.Need-returns
 returns c =
     let put = c .before .before in
     let told = put .before .before .before .before in
-    let s = told .before .fate .given .0 .0 in
-    let e = told .before .fate .given .0 .1 .0 in
+    let s = told .before .fate .given .0 .1 .0 in
+    let e = told .before .fate .given .0 .1 .1 .0 in
     let start = told .before .before .before .before .before in
     let content = take (e - s) (drop s (start .args .rest .now)) in
     let short = length-take (e - s) (drop s (start .args .rest .now)) in (
-      rw (told .before .fate .given .1) (put .put-exception .ensures .0),
-      twice-most (put .put-exception .last .1 .1 .1 .0) (put .put-exception .result) (start .args .n) (length content) (start .args .read .end) (omega (arith, short, within told)) (put .put-exception .ensures .1),
+      rw (told .before .fate .given .1) (put .put-statement .ensures .0),
+      five-times-most (put .put-statement .last .1 .1 .1 .1 .0) (put .put-statement .result) (start .args .n) (length content) (start .args .read .end) (omega (arith, short, within told)) (put .put-statement .ensures .1),
     )
 
 returns-2 : tie.Need-returns-2
@@ -95,10 +95,10 @@ put-raise-spec =
     tie.close
     (tie.spec
     enum-known-fate
-    sub-put-exception
-    part-put-exception-start
-    part-put-exception-end
-    put-exception-requires
+    sub-put-statement
+    part-put-statement-start
+    part-put-statement-end
+    put-statement-requires
     enum-told
     enum-told-2
     slice-aggregate-put-all

@@ -12,6 +12,8 @@ use Rattle.spec.specs.Bytes.{ascii}
 use Rattle.spec.specs.Map.{Marked, marked, bytes}
 use Rattle.spec.specs.Search.{first}
 use Rattle.spec.specs.Raise.{actionOf, levelWords, levelIn, raise}
+use Rattle.spec.specs.declared.Level.{Level}
+use Rattle.spec.specs.declared.Action.{Action}
 use Rattle.spec.specs.declared.Found.the-variants.{At}
 use Rattle.spec.proofs.AheadLaws.{rest-of}
 use Rattle.spec.proofs.FirstLaws.{nonempty-word}
@@ -25,14 +27,14 @@ use Rattle.raise.proofs.transform_raise_statements.Statement.{statement
 use Rattle.raise.proofs.transform_raise_statements.Tie as tie
 
 abbrev Inv-loop : tie.InvT-loop
-Inv-loop text map out₀ n₀ from₀ t13 out n from =
+Inv-loop text map actions out₀ n₀ from₀ t13 out n from =
     (from ≤ length text)
-    × (n ≤ 2 * from)
+    × (n ≤ 5 * from)
     × (length out ≡ length out₀)
-    × Turn out₀ 0 (raise actionOf (marked text map)) out n (leftAt (marked text map) from)
+    × Turn out₀ 0 (raise (actionOf actions) (marked text map)) out n (leftAt (actionOf actions) (marked text map) from)
 
 abbrev μ-loop : tie.MeasureT-loop
-μ-loop text map out₀ n₀ from₀ t13 out n from = length text - from
+μ-loop text map actions out₀ n₀ from₀ t13 out n from = length text - from
 
 -- what the search for the keyword gives
 sought : (c : tie.After-find-keyword-in Inv-loop μ-loop) → c .find-keyword-in .result ≡ first raiseHere (c .before .before .loop .from) (marked (c .before .before .before .before .before .before .args .text .now) (c .before .before .before .before .before .before .args .map .now))
@@ -62,12 +64,17 @@ read-of c = c .before .before .before
 abbrev told-of : tie.After-read-raise Inv-loop μ-loop → tie.After-known-told Inv-loop μ-loop
 told-of c = c .before .before
 
+abbrev told-act : tie.After-known-told Inv-loop μ-loop → Level → Action
+told-act c =
+    let at-loop = c .before .before .before .before .before in
+    actionOf (at-loop .before .before .before .before .args .actions)
+
 -- a RAISE stands at the place found
 found-at : (c : tie.After-known-told Inv-loop μ-loop) → first raiseHere (told-from c) (marked (told-text c) (told-map c)) ≡ At (told-at c)
 found-at c = sym (sought (c .before .before .before)) ∙ c .before .found .given .1
 
 found-within : (c : tie.After-known-told Inv-loop μ-loop) → (told-from c ≤ told-at c) × (told-at c < length (told-text c))
-found-within c = raise-within (told-text c) (told-map c) (told-from c) _ (found-at c)
+found-within c = raise-within (told-act c) (told-text c) (told-map c) (told-from c) _ (found-at c)
 
 -- the output that was lent, and what was asked of the two lengths
 abbrev told-out : tie.After-known-told Inv-loop μ-loop → List ℕ
@@ -87,22 +94,22 @@ rest-at c = drop (told-at c) (told-text c)
 
 -- how it is read
 reads-at : (c : tie.After-read-raise Inv-loop μ-loop) (u : List Marked) → bytes u ≡ rest-at (told-of c)
-    → Reads u (levelIn levelWords (drop 6 u)) (rest-at (told-of c)) (c .read-raise .result)
+    → Reads (told-act (told-of c)) u (levelIn levelWords (drop 6 u)) (rest-at (told-of c)) (c .read-raise .result)
 reads-at c u e =
     let xs = told-text (told-of c) in
     let at = told-at (told-of c) in
-    let h : Reads u (levelIn levelWords (drop 6 u)) (take (length xs - at) (drop at xs)) (c .read-raise .result) = c .read-raise .ensures .0 u (e ∙ sym (rest-of xs at)) in
+    let h : Reads (told-act (told-of c)) u (levelIn levelWords (drop 6 u)) (take (length xs - at) (drop at xs)) (c .read-raise .result) = c .read-raise .ensures .0 u (e ∙ sym (rest-of xs at)) in
     rw rest-of at h
 
 end-in : (c : tie.After-read-raise Inv-loop μ-loop) → c .read-raise .result .end ≤ length (told-text (told-of c)) - told-at (told-of c)
 end-in c =
     let found = told-of c in
-    end-within (told-text found) (told-map found) (told-from found) _ (found-at found) (c .read-raise .result) (reads-at c)
+    end-within (told-act found) (told-text found) (told-map found) (told-from found) _ (found-at found) (c .read-raise .result) (reads-at c)
 
 end-more : (c : tie.After-read-raise Inv-loop μ-loop) → 0 < c .read-raise .result .end
 end-more c =
     let found = told-of c in
-    end-pos (told-text found) (told-map found) (told-from found) _ (found-at found) (c .read-raise .result) (reads-at c)
+    end-pos (told-act found) (told-text found) (told-map found) (told-from found) _ (found-at found) (c .read-raise .result) (reads-at c)
 
 -- the text left from an offset on
 rest-long : (xs : List ℕ) (i : ℕ) → length (take (length xs - i) (drop i xs)) ≡ length xs - i
@@ -145,8 +152,9 @@ goes-on c =
 
 loop-holds : tie.Need-loop-holds Inv-loop μ-loop
 loop-holds c =
+    let act = actionOf (c .before .before .before .args .actions) in
     let t = marked (c .before .before .before .args .text .now) (c .before .before .before .args .map .now) in
-    (omega arith, omega arith, refl, rw (raise-start t) (turn-none _ 0 (leftAt t 0)))
+    (omega arith, omega arith, refl, rw (raise-start act t) (turn-none _ 0 (leftAt act t 0)))
 
 slice-aggregate-find-keyword-in : tie.Need-slice-aggregate-find-keyword-in Inv-loop μ-loop
 slice-aggregate-find-keyword-in c = search needs
@@ -191,7 +199,7 @@ returns c =
     let g : c .before .before .put-all .last .0 ≡ sets (l .out) (l .n) (take (length xs - l .from) (drop (l .from) xs)) = c .before .before .put-all .ensures .1 in
     turn-done _ _ _ _
     (turn-both (l .inv .3)
-    (last-turn xs (start .args .map .now) (l .from) _ _ _ _ (sym (sought (told-none .before .before)) ∙ told-none .enum-told .given .1) (rw rest-of at g) (rw rest-of at h)))
+    (last-turn (actionOf (start .args .actions)) xs (start .args .map .now) (l .from) _ _ _ _ (sym (sought (told-none .before .before)) ∙ told-none .enum-told .given .1) (rw rest-of at g) (rw rest-of at h)))
 
 sub-rest : tie.Need-sub-rest Inv-loop μ-loop
 sub-rest c = omega (arith, found-within c)
@@ -238,7 +246,7 @@ put-raise-requires c κs =
     let rest = take (length xs - at) (drop at xs) in
     let n : stored .put-all2 .result ≡ l .n + length (take (at - l .from) (drop (l .from) xs)) = stored .put-all2 .ensures .0 in
     let short : length rest ≤ 65536 = omega (arith, rest-long xs at, asked found .0) in
-    let count : stored .put-all2 .result + length rest + 22 < 9223372036854775808 =
+    let count : stored .put-all2 .result + length rest + 25 < 9223372036854775808 =
     omega (arith, n, length-take (at - l .from) (drop (l .from) xs), rest-long xs at, found-within found, asked found .0, l .inv .1) in
     let end : read .read-raise .result .end ≤ length rest = omega (arith, rest-long xs at, end-in read) in
     (short, (count, (end, read .read-raise .ensures .1)))
@@ -254,8 +262,8 @@ returns-2 c =
     let found = told-of read in
     let l = found .before .before .before .before .before .loop in
     let r = read .read-raise .result in
-    let most : put .put-raise .result ≤ cond (put .put-raise .last .1 .1 .1 .1 .0) 0 (stored .put-all2 .result + r .end) + r .end = put .put-raise .ensures .1 in
-    raise-clause (told-text found) (told-map found) (l .from) (told-at found) (found-at found) r (reads-at read) _ _ _ _ _ _ _ _ (l .inv .3) (rw (c .if1 .taken) at (put-at put))
+    let most : put .put-raise .result ≤ cond (put .put-raise .last .1 .1 .1 .1 .0) 0 (stored .put-all2 .result + 4 * r .end) + r .end = put .put-raise .ensures .1 in
+    raise-clause (told-act found) (told-text found) (told-map found) (l .from) (told-at found) (found-at found) r (reads-at read) _ _ _ _ _ _ _ _ (l .inv .3) (rw (c .if1 .taken) at (put-at put))
     (omega (arith, rw (c .if1 .taken) at most, end-in read, stored .put-all2 .kept .0, l .inv .2, asked found .1))
 
 add-from : tie.Need-add-from Inv-loop μ-loop
@@ -276,11 +284,11 @@ loop-again c =
     let r = read .read-raise .result in
     let n₁ : stored .put-all2 .result ≡ l .n + length (take (at - l .from) (drop (l .from) xs)) = stored .put-all2 .ensures .0 in
     let d₁ : stored .put-all2 .last .0 ≡ sets (l .out) (l .n) (take (at - l .from) (drop (l .from) xs)) = stored .put-all2 .ensures .1 in
-    let most : put .put-raise .result ≤ cond (put .put-raise .last .1 .1 .1 .1 .0) 0 (stored .put-all2 .result + r .end) + r .end = put .put-raise .ensures .1 in (
+    let most : put .put-raise .result ≤ cond (put .put-raise .last .1 .1 .1 .1 .0) 0 (stored .put-all2 .result + 4 * r .end) + r .end = put .put-raise .ensures .1 in (
       omega (arith, goes-on c),
       omega (arith, n₁, rw (c .if1 .left) at most, length-take (at - l .from) (drop (l .from) xs), goes-on c),
       as-long put,
-      turn-both (l .inv .3) (raise-turn xs (told-map found) (l .from) at (found-at found) r (reads-at read) _ _ _ _ _ _ d₁ n₁ (rw (c .if1 .left) at (put-at put))),
+      turn-both (l .inv .3) (raise-turn (told-act found) xs (told-map found) (l .from) at (found-at found) r (reads-at read) _ _ _ _ _ _ d₁ n₁ (rw (c .if1 .left) at (put-at put))),
     )
 
 pub transform-raise-statements-spec : {M : Type 1} → statement M

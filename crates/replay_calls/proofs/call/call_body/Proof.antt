@@ -24,38 +24,35 @@ four-requires-3 c κs = search needs
 returns-3 : tie.Need-returns-3
 returns-3 c = search needs
 
-slice-relend-prefix-transform-body : tie.Need-slice-relend-prefix-transform-body
-slice-relend-prefix-transform-body c = search needs
+slice-relend-prefix-body-numbers : tie.Need-slice-relend-prefix-body-numbers
+slice-relend-prefix-body-numbers c = search needs
 
-slice-aggregate-transform-body : tie.Need-slice-aggregate-transform-body
-slice-aggregate-transform-body c =
+slice-aggregate-body-numbers : tie.Need-slice-aggregate-body-numbers
+slice-aggregate-body-numbers c =
     let back = c .before .before .before .before .before .before in
-    sym (length-take-le (back .before .before .args .m) (back .before .before .args .output .now)
+    sym (length-take-le (back .before .before .before .args .m) (back .before .before .before .args .output .now)
     (omega (arith, c .before .before .before .if1 .left)))
 
-slice-relend-prefix-transform-body-2 : tie.Need-slice-relend-prefix-transform-body-2
-slice-relend-prefix-transform-body-2 c = search needs
+slice-relend-prefix-body-numbers-2 : tie.Need-slice-relend-prefix-body-numbers-2
+slice-relend-prefix-body-numbers-2 c = search needs
 
-slice-aggregate-transform-body-2 : tie.Need-slice-aggregate-transform-body-2
-slice-aggregate-transform-body-2 c =
+slice-aggregate-body-numbers-2 : tie.Need-slice-aggregate-body-numbers-2
+slice-aggregate-body-numbers-2 c =
     let back = c .before .before .before .before .before .before in
-    sym (length-take-le (back .before .before .before .args .k) (back .before .before .before .args .work .now)
+    sym (length-take-le (back .before .before .before .before .args .k) (back .before .before .before .before .args .work .now)
     (omega (arith, c .before .before .before .if2 .left)))
 
-slice-relend-prefix-transform-body-3 : tie.Need-slice-relend-prefix-transform-body-3
-slice-relend-prefix-transform-body-3 c = search needs
+slice-relend-prefix-body-numbers-3 : tie.Need-slice-relend-prefix-body-numbers-3
+slice-relend-prefix-body-numbers-3 c = search needs
 
-slice-aggregate-transform-body-3 : tie.Need-slice-aggregate-transform-body-3
-slice-aggregate-transform-body-3 c =
+slice-aggregate-body-numbers-3 : tie.Need-slice-aggregate-body-numbers-3
+slice-aggregate-body-numbers-3 c =
     let back = c .before .before .before .before .before .before in
-    sym (length-take-le (back .before .before .before .before .args .j)
-    (back .before .before .before .before .args .spare .now) (omega (arith, c .before .before .before .if3 .left)))
+    sym (length-take-le (back .before .before .before .before .before .args .j)
+    (back .before .before .before .before .before .args .spare .now) (omega (arith, c .before .before .before .if3 .left)))
 
-transform-body-requires : tie.Need-transform-body-requires
-transform-body-requires c κs = search needs
-
-of-rewritten-requires : tie.Need-of-rewritten-requires
-of-rewritten-requires c κs = search needs
+body-numbers-requires : tie.Need-body-numbers-requires
+body-numbers-requires c κs = search needs
 
 same-length : tie.Need-same-length
 same-length c = search needs
@@ -79,14 +76,13 @@ call-body-spec =
     returns-2
     four-requires-3
     returns-3
-    slice-relend-prefix-transform-body
-    slice-aggregate-transform-body
-    slice-relend-prefix-transform-body-2
-    slice-aggregate-transform-body-2
-    slice-relend-prefix-transform-body-3
-    slice-aggregate-transform-body-3
-    transform-body-requires
-    of-rewritten-requires
+    slice-relend-prefix-body-numbers
+    slice-aggregate-body-numbers
+    slice-relend-prefix-body-numbers-2
+    slice-aggregate-body-numbers-2
+    slice-relend-prefix-body-numbers-3
+    slice-aggregate-body-numbers-3
+    body-numbers-requires
     same-length
     same-length-2
     same-length-3

@@ -37,62 +37,59 @@ four-requires-5 c κs = search needs
 returns-5 : tie.Need-returns-5
 returns-5 c = search needs
 
-slice-relend-prefix-preprocess : tie.Need-slice-relend-prefix-preprocess
-slice-relend-prefix-preprocess c = search needs
+slice-relend-prefix-function-numbers : tie.Need-slice-relend-prefix-function-numbers
+slice-relend-prefix-function-numbers c = search needs
 
-slice-aggregate-preprocess : tie.Need-slice-aggregate-preprocess
-slice-aggregate-preprocess c =
+slice-aggregate-function-numbers : tie.Need-slice-aggregate-function-numbers
+slice-aggregate-function-numbers c =
     let back = c .before .before .before .before .before .before in
-    sym (length-take-le (back .before .before .before .before .before .before .args .m)
-    (back .before .before .before .before .before .before .args .output .now)
+    sym (length-take-le (back .before .before .before .before .before .before .before .args .m)
+    (back .before .before .before .before .before .before .before .args .output .now)
     (omega (arith, c .before .before .before .before .before .if1 .left)))
 
-slice-relend-prefix-preprocess-2 : tie.Need-slice-relend-prefix-preprocess-2
-slice-relend-prefix-preprocess-2 c = search needs
+slice-relend-prefix-function-numbers-2 : tie.Need-slice-relend-prefix-function-numbers-2
+slice-relend-prefix-function-numbers-2 c = search needs
 
-slice-aggregate-preprocess-2 : tie.Need-slice-aggregate-preprocess-2
-slice-aggregate-preprocess-2 c =
+slice-aggregate-function-numbers-2 : tie.Need-slice-aggregate-function-numbers-2
+slice-aggregate-function-numbers-2 c =
     let back = c .before .before .before .before .before .before in
     let back₂ = back .before .before .before .before .before .before in
-    sym (length-take-le (back₂ .before .args .k) (back₂ .before .args .work .now)
+    sym (length-take-le (back₂ .before .before .args .k) (back₂ .before .before .args .work .now)
     (omega (arith, c .before .before .before .before .before .if2 .left)))
 
-slice-relend-prefix-preprocess-3 : tie.Need-slice-relend-prefix-preprocess-3
-slice-relend-prefix-preprocess-3 c = search needs
+slice-relend-prefix-function-numbers-3 : tie.Need-slice-relend-prefix-function-numbers-3
+slice-relend-prefix-function-numbers-3 c = search needs
 
-slice-aggregate-preprocess-3 : tie.Need-slice-aggregate-preprocess-3
-slice-aggregate-preprocess-3 c =
+slice-aggregate-function-numbers-3 : tie.Need-slice-aggregate-function-numbers-3
+slice-aggregate-function-numbers-3 c =
     let back = c .before .before .before .before .before .before in
     let back₂ = back .before .before .before .before .before .before in
-    sym (length-take-le (back₂ .before .before .args .j) (back₂ .before .before .args .spare .now)
+    sym (length-take-le (back₂ .before .before .before .args .j) (back₂ .before .before .before .args .spare .now)
     (omega (arith, c .before .before .before .before .before .if3 .left)))
 
-slice-relend-prefix-preprocess-4 : tie.Need-slice-relend-prefix-preprocess-4
-slice-relend-prefix-preprocess-4 c = search needs
+slice-relend-prefix-function-numbers-4 : tie.Need-slice-relend-prefix-function-numbers-4
+slice-relend-prefix-function-numbers-4 c = search needs
 
-slice-aggregate-preprocess-4 : tie.Need-slice-aggregate-preprocess-4
-slice-aggregate-preprocess-4 c =
+slice-aggregate-function-numbers-4 : tie.Need-slice-aggregate-function-numbers-4
+slice-aggregate-function-numbers-4 c =
     let back = c .before .before .before .before .before .before in
     let back₂ = back .before .before .before .before .before .before in
-    sym (length-take-le (back₂ .before .before .before .args .d) (back₂ .before .before .before .args .declared .now)
+    sym (length-take-le (back₂ .before .before .before .before .args .d) (back₂ .before .before .before .before .args .declared .now)
     (omega (arith, c .before .before .before .before .before .if4 .left)))
 
-slice-relend-prefix-preprocess-5 : tie.Need-slice-relend-prefix-preprocess-5
-slice-relend-prefix-preprocess-5 c = search needs
+slice-relend-prefix-function-numbers-5 : tie.Need-slice-relend-prefix-function-numbers-5
+slice-relend-prefix-function-numbers-5 c = search needs
 
-slice-aggregate-preprocess-5 : tie.Need-slice-aggregate-preprocess-5
-slice-aggregate-preprocess-5 c =
+slice-aggregate-function-numbers-5 : tie.Need-slice-aggregate-function-numbers-5
+slice-aggregate-function-numbers-5 c =
     let back = c .before .before .before .before .before .before in
     let back₂ = back .before .before .before .before .before .before in
-    sym (length-take-le (back₂ .before .before .before .before .args .r)
-    (back₂ .before .before .before .before .args .records .now)
+    sym (length-take-le (back₂ .before .before .before .before .before .args .r)
+    (back₂ .before .before .before .before .before .args .records .now)
     (omega (arith, c .before .before .before .before .before .if5 .left)))
 
-preprocess-requires : tie.Need-preprocess-requires
-preprocess-requires c κs = search needs
-
-of-rewritten-requires : tie.Need-of-rewritten-requires
-of-rewritten-requires c κs = search needs
+function-numbers-requires : tie.Need-function-numbers-requires
+function-numbers-requires c κs = search needs
 
 same-length : tie.Need-same-length
 same-length c = search needs
@@ -126,18 +123,17 @@ call-function-spec =
     returns-4
     four-requires-5
     returns-5
-    slice-relend-prefix-preprocess
-    slice-aggregate-preprocess
-    slice-relend-prefix-preprocess-2
-    slice-aggregate-preprocess-2
-    slice-relend-prefix-preprocess-3
-    slice-aggregate-preprocess-3
-    slice-relend-prefix-preprocess-4
-    slice-aggregate-preprocess-4
-    slice-relend-prefix-preprocess-5
-    slice-aggregate-preprocess-5
-    preprocess-requires
-    of-rewritten-requires
+    slice-relend-prefix-function-numbers
+    slice-aggregate-function-numbers
+    slice-relend-prefix-function-numbers-2
+    slice-aggregate-function-numbers-2
+    slice-relend-prefix-function-numbers-3
+    slice-aggregate-function-numbers-3
+    slice-relend-prefix-function-numbers-4
+    slice-aggregate-function-numbers-4
+    slice-relend-prefix-function-numbers-5
+    slice-aggregate-function-numbers-5
+    function-numbers-requires
     same-length
     same-length-2
     same-length-3

@@ -8,10 +8,10 @@ use Rattle.rewrite.proofs.input.read_text.Statement.{statement}
 use Rattle.rewrite.proofs.input.read_text.Tie as tie
 
 abbrev Inv-loop : tie.InvT-loop
-Inv-loop text₀ chunk₀ n₀ turns₀ text chunk n turns = (length text ≡ length text₀) × (length chunk ≡ 4096) × (n ≤ length text₀)
+Inv-loop file text₀ chunk₀ n₀ turns₀ text chunk n turns = (length text ≡ length text₀) × (length chunk ≡ 4096) × (n ≤ length text₀)
 
 abbrev μ-loop : tie.MeasureT-loop
-μ-loop text₀ chunk₀ n₀ turns₀ text chunk n turns = turns
+μ-loop file text₀ chunk₀ n₀ turns₀ text chunk n turns = turns
 
 buffer-requires : tie.Need-buffer-requires Inv-loop μ-loop
 buffer-requires c κs = search needs
