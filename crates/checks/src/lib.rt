@@ -51,60 +51,31 @@ fn check_needle(needle: &[u8]) -> Check
     }
 }
 
+// A refusal's number, place and length of what the output holds.
+fn told(number: u32, place: usize, length: usize) -> RefusalNumbers
+    ensures { λ r. ⌜ r ≡ record { number = number; place = place; length = length } ⌝ }
+{
+    RefusalNumbers {
+        number,
+        place,
+        length,
+    }
+}
+
 // What is handed back of a refusal.
 pub fn refusal_numbers(r: Refusal) -> RefusalNumbers
     ensures { λ n. ⌜ n ≡ refusalNumbers r ⌝ }
 {
     match r {
-        Refusal::TextTooLong => RefusalNumbers {
-            number: 1,
-            place: 0,
-            length: 0,
-        },
-        Refusal::NotAscii(i) => RefusalNumbers {
-            number: 2,
-            place: i,
-            length: 0,
-        },
-        Refusal::BufferTooShort => RefusalNumbers {
-            number: 3,
-            place: 0,
-            length: 0,
-        },
-        Refusal::QualifiedTarget { qualifier, length } => RefusalNumbers {
-            number: 4,
-            place: qualifier,
-            length: length,
-        },
-        Refusal::UsingClause { length } => RefusalNumbers {
-            number: 5,
-            place: 0,
-            length: length,
-        },
-        Refusal::ResultTooLong => RefusalNumbers {
-            number: 6,
-            place: 0,
-            length: 0,
-        },
-        Refusal::TooManyNames => RefusalNumbers {
-            number: 7,
-            place: 0,
-            length: 0,
-        },
-        Refusal::MalformedLine(i) => RefusalNumbers {
-            number: 11,
-            place: i,
-            length: 0,
-        },
-        Refusal::RepeatedLevel(i) => RefusalNumbers {
-            number: 12,
-            place: i,
-            length: 0,
-        },
-        Refusal::MissingLevel(i) => RefusalNumbers {
-            number: 13,
-            place: i,
-            length: 0,
-        },
+        Refusal::TextTooLong => told(1, 0, 0),
+        Refusal::NotAscii(i) => told(2, i, 0),
+        Refusal::BufferTooShort => told(3, 0, 0),
+        Refusal::QualifiedTarget { qualifier, length } => told(4, qualifier, length),
+        Refusal::UsingClause { length } => told(5, 0, length),
+        Refusal::ResultTooLong => told(6, 0, 0),
+        Refusal::TooManyNames => told(7, 0, 0),
+        Refusal::MalformedLine(i) => told(11, i, 0),
+        Refusal::RepeatedLevel(i) => told(12, i, 0),
+        Refusal::MissingLevel(i) => told(13, i, 0),
     }
 }

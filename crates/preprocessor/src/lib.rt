@@ -1,4 +1,4 @@
-// The two rewriting calls.
+// The two rewriting calls, with a table of levels and without one.
 use checks::check_texts;
 use declarations::Parsed;
 use declarations::body_start;

@@ -62,17 +62,18 @@ fn rewrite(text: &[u8], has_table: bool, table: &[u8]) -> bool {
     print_answer(&answer, &output)
 }
 
+// Standard input is read first: were it closed, the table's file would be opened in its place and read as the function.
 fn main() {
-    let has_table = os::arg_count() > 1;
-    let mut table = io::buffer();
-    let told = read_table(has_table, &mut table);
-    if told < 0 {
-        return;
-    }
     let mut text = text_buffer();
     let got = read_text(STDIN_FILENO, &mut text);
     if got < 0 {
         os::fail(b"standard input");
+        return;
+    }
+    let has_table = os::arg_count() > 1;
+    let mut table = io::buffer();
+    let told = read_table(has_table, &mut table);
+    if told < 0 {
         return;
     }
     let m = io::count(told, &table);

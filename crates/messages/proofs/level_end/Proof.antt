@@ -1,12 +1,9 @@
 -- `messages::level_end` meets its contract: EXCEPTION has its nine letters, and the run of another level is the definition's.
 -- Assumes nothing.
 use native.Mathlib.Omega.{arith}
-use mathlib.Core.Path.{_≡_, sym, ap, _∙_}
-use mathlib.Core.Bool.{Bool, not, cond, true, false}
-use mathlib.Core.List.{List}
-use Prim.Native.Nat.{ℕ, _+_, _≤_}
-use lib.ListN.{length, drop}
-use Rattle.spec.specs.Raise.{endsLevel, levelLen, isException}
+use mathlib.Core.Path.{_≡_, sym, _∙_}
+use mathlib.Core.Bool.{true, false}
+use Rattle.spec.specs.Raise.{endsLevel, isException}
 use Rattle.messages.proofs.ReadingLaws.{exception-ends, other-ends}
 use borrow.Author.Needs.{needs}
 use Rattle.messages.proofs.level_end.Statement.{statement}

@@ -1,7 +1,7 @@
 -- `messages::read_statement` meets its contract. `content` says where the content ends; `reads-level` proves the reading from
 -- that, whatever the action. Assumes nothing.
 use native.Mathlib.Omega.{arith}
-use mathlib.Core.Path.{_≡_, sym, ap, _∙_}
+use mathlib.Core.Path.{_≡_}
 use Prim.Native.Nat.{ℕ, _≤_, _+_, _-_}
 use lib.ListN.{length, take, drop, length-drop}
 use Rattle.spec.proofs.AheadLaws.{rest-of}

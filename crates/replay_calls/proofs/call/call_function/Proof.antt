@@ -43,8 +43,8 @@ slice-relend-prefix-function-numbers c = search needs
 slice-aggregate-function-numbers : tie.Need-slice-aggregate-function-numbers
 slice-aggregate-function-numbers c =
     let back = c .before .before .before .before .before .before in
-    sym (length-take-le (back .before .before .before .before .before .before .before .args .m)
-    (back .before .before .before .before .before .before .before .args .output .now)
+    let back₂ = back .before .before .before .before .before .before in
+    sym (length-take-le (back₂ .before .args .m) (back₂ .before .args .output .now)
     (omega (arith, c .before .before .before .before .before .if1 .left)))
 
 slice-relend-prefix-function-numbers-2 : tie.Need-slice-relend-prefix-function-numbers-2
