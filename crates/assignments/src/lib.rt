@@ -1,4 +1,6 @@
 // Pass 3: assignments, statement by statement, and refusal 4.
+#![tactic(auto)]
+
 ghost use Rattle.std.specs.Prelude.{◌≡◌, List, ◌∷◌, ◌++◌, ◌+◌, ◌^◌, ◌≤◌, ◌<◌, length, take, drop};
 ghost use Rattle.spec.specs.Map.{Marked, marked, bytes};
 ghost use Rattle.spec.specs.Assignments.{right_side, starts_name, assignment_at, assignment, statement, assignments};

@@ -1,5 +1,7 @@
 // Refusals: the checks that come before anything is written (1 the text's length, 3 the lent buffers, 2 bytes over 127), and
 // the numbers of every refusal.
+#![tactic(auto)]
+
 ghost use Rattle.std.specs.Prelude.{◌≡◌};
 ghost use Rattle.spec.specs.Answers.{first_high, ascii_check, check_of, refusal_numbers};
 ghost use Rattle.spec.specs.declared.Check.TheVariants.{Passed};

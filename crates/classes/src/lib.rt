@@ -1,4 +1,6 @@
 // Bytes: document 01's byte sets, letter case, bytes of a text, and a lone `=`.
+#![tactic(auto)]
+
 ghost use Rattle.std.specs.Prelude.{◌≡◌, List, ◌≤◌, length, get_or, drop};
 ghost use Rattle.spec.specs.Bytes.{within, is_ident, is_word, is_w, is_n, upper, is_pair, is_prefix};
 ghost use Rattle.spec.specs.Map.{Marked, bytes};

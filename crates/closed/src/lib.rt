@@ -1,4 +1,6 @@
 // Whether a body is closed: a body with whatever is joined behind it is then rewritten as the two apart are.
+#![tactic(auto)]
+
 ghost use Rattle.std.specs.Prelude.{◌≡◌, not, ◌&&◌, [], ◌+◌, ◌≤◌, ◌<◌, eqb, length, drop};
 ghost use Rattle.spec.specs.Bytes.{ascii, is_ident};
 ghost use Rattle.spec.specs.Lists.{any, all};

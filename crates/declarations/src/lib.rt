@@ -1,5 +1,7 @@
 // The declaration records of a text. They are read once, each record holding the places of its last declaration in the
 // section's text; then each gets its next, and last the texts are packed and the places replaced.
+#![tactic(auto)]
+
 ghost use Rattle.std.specs.Prelude.{◌≡◌, true, cond, ◌∷◌, ◌+◌, ◌*◌, ◌^◌, ◌≤◌, ◌<◌, eqb, length, get_or, drop};
 ghost use Rattle.std.proofs.lemmas.List.Edits.{sets};
 ghost use Rattle.spec.specs.Bytes.{ascii};
@@ -18,7 +20,7 @@ use scanner::find_keyword_in;
 use spec::Found;
 
 // What reading the declarations answers.
-#[derive(Drop)]
+#[derive(Clone, Copy)]
 pub enum Parsed {
     // How many records there are, and how many bytes their texts have.
     Count(usize, usize),
@@ -27,14 +29,14 @@ pub enum Parsed {
 }
 
 // The text between DECLARE and BEGIN, empty if there is none.
-#[derive(Drop)]
+#[derive(Clone, Copy)]
 pub struct Section {
     pub from: usize,
     pub to: usize,
 }
 
 // Where the texts of a record end.
-#[derive(Drop)]
+#[derive(Clone, Copy)]
 pub struct Ends {
     pub name: usize,
     pub kind: usize,

@@ -1,4 +1,6 @@
 // One part of the declarations: where its name, its type's words and its default stand, and how they are written.
+#![tactic(auto)]
+
 ghost use Rattle.std.specs.Prelude.{◌≡◌, false, List, reverse, ◌+◌, ◌*◌, ◌^◌, ◌≤◌, ◌<◌, length, take, drop};
 ghost use Rattle.std.proofs.lemmas.List.Edits.{sets};
 ghost use Rattle.spec.specs.Bytes.{is_w, is_same, is_before};
@@ -15,7 +17,7 @@ use runs::{Set, run_end, run_start};
 use scanner::{keyword_at, starts_ignoring_case};
 
 // Where a part ends ahead of its default, where the default begins, and 1 if there is one, else 0.
-#[derive(Drop)]
+#[derive(Clone, Copy)]
 pub struct Cut {
     pub head: usize,
     pub rest: usize,
@@ -23,14 +25,14 @@ pub struct Cut {
 }
 
 // Where the last word of a text stands.
-#[derive(Drop)]
+#[derive(Clone, Copy)]
 pub struct LastWord {
     pub from: usize,
     pub to: usize,
 }
 
 // Where the type's words stand, and 1 or 0 for CONSTANT ahead of them and for NOT NULL behind them.
-#[derive(Drop)]
+#[derive(Clone, Copy)]
 pub struct TypePlaces {
     pub from: usize,
     pub to: usize,
@@ -40,7 +42,7 @@ pub struct TypePlaces {
 
 // Places in a text: the name, the type's words, and the default if `present` is 1; then 1 or 0 for CONSTANT ahead of the
 // type and for NOT NULL behind it. A part that has no type declares nothing.
-#[derive(Drop)]
+#[derive(Clone, Copy)]
 pub struct DeclarationPlaces {
     pub name: usize,
     pub name_len: usize,

@@ -1,4 +1,6 @@
 // Pass 2: each live keyword ELSIF becomes ELSEIF.
+#![tactic(auto)]
+
 ghost use Rattle.std.specs.Prelude.{◌≡◌, ◌≤◌, length};
 ghost use Rattle.std.proofs.lemmas.List.Edits.{sets};
 ghost use Rattle.spec.specs.Map.{marked, bytes};

@@ -1,11 +1,13 @@
 // The text as a struct that holds its slice, and the searches as its methods: each takes the struct apart, and calls the
 // search of the same name on the slice. The borrow checker covers no function over such a struct, so each is proved by hand.
+#![tactic(auto)]
+
 ghost use Rattle.std.specs.Prelude.{◌≡◌, []};
 ghost use Rattle.spec.specs.Answers.{map_exit, regions_answer, keyword_answer, word_answer, word_part, search_numbers, search_list, unterminated_answer, byte_answer, needle_answer, handler_answer, split_answer, split_map_exit, split_exit, requoted_length_answer, requote_answer, requote_exit};
 
 use spec::{Filled, Search};
 
-#[derive(Drop)]
+#[derive(Clone, Copy)]
 pub struct Scanner<'a> {
     pub text: &'a [u8],
 }

@@ -1,4 +1,6 @@
 // Demand 3 about the body call itself.
+#![tactic(auto)]
+
 ghost use Rattle.std.specs.Prelude.{◌≡◌, ◌≤◌, length, take, drop};
 ghost use Rattle.spec.specs.Answers.{body_check, body_answer, body_output, work_exit};
 ghost use Rattle.joined_calls.specs.Joins.{Joins};
@@ -7,7 +9,7 @@ use preprocessor::transform_body_by_table;
 use spec::{Rewritten, Table};
 
 // What the body call answers for a text, for its first bytes and for the rest of it.
-#[derive(Drop)]
+#[derive(Clone, Copy)]
 pub struct Joined {
     pub whole: Rewritten,
     pub first: Rewritten,

@@ -1,4 +1,6 @@
 // The table of RAISE levels: a line for each level, with its action.
+#![tactic(auto)]
+
 ghost use Rattle.std.specs.Prelude.{◌≡◌, []};
 ghost use Rattle.spec.specs.Levels.{table_of, no_table};
 ghost use Rattle.levels.specs.Lines.{level_ahead, action_ahead, line_ahead, given, giving, completed, given_by};
@@ -7,21 +9,21 @@ use classes::starts_with;
 use spec::{Action, Actions, Level, RaiseType, Refusal, Table};
 
 // A level's name and the space behind it, in front of a text.
-#[derive(Drop)]
+#[derive(Clone, Copy)]
 enum LevelAhead {
     Level { level: Level, end: usize },
     Nothing,
 }
 
 // An action's name and the newline behind it, in front of a text.
-#[derive(Drop)]
+#[derive(Clone, Copy)]
 enum ActionAhead {
     Action { action: Action, end: usize },
     Nothing,
 }
 
 // A line in front of a text: what it says, and where it ends.
-#[derive(Drop)]
+#[derive(Clone, Copy)]
 enum LineRead {
     Line {
         level: Level,
@@ -32,13 +34,13 @@ enum LineRead {
 }
 
 // The action that the lines read so far give a level.
-#[derive(Drop)]
+#[derive(Clone, Copy)]
 enum GivenAction {
     Is(Action),
     Missing,
 }
 
-#[derive(Drop)]
+#[derive(Clone, Copy)]
 struct GivenActions {
     debug: GivenAction,
     log: GivenAction,

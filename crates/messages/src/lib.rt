@@ -1,4 +1,6 @@
 // Pass 5's reading of a RAISE: its level, its statement's content, and the message in it.
+#![tactic(auto)]
+
 ghost use Rattle.std.specs.Prelude.{◌≡◌, List, ◌+◌, ◌≤◌, ◌<◌, min, length, drop};
 ghost use Rattle.std.proofs.Math.Option.{some};
 ghost use Rattle.spec.specs.Map.{Marked, bytes, lives};
@@ -17,14 +19,14 @@ use spans::{Cursor, Step};
 use spec::{Action, Actions, Level, RaiseType, Span};
 
 // The level behind a RAISE and its separator.
-#[derive(Drop)]
+#[derive(Clone, Copy)]
 enum LevelFound {
     At(Level),
     Nothing,
 }
 
 // What becomes of a RAISE, by offsets in the text from the RAISE on.
-#[derive(Drop)]
+#[derive(Clone, Copy)]
 pub enum RaiseFate {
     // It becomes SQLite's RAISE with this word, and has this content.
     Raises {
@@ -38,7 +40,7 @@ pub enum RaiseFate {
 }
 
 // A RAISE as it is read: where the search for the next one goes on, and its fate.
-#[derive(Drop)]
+#[derive(Clone, Copy)]
 pub struct RaiseRead {
     pub end: usize,
     pub fate: RaiseFate,

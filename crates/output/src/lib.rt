@@ -1,5 +1,7 @@
 // Writing into a lent buffer. A writer stores at n where the buffer reaches and counts on where it does not, so that the
 // count is the length of the whole result and a later check can refuse it.
+#![tactic(auto)]
+
 ghost use Rattle.std.specs.Prelude.{◌≡◌, ◌+◌, ◌-◌, ◌*◌, ◌^◌, ◌<◌, length, set, replicate};
 ghost use Rattle.std.proofs.lemmas.List.Edits.{sets};
 ghost use Rattle.spec.specs.Requote.{doubled, single_quoted};
@@ -13,7 +15,7 @@ pub const BUFFER_SIZE: usize = 65536;
 pub const TOO_LONG: usize = BUFFER_SIZE + 1;
 
 // What a pass that may refuse answers.
-#[derive(Drop)]
+#[derive(Clone, Copy)]
 pub enum Pass {
     // The length of its result.
     Done(usize),

@@ -1,4 +1,6 @@
 // The five passes one after the other, and what the lent buffers hold when they end.
+#![tactic(auto)]
+
 ghost use Rattle.std.specs.Prelude.{◌≡◌, [], ◌-◌, ◌≤◌, ◌<◌, length, take};
 ghost use Rattle.spec.specs.Raise.{action_of};
 ghost use Rattle.spec.specs.Body.{assign_pass, select_pass, raise_pass, limited, rewriting};

@@ -1,6 +1,8 @@
 // The C interface. A slice is a pointer and a length. Each function's last parameter takes four numbers: for a search its
 // number, the found flag, the place, and the length of what was found or written; for a call its number, the place, the
 // output length and the number of records.
+#![tactic(auto)]
+
 ghost use Rattle.std.specs.Prelude.{◌≡◌, [], ◌∷◌, length, get_or};
 ghost use Rattle.spec.specs.Answers.{map_exit, regions_answer, keyword_answer, byte_answer, needle_answer, word_answer, word_part, search_numbers, handler_answer, unterminated_answer, split_answer, split_map_exit, split_exit, requoted_length_answer, requote_answer, requote_exit, refusal_numbers, body_check, body_answer, body_output, work_exit, function_check, function_answer, function_output, function_text, function_records};
 ghost use Rattle.spec.specs.Levels.{table_of, no_table};

@@ -1,4 +1,6 @@
 // The two rewriting calls, with a table of levels and without one.
+#![tactic(auto)]
+
 ghost use Rattle.std.specs.Prelude.{◌≡◌, ◌&&◌, [], ◌≤◌, leb, length};
 ghost use Rattle.spec.specs.Levels.{table_of, no_table};
 ghost use Rattle.spec.specs.Answers.{zeroed_to, body_result, function_result, by_table, body_check, body_answer, body_output, work_exit, function_check, function_answer, function_output, function_text, function_records};

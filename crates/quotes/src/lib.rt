@@ -1,4 +1,6 @@
 // What pass 4 reads: a map that knows `'` and `"` only, and keywords and lists outside parentheses and those quotes.
+#![tactic(auto)]
+
 ghost use Rattle.std.specs.Prelude.{◌≡◌, cond, ◌&&◌, reverse, ◌+◌, ◌-◌, ◌^◌, ◌≤◌, ◌<◌, eqb, length, get_or, take, drop};
 ghost use Rattle.spec.specs.Bytes.{is_ident, is_quote};
 ghost use Rattle.spec.specs.Lists.{is_empty};
@@ -17,7 +19,7 @@ use scanner::starts_ignoring_case;
 use spec::Found;
 
 // The next part of a list.
-#[derive(Drop)]
+#[derive(Clone, Copy)]
 pub enum Item {
     // Where it starts, how long it is, and where the search for the one behind it starts.
     Next(usize, usize, usize),

@@ -10,7 +10,7 @@ use stored_list::{
     put_runs,
 };
 
-#[derive(Drop)]
+#[derive(Clone, Copy)]
 pub struct State {
     // How many bytes the text has.
     pub text: usize,

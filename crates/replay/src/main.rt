@@ -1,5 +1,7 @@
 // Replays a stored list of questions and answers: each search is made again, and its answer and what it wrote are compared
 // with the stored ones. Prints how many answers were compared and how many differ.
+#![tactic(auto)]
+
 mod ask;
 mod list;
 mod numbers;

@@ -2,7 +2,7 @@
 use checks::refusal_numbers;
 use spec::{Filled, Refusal, Search};
 
-#[derive(Drop)]
+#[derive(Clone, Copy)]
 pub struct Numbers {
     pub number: usize,
     pub found: usize,

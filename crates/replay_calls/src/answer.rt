@@ -24,7 +24,7 @@ const DECLARED: usize = 3;
 const RECORDS: usize = 4;
 
 // How many bytes and numbers are lent.
-#[derive(Drop)]
+#[derive(Clone, Copy)]
 pub struct Lent {
     pub output: usize,
     pub work: usize,

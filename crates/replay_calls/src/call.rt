@@ -5,7 +5,7 @@ use preprocessor::{preprocess, preprocess_by_levels, transform_body, transform_b
 use spec::{Refusal, Rewritten};
 
 // Number, place, output length, records.
-#[derive(Drop)]
+#[derive(Clone, Copy)]
 pub struct CallNumbers {
     pub number: usize,
     pub place: usize,

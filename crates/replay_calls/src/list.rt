@@ -12,7 +12,7 @@ use stored_list::{
 // The report's row of the lines that are of no kind.
 const UNKNOWN: usize = 9;
 
-#[derive(Drop)]
+#[derive(Clone, Copy)]
 pub struct State {
     // How many bytes the text, the table, the expected output and the expected declaration text have.
     pub text: usize,

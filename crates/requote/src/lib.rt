@@ -1,4 +1,6 @@
 // Pass 1: each dollar literal in single quotes; and the length of what comes out.
+#![tactic(auto)]
+
 ghost use Rattle.std.specs.Prelude.{◌≡◌, ◌+◌, ◌*◌, ◌^◌, ◌≤◌, ◌<◌, length, take, drop};
 ghost use Rattle.std.proofs.lemmas.List.Edits.{sets};
 ghost use Rattle.spec.specs.Requote.{single_quoted, requote_span, requoted, quotes_in, requoted_span_length, requoted_length};

@@ -1,5 +1,7 @@
 // Rewrites the function on standard input: prints the call's four numbers, a newline and the output. An argument names a
 // file with a table of levels.
+#![tactic(auto)]
+
 mod input;
 mod print;
 mod table;

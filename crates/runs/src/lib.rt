@@ -1,5 +1,7 @@
 // Runs of the bytes of a set in a text: where they end, where they start, whether there is one, and a text
 // without W at both ends.
+#![tactic(auto)]
+
 ghost use Rattle.std.specs.Prelude.{◌≡◌, ◌+◌, ◌≤◌, length, take, drop};
 ghost use Rattle.spec.specs.Lists.{take_while, drop_end, any};
 ghost use Rattle.runs.specs.Sets.{in_set, trimmed};
@@ -7,7 +9,7 @@ ghost use Rattle.runs.specs.Sets.{in_set, trimmed};
 use classes::{is_ident_byte, is_n, is_w};
 
 // A set of bytes.
-#[derive(Drop)]
+#[derive(Clone, Copy)]
 pub enum Set {
     W,
     N,

@@ -1,5 +1,7 @@
 // The public searches. Each checks the text and the lent buffers first, and a refused one writes nothing. An accepted one
 // leaves the text's map at the front of the lent map.
+#![tactic(auto)]
+
 ghost use Rattle.std.specs.Prelude.{◌≡◌, [], ◌∷◌, ◌≤◌};
 ghost use Rattle.spec.specs.Answers.{map_check, map_exit, search_answer, filled_answer, yes_no, regions_answer, keyword_answer, byte_answer, needle_answer, word_answer, word_part, search_numbers, search_list, refusal_numbers, handler_answer, unterminated_answer, split_answer, split_map_exit, split_exit, requoted_length_answer, requote_answer, requote_exit};
 ghost use Rattle.spec.specs.declared.Check.TheVariants.{Passed};

@@ -1,5 +1,7 @@
 // Pass 4: a SELECT INTO becomes a SET line for each of its variables. The result may be far longer than the text, so the pass
 // stops once it is past 65536 bytes.
+#![tactic(auto)]
+
 ghost use Rattle.std.specs.Prelude.{◌≡◌, cond, ◌+◌, ◌-◌, ◌^◌, ◌≤◌, ◌<◌, ltb, length};
 ghost use Rattle.std.proofs.lemmas.List.Edits.{sets};
 ghost use Rattle.spec.specs.Map.{marked, bytes};

@@ -1,5 +1,7 @@
 // The columns and the variables of a SELECT INTO: whether they pair up, and the SET lines of the pairs. There may be many long
 // lines, so the writer stops once it is past 65536 bytes.
+#![tactic(auto)]
+
 ghost use Rattle.std.specs.Prelude.{◌≡◌, not, List, ◌+◌, ◌^◌, ◌≤◌, ◌<◌, length, drop};
 ghost use Rattle.spec.specs.Bytes.{is_w};
 ghost use Rattle.spec.specs.Lists.{is_empty, any};

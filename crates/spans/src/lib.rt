@@ -1,4 +1,6 @@
 // Spans: what the text in front opens, and a cursor that walks from span to span.
+#![tactic(auto)]
+
 ghost use Rattle.std.specs.Prelude.{◌≡◌, cond, ◌+◌, ◌≤◌, ◌<◌, length, drop};
 ghost use Rattle.spec.specs.Spans.{escapes, quoted_len, block_len, line_len, tag_len, seek_len, opens_dollar, dollar_of, span_at, span_len};
 ghost use Rattle.spec.specs.declared.Span.TheVariants.{Dollar, Code};
@@ -214,13 +216,13 @@ pub fn span_len(s: Span) -> usize
 }
 
 // A place in a text, for a walk from span to span.
-#[derive(Drop)]
+#[derive(Clone, Copy)]
 pub struct Cursor {
     pub at: usize,
 }
 
 // What a cursor's step finds: the span and the cursor behind it, or the text's end.
-#[derive(Drop)]
+#[derive(Clone, Copy)]
 pub enum Step {
     Taken(Span, Cursor),
     Done,

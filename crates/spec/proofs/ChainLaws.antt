@@ -248,7 +248,7 @@ walk ds u (suc n) f up b =
 
 walk_length : (ds : List Declared) (f : List ℕ → Bool) (i : ℕ) (ks : List ℕ) → Walk ds f i ks → length ks ≡ how_many f ds
 walk_length ds f i [] w = sym w.empty
-walk_length ds f i (k ∷ ks) w = ap suc (walk_length ds _ _ ks w.1) ∙ sym w.0.fewer
+walk_length ds f i (k ∷ ks) w = ap suc (walk_length ds (is_before (name_of ds k)) _ ks w.1) ∙ sym w.0.fewer
 
 walk_once : (ds : List Declared) (f : List ℕ → Bool) (i : ℕ) (ks : List ℕ) → Walk ds f i ks
     → (m : ℕ) → 1 ≤ m → m ≤ length ds → length (keep (eqb m) ks) ≡ cond (f (name_of ds m)) 1 0
@@ -258,7 +258,7 @@ walk_once ds f i (k ∷ ks) w m a b =
     let more = walk_once ds (is_before (name_of ds k)) _ ks w.1 m a b in
     by (eqb m k)
     (λ e. let q : m ≡ k = eqb-true m k e in
-    rw (e, q, w.0.passes) (ap suc ((rw q at more) ∙ rw (before_irrefl (name_of ds k)))))
+    rw (e, q, w.0.passes) (ap suc (more ∙ (ap (λ (x : ℕ). cond (is_before (name_of ds k) (name_of ds x)) 1 0) q ∙ rw (before_irrefl (name_of ds k))))))
     (λ e. rw (e, w.0.others m a b (eqb-false m k e)) more)
 
 -- each name comes before the next
@@ -272,7 +272,7 @@ unfolding rising
 walk_rising ds f i [] w = refl
 walk_rising ds f i (k ∷ []) w = refl
 walk_rising ds f i (k ∷ m ∷ ks) w =
-    and_both (is_before (name_of ds k) (name_of ds m)) _ w.1.0.passes (walk_rising ds _ _ (m ∷ ks) w.1)
+    and_both (is_before (name_of ds k) (name_of ds m)) _ w.1.0.passes (walk_rising ds (is_before (name_of ds k)) _ (m ∷ ks) w.1)
 
 -- the last of these numbers, k if there are none
 unfoldable pub last_or : ℕ → List ℕ → ℕ
@@ -283,7 +283,7 @@ walk_ends : (ds : List Declared) (f : List ℕ → Bool) (i : ℕ) (ks : List �
     → (k : ℕ) → get_or (numbers_of ds) (record_width * k) 0 ≡ i → get_or (numbers_of ds) (record_width * last_or k ks) 0 ≡ 0
 unfolding last_or
 walk_ends ds f i [] w k e = e ∙ w.ended
-walk_ends ds f i (m ∷ ks) w k e = walk_ends ds _ _ ks w.1 m (next_number_lem ds m w.0.low w.0.high)
+walk_ends ds f i (m ∷ ks) w k e = walk_ends ds (is_before (name_of ds m)) _ ks w.1 m (next_number_lem ds m w.0.low w.0.high)
 
 -- ---- what holds of the chain, where names are different
 

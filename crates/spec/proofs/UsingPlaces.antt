@@ -249,6 +249,8 @@ module _ (w : RaiseType) (t : List Marked) where
 
   fate_gives : (f : Fate) → RaiseCondition w t f → raise_fate w t ≡ f
   fate_gives (rewritten v m) c = fate_rewrites m c.1 ∙ ap (λ (u : RaiseType). rewritten u m) (sym c.0)
+  fate_gives dropped c = absurd c
+  fate_gives (passed _) c = absurd c
   fate_gives (refused_clause c) v =
       fate_using v.0.at_using
       ∙ (using_is t a_end b_end c_end refl refl refl w

@@ -1,7 +1,9 @@
 // The types that the definitions of document 01 and of the requests name. The definitions themselves stand in specs/.
+#![tactic(auto)]
+
 
 // A dollar literal: its length, where its inside starts and how long that is, and whether it is closed.
-#[derive(Drop)]
+#[derive(Clone, Copy)]
 pub struct DollarQuoted {
     pub span: usize,
     pub inner_start: usize,
@@ -10,7 +12,7 @@ pub struct DollarQuoted {
 }
 
 // One span at the front of a text; each kind carries its length.
-#[derive(Drop)]
+#[derive(Clone, Copy)]
 pub enum Span {
     // A comment or a quoted literal, kept as it stands.
     Verbatim(usize),
@@ -21,7 +23,7 @@ pub enum Span {
 }
 
 // Where something stands first.
-#[derive(Drop)]
+#[derive(Clone, Copy)]
 pub enum Found {
     At(usize),
     Nothing,
@@ -29,7 +31,7 @@ pub enum Found {
 
 // Why a call or a search refuses its text, by number. 1, 3 and 2 are checked before anything is written; a search gives no
 // others.
-#[derive(Drop)]
+#[derive(Clone, Copy)]
 pub enum Refusal {
     // 1: the text is over the limit.
     TextTooLong,
@@ -54,7 +56,7 @@ pub enum Refusal {
 }
 
 // What is handed back of a refusal: its number, its place, and how many bytes the output holds.
-#[derive(Drop)]
+#[derive(Clone, Copy)]
 pub struct RefusalNumbers {
     pub number: u32,
     pub place: usize,
@@ -62,14 +64,14 @@ pub struct RefusalNumbers {
 }
 
 // Whether a call may begin.
-#[derive(Drop)]
+#[derive(Clone, Copy)]
 pub enum Check {
     Passed,
     Refused(Refusal),
 }
 
 // What a search answers.
-#[derive(Drop)]
+#[derive(Clone, Copy)]
 pub enum Search {
     // Found, at this place; 0 for a yes/no search.
     Found(usize),
@@ -78,7 +80,7 @@ pub enum Search {
 }
 
 // What a search that fills a buffer answers.
-#[derive(Drop)]
+#[derive(Clone, Copy)]
 pub enum Filled {
     // How many pieces or bytes the result has; 0 for a map.
     Count(usize),
@@ -86,14 +88,14 @@ pub enum Filled {
 }
 
 // What a rewriting call answers.
-#[derive(Drop)]
+#[derive(Clone, Copy)]
 pub enum Rewritten {
     Accepted { length: usize, records: usize },
     Refused(Refusal),
 }
 
 // The level of a RAISE.
-#[derive(Drop)]
+#[derive(Clone, Copy)]
 pub enum Level {
     Debug,
     Log,
@@ -104,7 +106,7 @@ pub enum Level {
 }
 
 // The words of SQLite's RAISE that take a message.
-#[derive(Drop)]
+#[derive(Clone, Copy)]
 pub enum RaiseType {
     Abort,
     Fail,
@@ -112,14 +114,14 @@ pub enum RaiseType {
 }
 
 // What becomes of a RAISE of some level: it vanishes, or it becomes SQLite's RAISE with this word.
-#[derive(Drop)]
+#[derive(Clone, Copy)]
 pub enum Action {
     Drop,
     Raise(RaiseType),
 }
 
 // The action of each level.
-#[derive(Drop)]
+#[derive(Clone, Copy)]
 pub struct Actions {
     pub debug: Action,
     pub log: Action,
@@ -130,7 +132,7 @@ pub struct Actions {
 }
 
 // What a table of levels says.
-#[derive(Drop)]
+#[derive(Clone, Copy)]
 pub enum Table {
     Given(Actions),
     Refused(Refusal),

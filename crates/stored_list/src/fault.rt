@@ -4,7 +4,7 @@ ghost use Rattle.stored_list.specs.Fault.{other, no_fault, fault_of, injected};
 
 use crate::fields::{field, number};
 
-#[derive(Drop)]
+#[derive(Clone, Copy)]
 pub struct Fault {
     // The number of the buffer, and the place in it.
     pub buffer: usize,

@@ -1,5 +1,7 @@
 // What the programs share that replay stored lists: the lines of standard input, their fields, texts and numbers,
 // marked buffers, places that are changed behind a call, and the report.
+#![tactic(auto)]
+
 mod fault;
 mod fields;
 mod lines;

@@ -5,7 +5,7 @@ ghost use Rattle.stored_list.specs.ListLines.{line_at, no_line, start_after, Fir
 
 use crate::fields::{next_place, part};
 
-#[derive(Drop)]
+#[derive(Clone, Copy)]
 pub struct Line {
     // The line's bytes are those from start up to end.
     pub start: usize,

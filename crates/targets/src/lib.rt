@@ -1,4 +1,6 @@
 // The check of a statement: whether it assigns to a qualified target `q.n`, and where that stands.
+#![tactic(auto)]
+
 ghost use Rattle.std.specs.Prelude.{◌≡◌, not, ◌&&◌, List, [], reverse, ◌+◌, ◌^◌, ◌≤◌, ◌<◌, length, take, drop, get_or};
 ghost use Rattle.spec.specs.Bytes.{is_word, upper, prefix_by};
 ghost use Rattle.spec.specs.Map.{Marked, marked, bytes};
@@ -12,7 +14,7 @@ use scanner::{find_str_in, starts_ignoring_case};
 use spec::Found;
 
 // Where a qualified target stands in a statement.
-#[derive(Drop)]
+#[derive(Clone, Copy)]
 pub enum TargetFound {
     At {
         qualifier_start: usize,
@@ -24,7 +26,7 @@ pub enum TargetFound {
 }
 
 // What a marking word does: CASE opens one, END closes one, a statement may follow the others.
-#[derive(Drop)]
+#[derive(Clone, Copy)]
 enum Mark {
     OpensCase,
     ClosesCase,
@@ -32,7 +34,7 @@ enum Mark {
 }
 
 // A marking word: the first `len` bytes of `word`.
-#[derive(Drop)]
+#[derive(Clone, Copy)]
 struct Marking {
     len: usize,
     word: [u8; 5],
@@ -40,7 +42,7 @@ struct Marking {
 }
 
 // The marking word met at a place: what it does, and its length.
-#[derive(Drop)]
+#[derive(Clone, Copy)]
 enum Met {
     Word(Mark, usize),
     Nothing,
