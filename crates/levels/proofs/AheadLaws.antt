@@ -52,10 +52,10 @@ module _ {A : Type 0} (text : A → List ℕ) (xs : List ℕ) where
 
 -- ---- all levels, and all actions
 
-all_at : {A : Type 0} (p : A → Bool) (l : List A) (x : A) → Memᴰ x l → all p l ≡ true → p x ≡ true
+all_at : {A : Type 0} (p : A → Bool) (x : A) (l : List A) → Memᴰ x l → all p l ≡ true → p x ≡ true
 unfolding all
-all_at p l x (Memᴰ.head {x = y} {xs = t} e) h = ap p e ∙ and_left (p y) (all p t) h
-all_at p l x (Memᴰ.tail {x = y} {xs = t} m) h = all_at p t x m (and_right (p y) (all p t) h)
+all_at p x l (Memᴰ.head {x = y} {xs = t} e) h = ap p e ∙ and_left (p y) (all p t) h
+all_at p x l (Memᴰ.tail {x = y} {xs = t} m) h = all_at p x t m (and_right (p y) (all p t) h)
 
 level_in_lem : (l : Level) → Memᴰ l all_levels
 unfolding all_levels
@@ -165,7 +165,7 @@ module _ (xs : List ℕ) where
       all_absent (λ e i.
       let level = is_prefix (level_text e.level) xs in
       let there = and_left level _ (sym (line_parts e.level e.action) ∙ i) in
-      let missing = not-true level (all_at (λ l. not (is_prefix (level_text l) xs)) all_levels e.level (level_in_lem e.level) (ahead_none level_text xs all_levels h)) in
+      let missing = not-true level (all_at (λ l. not (is_prefix (level_text l) xs)) e.level all_levels (level_in_lem e.level) (ahead_none level_text xs all_levels h)) in
       false≢true (sym missing ∙ there))
 
   module _ (l : Level) (h : ahead level_text all_levels xs ≡ some l) where
@@ -185,7 +185,7 @@ module _ (xs : List ℕ) where
         let both = sym (line_parts e.level e.action) ∙ i in
         let same : e.level ≡ l = one_level e.level l (and_left level (test e.level) both) level_stands in
         let there : test l ≡ true = ap test (sym same) ∙ and_right level (test e.level) both in
-        let missing = not-true (test l) (all_at (λ a. not (is_prefix (action_text a) (drop (length (level_text l)) xs))) all_actions e.action (action_in e.action) (ahead_none action_text (drop (length (level_text l)) xs) all_actions m)) in
+        let missing = not-true (test l) (all_at (λ a. not (is_prefix (action_text a) (drop (length (level_text l)) xs))) e.action all_actions (action_in e.action) (ahead_none action_text (drop (length (level_text l)) xs) all_actions m)) in
         false≢true (sym missing ∙ there))
 
     -- a level and then an action are the line

@@ -1,0 +1,68 @@
+-- `assignments::put_statement` meets its contract, by whether the statement is empty, and then whether it has a
+-- qualified target. `told` says which one the check found; without one the statement is what `rewrite_assignment` writes. Assumes nothing.
+use native.Mathlib.Omega.{arith}
+use mathlib.Core.List.{[], ◌∷◌, ◌++◌}
+use lib.ListN.{length, take, drop, length-append, length-drop}
+use lib.Seq.{length-take-le}
+use Rattle.spec.proofs.RefusalOutcomes.{statement_nil}
+use Rattle.spec.proofs.RefusalBounds.{bytes_length}
+use Rattle.spec.specs.Map.{marked, bytes}
+use Rattle.spec.specs.Assignments.{statement_target, assignment}
+use Rattle.spec.proofs.MapLaws.{marked_length}
+use Rattle.output.specs.declared.Pass.TheVariants.{Done}
+use Rattle.targets.specs.Tells.{Tells}
+use Rattle.targets.specs.declared.TargetFound.TheVariants as target
+use Rattle.assignments.proofs.RestLaws.{told_qualified, told_none, empty_marked}
+use mathlib.Core.Path.{◌≡◌, refl, ap, ◌∙◌}
+use Prim.Native.Nat.{ℕ, ◌+◌, ◌-◌}
+use borrow.Author.Rules.{rules}
+use Rattle.assignments.proofs.put_statement.Goals as goal
+use Rattle.assignments.proofs.put_statement.Lts
+use Rattle.assignments.proofs.put_statement.Tie
+use Rattle.assignments.proofs.put_statement.Reads
+
+abbrev At-in-At : Type 0
+At-in-At = Lts.After-known_told Tie.the-claims Reads.Pre Reads.Post Tie.handed_clauses
+
+-- the target that the check found
+told : (c : At-in-At) →
+    Tells (marked c.args.text.now c.args.map.now) (statement_target (marked c.args.text.now c.args.map.now)) (target.At c.in-At.qualifier_start c.in-At.qualifier_len c.in-At.name_start c.in-At.name_len)
+told c =
+    let a = c.args in
+    let h : Tells (marked a.text.now a.map.now) (statement_target (marked a.text.now a.map.now)) c.qualified_assignment_target-target.result = c.qualified_assignment_target-target.ensures in
+    rw c.in-At.is at h
+
+pub returns-then-text-eq0 : goal.returns-then-text-eq0
+unfolding bytes
+returns-then-text-eq0 c =
+    let a = c.args in
+    let e : marked a.text.now a.map.now ≡ [] = empty_marked a.text.now a.map.now c.if-text-eq0.true in
+    rw (e, statement_nil) (ap Done (omega arith), refl)
+
+pub put_qualified-requires : goal.put_qualified-requires
+put_qualified-requires c =
+    let t = told c.before.before in
+    record { b_value = t.inside.0; m_in_bounds = omega (arith, t.inside.1, marked_length c.args.text.now c.args.map.now); statement_in_bounds = search rules }
+
+pub returns-in-At : goal.returns-in-At
+returns-in-At c =
+    let a = c.args in
+    let xs = a.text.now in
+    let g = c.in-At.given.0 in
+    let t = told c.before.before.before.before.before in
+    let i = t.inside in
+    let n = marked_length xs a.map.now in
+    let ql : length (take g.1.0 (drop g.0 xs)) ≡ g.1.0 = length-take-le g.1.0 (drop g.0 xs) (omega (arith, length-drop g.0 xs)) in
+    let nl : length (take g.1.1.1.0 (drop g.1.1.0 xs)) ≡ g.1.1.1.0 = length-take-le g.1.1.1.0 (drop g.1.1.0 xs) (omega (arith, length-drop g.1.1.0 xs)) in
+    let tl : length (take g.1.0 (drop g.0 xs) ++ (46 ∷ take g.1.1.1.0 (drop g.1.1.0 xs))) ≡ g.1.0 + 1 + g.1.1.1.0 =
+    omega (arith, length-append (take g.1.0 (drop g.0 xs)) (46 ∷ take g.1.1.1.0 (drop g.1.1.0 xs))) in
+    rw (told_qualified xs a.map.now _ _ _ _ t) (rw (tl, ql) c.put_qualified.ensures.value, rw tl c.put_qualified.ensures.out_after)
+
+pub returns-in-Nothing : goal.returns-in-Nothing
+returns-in-Nothing c =
+    let a = c.args in
+    let m = marked a.text.now a.map.now in
+    let h : Tells m (statement_target m) c.qualified_assignment_target-target.result = c.qualified_assignment_target-target.ensures in
+    let w = c.rewrite_assignment.ensures in
+    rw (told_none a.text.now a.map.now (rw c.in-Nothing.is at h))
+    (ap Done (w.counted ∙ ap (λ (k : ℕ). a.n + k) (bytes_length (assignment m))), w.stored)

@@ -1,0 +1,43 @@
+-- `assignments::rewrite_assignment` meets its contract. The definition computes once it is known what the search for
+-- `:=` found (`sought`): what `put_assignment` writes, or the statement's own bytes. Assumes nothing.
+use native.Mathlib.Omega.{arith}
+use mathlib.Core.Path.{◌≡◌, sym, ◌∙◌}
+use Prim.Native.Nat.{◌-◌}
+use Rattle.spec.specs.Bytes.{ascii}
+use Rattle.spec.specs.Map.{marked}
+use Rattle.spec.specs.Search.{first}
+use Rattle.spec.specs.Assignments.{assign_here, assignment_at, assignment}
+use Rattle.spec.proofs.FirstLaws.{nonempty_word}
+use Rattle.spec.proofs.MapLaws.{marked_bytes, marked_length}
+use Rattle.assignments.proofs.AssignmentTextLaws.{assign_inside}
+use borrow.Author.Rules.{rules}
+use Rattle.assignments.proofs.rewrite_assignment.Goals as goal
+use Rattle.assignments.proofs.rewrite_assignment.Lts
+use Rattle.assignments.proofs.rewrite_assignment.Tie
+use Rattle.assignments.proofs.rewrite_assignment.Reads
+
+abbrev At-after-find_str_in-found : Type 0
+At-after-find_str_in-found = Lts.After-find_str_in Tie.the-claims Reads.Pre Reads.Post
+
+-- what the search for `:=` gives
+sought : (c : At-after-find_str_in-found) → c.find_str_in-found.result ≡ first assign_here 0 (marked c.args.statement.now c.args.map.now)
+unfolding assign_here
+sought c = c.find_str_in-found.ensures ∙ nonempty_word (ascii ":=") _ (omega arith)
+
+pub put_assignment-requires : goal.put_assignment-requires
+put_assignment-requires c =
+    let a = c.args in
+    let i = assign_inside (marked a.statement.now a.map.now) _ (sym (sought c.before.before.before.before.before) ∙ c.in-At.is) in
+    record { at_in_bounds = omega (arith, marked_length a.statement.now a.map.now); statement_bound = search rules }
+
+pub returns-in-At : goal.returns-in-At
+unfolding assignment
+returns-in-At c =
+    let a = c.args in
+    rw (sym (sought c.before.before.before.before.before.before.before.before) ∙ c.in-At.is) (c.put_assignment.ensures (marked a.statement.now a.map.now) (marked_bytes a.statement.now a.map.now))
+
+pub returns-in-Nothing : goal.returns-in-Nothing
+unfolding assignment assignment_at
+returns-in-Nothing c =
+    let a = c.args in
+    rw (sym (sought c.before.before.before.before.before.before.before) ∙ c.in-Nothing.is, marked_bytes a.statement.now a.map.now) (record { counted = c.put_all.ensures.value; stored = c.put_all.ensures.out_after })

@@ -1,0 +1,80 @@
+-- `declarations::put_texts` meets its contract. None of the three texts is longer than the section, so the ends can be
+-- computed; the law `texts` joins the three stores to that of the packed record. Assumes nothing.
+use native.Mathlib.Omega.{arith}
+use mathlib.Core.Path.{refl, ap, ◌∙◌}
+use mathlib.Core.Bool.{false}
+use Prim.Native.Nat.{◌≤◌}
+use lib.ListN.{length}
+use Rattle.declared_parts.proofs.SpacedLaws.{spaced_le}
+use Rattle.declared_parts.proofs.BetweenLaws.{piece_le}
+use Rattle.declarations.proofs.WriteLaws.{name_le, texts}
+use Rattle.declarations.proofs.put_texts.Goals as goal
+use Rattle.declarations.proofs.put_texts.Lts
+use Rattle.declarations.proofs.put_texts.Tie
+use Rattle.declarations.proofs.put_texts.Reads
+
+abbrev At-start : Type 0
+At-start = Lts.Start Tie.the-claims Reads.Pre Reads.Post Tie.handed_clauses
+
+abbrev At-after-name_of : Type 0
+At-after-name_of = Lts.After-name_of Tie.the-claims Reads.Pre Reads.Post Tie.handed_clauses
+
+abbrev At-after-piece-kind : Type 0
+At-after-piece-kind = Lts.After-piece Tie.the-claims Reads.Pre Reads.Post Tie.handed_clauses
+
+abbrev At-after-piece-value : Type 0
+At-after-piece-value = Lts.After-piece2 Tie.the-claims Reads.Pre Reads.Post Tie.handed_clauses
+
+-- what is known at the start
+known : (c : At-start) → (c.args.k ≤ 512) × (length c.args.text.now ≤ 65536) × (5130 ≤ length c.args.records.now) × (c.args.n ≤ 65536)
+known c = (c.requires.k_bound, c.requires.text_len_bound, c.requires.in_bounds, c.requires.n_bound)
+
+-- the texts are not longer than the section
+name-short : (c : At-after-name_of) → length c.name_of.result.now ≤ 65536
+name-short c =
+    let k = known c.before.before.before.before.before.before.before.before.before.before.before in
+    omega (arith, k.1, name_le c.args.text.now c.args.records.now c.args.k, ap length c.name_of.ensures)
+
+kind-short : (c : At-after-piece-kind) → length c.piece-kind.result.now ≤ 65536
+kind-short c =
+    let k = known c.before.before.before.before.before.before in
+    omega (arith, k.1, piece_le c.args.text.now c.number.result c.number-2.result, ap length c.piece-kind.ensures)
+
+value-short : (c : At-after-piece-value) → length c.piece-value.result.now ≤ 65536
+value-short c =
+    let k = known c.before.before.before.before.before.before.before.before.before in
+    omega (arith, k.1, piece_le c.args.text.now c.number-3.result c.number-4.result, ap length c.piece-value.ensures)
+
+pub put_all-name_end-requires : goal.put_all-name_end-requires
+put_all-name_end-requires c =
+    let k = known c.before.before.before.before.before.before.before.before.before.before.before.before in
+    omega (arith, k.3, name-short c.before)
+
+pub put_spaced-kind_end-requires : goal.put_spaced-kind_end-requires
+put_spaced-kind_end-requires c =
+    let k = known c.before.before.before.before.before.before.before.before.before.before.before.before.before.before.before.before in
+    omega (arith, k.3, name-short c.before.before.before.before.before, kind-short c.before.before.before.before.before.before.before.before.before.before, c.put_all-name_end.ensures.value)
+
+pub number-requires-5 : goal.number-requires-5
+number-requires-5 c =
+    let k = known c.before.before.before.before.before.before.before.before.before.before.before.before.before.before.before.before.before.before.before.before in record { k_bound = k.0; j_bound = omega arith; in_bounds = k.2 }
+
+pub put_value-end-requires : goal.put_value-end-requires
+put_value-end-requires c =
+    let k = known c.before.before.before.before.before.before.before.before.before.before.before.before.before.before.before.before.before.before.before.before.before in
+    omega (arith, k.3, name-short c.before.before.before.before.before.before.before.before.before.before, kind-short c.before.before.before.before.before.before.before.before.before.before.before.before.before.before.before, value-short c.before.before.before.before.before.before.before.before.before.before.before.before, c.put_all-name_end.ensures.value, c.put_spaced-kind_end.ensures.value, spaced_le false c.piece-kind.result.now)
+
+pub returns : goal.returns
+returns c =
+    let a = c.args in
+    let t = texts a.text.now a.records.now a.k a.declared.now c.put_all-name_end.new.out c.put_spaced-kind_end.new.out c.put_value-end.new.out
+    a.n c.put_all-name_end.result c.put_spaced-kind_end.result c.put_value-end.result c.number-5.result
+    c.name_of.result.now c.piece-kind.result.now c.piece-value.result.now
+    c.name_of.ensures
+    (c.piece-kind.ensures ∙ rw (c.number-2.ensures.value, c.number.ensures.value) refl)
+    c.number-5.ensures.value
+    (c.piece-value.ensures ∙ rw (c.number-4.ensures.value, c.number-3.ensures.value) refl)
+    c.put_all-name_end.ensures.out_after c.put_all-name_end.ensures.value
+    c.put_spaced-kind_end.ensures.out_after c.put_spaced-kind_end.ensures.value
+    c.put_value-end.ensures.out_after c.put_value-end.ensures.value in
+    record { value = t.ends; declared_after = t.stored }

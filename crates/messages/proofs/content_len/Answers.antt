@@ -1,0 +1,37 @@
+-- `messages::content_len` meets its contract. The loop's invariant says that the content's length is what the cursor
+-- has passed and the content of the rest. `turn` says what a step of the cursor takes. Assumes nothing.
+use native.Mathlib.Omega.{arith}
+use mathlib.Core.Path.{sym, ◌∙◌}
+use Prim.Native.Nat.{◌-◌}
+use Rattle.spans.proofs.StepLaws.{Stepped, step_taken, step_done}
+use Rattle.messages.proofs.ContentLaws.{content_on, content_stops, content_over}
+use Rattle.messages.proofs.content_len.Goals as goal
+use Rattle.messages.proofs.content_len.Lts
+use Rattle.messages.proofs.content_len.Tie
+use Rattle.messages.proofs.content_len.Reads
+
+abbrev At-in-Taken-2 : Type 0
+At-in-Taken-2 = Lts.After-step2 Tie.the-claims Reads.Pre Reads.Post goal.the-invariant-loop-s goal.the-decreases-loop-s
+
+-- the step that was taken
+turn : (c : At-in-Taken-2) → Stepped c.args.rest.now c.loop-s.cursor.at c.in-Taken.s c.in-Taken.next.at
+turn c = step_taken _ _ _ c.in-Taken.next (sym c.step-step.ensures ∙ c.in-Taken.is)
+
+pub loop-s-init : goal.loop-s-init
+loop-s-init c = (omega arith, omega arith)
+
+pub returns-in_default : goal.returns-in_default
+returns-in_default c =
+    let l = c.loop-s in
+    omega (arith, content_over c.args.rest.now l.cursor.at (step_done _ _ (sym c.step-step.ensures ∙ c.in_default.is)))
+
+pub returns-then-ends_statement : goal.returns-then-ends_statement
+returns-then-ends_statement c =
+    omega (arith, content_stops c.args.rest.now c.loop-s.cursor.at _ _ (turn c.before.before.before.before.before) (rw (← c.byte_at.ensures) (sym c.ends_statement.ensures ∙ c.if-ends_statement.true)))
+
+pub loop-s-smaller : goal.loop-s-smaller
+loop-s-smaller c = omega (arith, (turn c.before.before.before.before.before).within, (turn c.before.before.before.before.before).beyond)
+
+pub loop-s-preserved : goal.loop-s-preserved
+loop-s-preserved c =
+    ((turn c.before.before.before.before.before).within, c.loop-s.invariant.1 ∙ content_on c.args.rest.now c.loop-s.cursor.at _ _ (turn c.before.before.before.before.before) (rw (← c.byte_at.ensures) (sym c.ends_statement.ensures ∙ c.if-ends_statement.false)))

@@ -1,0 +1,35 @@
+-- `passes::run_body` meets its contract. The answer is that of `run_passes`; `zeros_behind_part` says of each buffer
+-- that filling it leaves the result, or nothing, with zeros behind and the rest past `size` as it was. Assumes nothing.
+use Rattle.passes.proofs.BufferEndLaws.{answer_length, zeros_behind_part}
+use Rattle.spec.specs.Answers.{body_result, call_numbers}
+use Rattle.spec.specs.Raise.{action_of}
+use Rattle.spec.specs.Body.{rewriting}
+use mathlib.Core.List.{[]}
+use lib.ListN.{length}
+use lib.Seq.{length-take-le}
+use mathlib.Core.Path.{refl, sym, ap, ◌∙◌}
+use Rattle.passes.proofs.run_body.Goals as goal
+
+pub slice_bounds-run_passes-end-2 : goal.slice_bounds-run_passes-end-2
+slice_bounds-run_passes-end-2 c = sym (length-take-le c.args.size c.args.output.now c.requires.size_in_bounds)
+
+pub slice_bounds-run_passes-end-4 : goal.slice_bounds-run_passes-end-4
+slice_bounds-run_passes-end-4 c = sym (length-take-le c.args.size c.args.work.now c.requires.size_in_bounds_2)
+
+pub slice_bounds-run_passes-end-6 : goal.slice_bounds-run_passes-end-6
+slice_bounds-run_passes-end-6 c =
+    sym (length-take-le c.args.size c.args.spare.now c.requires.size_in_bounds_3)
+
+pub run_passes-r-requires : goal.run_passes-r-requires
+run_passes-r-requires c =
+    let s = c.args in
+    let p = c.requires in
+    record { text_len_bound = p.1.0; output_len = length-take-le s.size s.output.now p.1.1.0 ∙ p.0; work_len = length-take-le s.size s.work.now p.1.1.1.0 ∙ p.0; spare_len = length-take-le s.size s.spare.now p.1.1.1.1 ∙ p.0 }
+
+pub returns : goal.returns
+unfolding body_result
+returns c =
+    let s = c.args in
+    let p = c.requires in
+    let run = c.run_passes-r in
+    let n = c.output_length-n.ensures ∙ (ap (λ r. (call_numbers r).length) run.ensures.answered ∙ answer_length [] (rewriting (action_of s.actions) s.text.now)) in record { value = run.ensures.answered; output_after = c.fill.ensures ∙ zeros_behind_part s.size c.output_length-n.result run.new.output s.output.now (body_result s.text.now s.actions).output (run.auto.output ∙ length-take-le s.size s.output.now p.1.1.0) n run.ensures.held; work_after = c.fill-2.ensures ∙ zeros_behind_part s.size 0 run.new.work s.work.now [] (run.auto.work ∙ length-take-le s.size s.work.now p.1.1.1.0) refl refl; spare_after = c.fill-3.ensures ∙ zeros_behind_part s.size 0 run.new.spare s.spare.now [] (run.auto.spare ∙ length-take-le s.size s.spare.now p.1.1.1.1) refl refl }

@@ -1,0 +1,10 @@
+-- `plpgsql_rewriter::plpgsql_transform_body` meets its contract: the three buffers as `transform_body` leaves them, and
+-- its answer in four numbers by `put_called`. Assumes nothing.
+use mathlib.Core.Path.{ap, ◌∙◌}
+use Rattle.plpgsql_rewriter.specs.Four.{four_called}
+use Rattle.plpgsql_rewriter.proofs.plpgsql_transform_body.Goals as goal
+
+pub returns : goal.returns
+returns c =
+    let e = c.transform_body-r.ensures in
+    record { output_after = e.1.0; work_after = e.1.1.0; spare_after = e.1.1.1; answer_after = c.put_called.ensures ∙ ap four_called e.0 }

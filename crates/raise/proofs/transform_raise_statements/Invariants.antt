@@ -1,0 +1,18 @@
+use mathlib.Core.Path.{◌≡◌}
+use Prim.Native.Nat.{◌-◌, ◌*◌, ◌≤◌}
+use lib.ListN.{length}
+use Rattle.spec.specs.Map.{marked}
+use Rattle.spec.specs.Raise.{action_of, raise}
+use Rattle.output.proofs.OutcomeLaws.{Turn}
+use Rattle.raise.proofs.RaiseLaws.{left_at}
+use Rattle.raise.proofs.transform_raise_statements.Given as goal
+
+abbrev pub invariant-loop-at : goal.invariant-loop-at
+invariant-loop-at l =
+    (from ≤ length l.text)
+    × (l.from ≤ 5 * from)
+    × (length l.n ≡ length l.initial.out)
+    × Turn l.initial.out 0 (raise (action_of l.actions) (marked l.text l.map)) l.n l.from (left_at (action_of l.actions) (marked l.text l.map) from)
+
+abbrev pub decreases-loop-at : goal.decreases-loop-at
+decreases-loop-at l = length l.text - from

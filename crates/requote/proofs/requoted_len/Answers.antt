@@ -1,0 +1,92 @@
+-- `requote::requoted_len` meets its contract. The loop's invariant says that n and the requoted length of the text from
+-- the offset on make up the whole length. `turn` says what the span there takes; a byte that opens nothing is such a
+-- span by `length_plain`. Assumes nothing.
+use native.Mathlib.Omega.{arith}
+use mathlib.Core.Path.{◌≡◌, sym, ap, ◌∙◌}
+use Prim.Native.Nat.{◌+◌, ◌-◌}
+use lib.ListN.{length, take, drop, length-drop}
+use lib.Seq.{length-take-le}
+use Rattle.spec.proofs.AheadLaws.{rest_of}
+use Rattle.spec.proofs.RequotedLength.{requoted_twice}
+use Rattle.spec.specs.Requote.{requoted_length}
+use Rattle.spec.specs.Spans.{span_at}
+use Rattle.requote.proofs.RequoteLaws.{length_turn, length_plain, length_over, inside_within}
+use Rattle.spans.proofs.StepLaws.{Stepped, stepped}
+use Rattle.requote.proofs.requoted_len.Goals as goal
+use Rattle.requote.proofs.requoted_len.Lts
+use Rattle.requote.proofs.requoted_len.Tie
+use Rattle.requote.proofs.requoted_len.Reads
+
+abbrev At-after-span_len : Type 0
+At-after-span_len = Lts.After-span_len Tie.the-claims Reads.Pre Reads.Post goal.the-invariant-loop-at goal.the-decreases-loop-at
+
+abbrev At-after-requoted_span_len-n : Type 0
+At-after-requoted_span_len-n = Lts.After-requoted_span_len Tie.the-claims Reads.Pre Reads.Post goal.the-invariant-loop-at goal.the-decreases-loop-at
+
+-- the span at the offset, and the offset behind it
+turn : (c : At-after-span_len) →
+    Stepped c.args.text.now c.loop-at.at c.next_span-s.result (c.loop-at.at + c.span_len.result)
+turn c =
+    let xs = c.args.text.now in
+    let at = c.loop-at.at in
+    let front : c.next_span-s.result ≡ span_at (take (length xs - at) (drop at xs)) = c.next_span-s.ensures in
+    stepped xs at c.next_span-s.result (at + c.span_len.result) (omega arith) (rw rest_of at front) (ap (λ n. at + n) c.span_len.ensures)
+
+-- what is counted behind the span
+added : (c : At-after-requoted_span_len-n) →
+    let xs = c.args.text.now in
+    requoted_length xs ≡ c.loop-at.n + c.requoted_span_len-n.result + requoted_length (drop (c.loop-at.at + c.span_len.result) xs)
+added c =
+    let xs = c.args.text.now in
+    let at = c.loop-at.at in
+    let t = turn c.before.before in
+    omega (arith, c.loop-at.invariant.1, c.requoted_span_len-n.ensures, length_turn xs at _ _ t)
+
+pub loop-at-init : goal.loop-at-init
+loop-at-init c = (omega arith, omega arith)
+
+pub overflow_add-to : goal.overflow_add-to
+overflow_add-to c = omega (arith, (turn c.before).within)
+
+pub slice_bounds-requoted_span_len-count : goal.slice_bounds-requoted_span_len-count
+slice_bounds-requoted_span_len-count c = omega (arith, (turn c.before).beyond)
+
+pub slice_bounds-requoted_span_len-start : goal.slice_bounds-requoted_span_len-start
+slice_bounds-requoted_span_len-start c = omega (arith, (turn c.before).beyond, (turn c.before).within)
+
+pub slice_bounds-requoted_span_len-end : goal.slice_bounds-requoted_span_len-end
+slice_bounds-requoted_span_len-end c = omega (arith, (turn c.before).beyond, (turn c.before).within)
+
+pub requoted_span_len-n-requires : goal.requoted_span_len-n-requires
+requoted_span_len-n-requires c =
+    let t = turn c.before.before in
+    let xs = c.args.text.now in
+    let at = c.loop-at.at in
+    let to = at + c.span_len.result in
+    let long : length (take (to - at) (drop at xs)) ≡ to - at = length-take-le (to - at) (drop at xs) (omega (arith, t.within, length-drop at xs)) in
+    record { span_len_bound = omega (arith, long, t.within); s_in_bounds = rw long (inside_within xs at c.next_span-s.result to t) }
+
+pub overflow_add-n : goal.overflow_add-n
+overflow_add-n c =
+    omega (arith, added c.before, requoted_twice c.args.text.now)
+
+pub loop-at-smaller-then-opens_span : goal.loop-at-smaller-then-opens_span
+loop-at-smaller-then-opens_span c = omega (arith, (turn c.before.before.before).beyond, (turn c.before.before.before).within)
+
+pub loop-at-preserved-then-opens_span : goal.loop-at-preserved-then-opens_span
+loop-at-preserved-then-opens_span c = ((turn c.before.before.before).within, added c.before)
+
+pub overflow_add-n-else-opens_span : goal.overflow_add-n-else-opens_span
+overflow_add-n-else-opens_span c =
+    omega (arith, c.loop-at.invariant.1, requoted_twice c.args.text.now)
+
+pub loop-at-preserved : goal.loop-at-preserved
+loop-at-preserved c =
+    let xs = c.args.text.now in
+    let at = c.loop-at.at in
+    (omega arith, omega (arith, length_plain xs at (omega arith) (sym c.opens_span.ensures ∙ c.if-opens_span.false)))
+
+pub returns : goal.returns
+returns c =
+    let xs = c.args.text.now in
+    omega (arith, length_over xs c.loop-at.at (omega arith))

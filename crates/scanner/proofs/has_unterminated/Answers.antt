@@ -1,0 +1,49 @@
+-- `scanner::has_unterminated` meets its contract. The loop's invariant says that the text has an open dollar literal
+-- exactly if the rest behind the cursor has. `turn` says what a step of the cursor takes, `ahead` splits the rest at
+-- its first span. Assumes nothing.
+use mathlib.Core.Bool.{◌||◌}
+use native.Mathlib.Omega.{arith}
+use mathlib.Core.Path.{◌≡◌, refl, sym, ◌∙◌}
+use Prim.Native.Nat.{◌-◌}
+use lib.ListN.{drop}
+use Rattle.spec.specs.Search.{has_unterminated_dollar_quote}
+use Rattle.scanner.proofs.SpanWalkLaws.{unclosed_ahead, unclosed_over}
+use Rattle.spans.proofs.StepLaws.{Stepped, step_taken, step_done}
+use Rattle.scanner.proofs.has_unterminated.Goals as goal
+use Rattle.scanner.proofs.has_unterminated.Lts
+use Rattle.scanner.proofs.has_unterminated.Tie
+use Rattle.scanner.proofs.has_unterminated.Reads
+
+abbrev At-in-Taken-2 : Type 0
+At-in-Taken-2 = Lts.After-step2 Tie.the-claims Reads.Pre Reads.Post goal.the-invariant-loop-s goal.the-decreases-loop-s
+
+abbrev At-after-is_unclosed : Type 0
+At-after-is_unclosed = Lts.After-is_unclosed Tie.the-claims Reads.Pre Reads.Post goal.the-invariant-loop-s goal.the-decreases-loop-s
+
+-- the step that was taken
+turn : (c : At-in-Taken-2) → Stepped c.args.text.now c.loop-s.cursor.at c.in-Taken.s c.in-Taken.next.at
+turn c = step_taken _ _ _ c.in-Taken.next (sym c.step-step.ensures ∙ c.in-Taken.is)
+
+-- what is left, by whether its front span is closed
+ahead : (c : At-after-is_unclosed) →
+    has_unterminated_dollar_quote c.args.text.now ≡ (c.is_unclosed.result || has_unterminated_dollar_quote (drop c.in-Taken.next.at c.args.text.now))
+ahead c =
+    c.loop-s.invariant.1
+    ∙ (unclosed_ahead c.args.text.now c.loop-s.cursor.at c.in-Taken.s c.in-Taken.next.at (turn c.before.before)
+    ∙ rw c.is_unclosed.ensures)
+
+pub loop-s-init : goal.loop-s-init
+loop-s-init c = (omega arith, refl)
+
+pub returns-in_default : goal.returns-in_default
+returns-in_default c =
+    sym (c.loop-s.invariant.1 ∙ unclosed_over c.args.text.now c.loop-s.cursor.at (step_done _ _ (sym c.step-step.ensures ∙ c.in_default.is)))
+
+pub returns-then-is_unclosed : goal.returns-then-is_unclosed
+returns-then-is_unclosed c = sym (rw c.if-is_unclosed.true at (ahead c.before.before))
+
+pub loop-s-smaller : goal.loop-s-smaller
+loop-s-smaller c = omega (arith, (turn c.before.before.before.before).within, (turn c.before.before.before.before).beyond)
+
+pub loop-s-preserved : goal.loop-s-preserved
+loop-s-preserved c = ((turn c.before.before.before.before).within, rw c.if-is_unclosed.false at (ahead c.before.before))

@@ -1,0 +1,12 @@
+use mathlib.Core.Path.{◌≡◌}
+use Prim.Native.Nat.{◌-◌}
+use lib.ListN.{length}
+use Rattle.spec.specs.Search.{is_skipped}
+use Rattle.scanner.proofs.WordLaws.{end_from}
+use Rattle.scanner.proofs.word_start.Given as goal
+
+abbrev pub invariant-loop-i : goal.invariant-loop-i
+invariant-loop-i l = end_from is_skipped l.text l.map l.from ≡ end_from is_skipped l.text l.map l.i
+
+abbrev pub decreases-loop-i : goal.decreases-loop-i
+decreases-loop-i l = length l.text - l.i

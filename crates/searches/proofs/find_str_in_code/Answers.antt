@@ -1,0 +1,31 @@
+-- `searches::find_str_in_code` meets its contract. Where the checks have passed, the map that they leave marks the text
+-- as `marked_text` does, so that `find_str_in` answers for the text itself; where they refuse, so does the definition.
+-- Assumes nothing.
+use mathlib.Core.Path.{◌≡◌, refl, sym, ap, ◌∙◌}
+use Rattle.spec.specs.Answers.{map_check, needle_answer, search_answer}
+use Rattle.spec.specs.Search.{find_str_in_code}
+use Rattle.spec.specs.declared.Check.TheVariants.{Passed}
+use Rattle.searches.proofs.CheckedLaws.{passed_marks}
+use Rattle.searches.proofs.find_str_in_code.Goals as goal
+use Rattle.searches.proofs.find_str_in_code.Lts
+use Rattle.searches.proofs.find_str_in_code.Tie
+use Rattle.searches.proofs.find_str_in_code.Reads
+
+abbrev At-in_default : Type 0
+At-in_default = Lts.After-enum_told Tie.the-claims Reads.Pre Reads.Post Tie.handed_clauses
+
+-- the checks have passed
+passed : (c : At-in_default) →
+    map_check c.args.text.now c.args.map.now c.args.needle.now ≡ Passed
+passed c = sym c.map_checked-check.ensures.value ∙ c.in_default.is
+
+pub returns-in_default : goal.returns-in_default
+unfolding needle_answer find_str_in_code
+returns-in_default c =
+    let s = c.args in
+    let m = passed_marks s.text.now s.map.now s.needle.now (passed c.before.before.before.before) c.map_checked-check.new.map c.map_checked-check.ensures.map_after in
+    record { value = c.found_answer.ensures ∙ rw (passed c.before.before.before.before, ← m) (ap (λ k. search_answer Passed k) c.find_str_in.ensures); map_after = c.map_checked-check.ensures.map_after }
+
+pub returns : goal.returns
+unfolding needle_answer
+returns c = record { value = rw (sym c.map_checked-check.ensures.value ∙ c.in-Refused.is) refl; map_after = c.map_checked-check.ensures.map_after }

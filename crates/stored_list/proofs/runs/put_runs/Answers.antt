@@ -1,0 +1,64 @@
+-- `stored_list::put_runs` meets its contract. The loop's invariant: the runs from the number j on are still to be stored at n.
+-- Assumes nothing.
+use native.Mathlib.Omega.{arith}
+use mathlib.Core.Path.{◌≡◌, sym, ap, ◌∙◌}
+use mathlib.Core.List.{List, ◌++◌}
+use Prim.Native.Nat.{ℕ, ◌+◌, ◌-◌, ◌*◌}
+use lib.ListN.{length}
+use Rattle.stored_list.specs.Fields.{field_of}
+use Rattle.stored_list.specs.Runs.{hex_run, runs_from, runs_of}
+use Rattle.stored_list.proofs.StoringLaws.{storing, storing_list, stored_all}
+use Rattle.stored_list.proofs.RepeatLaws.{runs_none, runs_step, runs_end, run_fields}
+use Rattle.stored_list.proofs.runs.put_runs.Goals as goal
+
+pub loop-j-init : goal.loop-j-init
+unfolding runs_of
+loop-j-init c =
+    let s = c.args in
+    storing s.out.now 0 (runs_of s.line.now) (omega arith)
+
+pub shape_of-out-then-count-eq0 : goal.shape_of-out-then-count-eq0
+shape_of-out-then-count-eq0 c = c.loop-j.invariant.kept
+
+pub returns-then-count-eq0 : goal.returns-then-count-eq0
+returns-then-count-eq0 c =
+    let l = c.loop-j in
+    let s = c.args in
+    let xs = s.line.now in
+    let e : length (field_of (2 * l.j + 1) xs) ≡ 0 = sym (ap length c.field-count.ensures) ∙ c.if-count-eq0.true in
+    let t = stored_all s.out.now 0 (runs_of xs) l.out l.n (runs_from (500 - l.j) l.j xs) l.invariant
+    (runs_none 500 l.j xs (omega arith) e) in
+    record { value = omega (arith, t.count); out_after = t.content }
+
+pub append_hex-n-requires : goal.append_hex-n-requires
+append_hex-n-requires c =
+    let l = c.loop-j in
+    omega (arith, l.invariant.kept, l.invariant.reached)
+
+pub loop-j-preserved : goal.loop-j-preserved
+loop-j-preserved c =
+    let l = c.loop-j in
+    let s = c.args in
+    let xs = s.line.now in
+    let a = c.append_hex-n in
+    let f = c.field-count in
+    let g = c.field in
+    let m = c.number in
+    let u = hex_run m.result g.result.now in
+    let t = runs_from (500 - (l.j + 1)) (l.j + 1) xs in
+    let z : length (field_of (2 * l.j + 1) xs) ≡ 0 → ⊥ = λ h. c.if-count-eq0.false (ap length f.ensures ∙ h) in
+    let e = run_fields l.j xs f.result.now g.result.now m.result f.ensures m.ensures g.ensures in
+    storing_list s.out.now 0 (runs_of xs) l.out l.n (runs_from (500 - l.j) l.j xs) u t a.new.out a.result
+    l.invariant (runs_step 500 l.j xs (omega arith) z ∙ ap (λ (k : List ℕ). k ++ t) (sym e)) a.ensures.out_after a.ensures.value
+
+pub shape_of-out : goal.shape_of-out
+shape_of-out c = c.loop-j.invariant.kept
+
+pub returns : goal.returns
+returns c =
+    let l = c.loop-j in
+    let s = c.args in
+    let xs = s.line.now in
+    let t = stored_all s.out.now 0 (runs_of xs) l.out l.n (runs_from (500 - l.j) l.j xs) l.invariant
+    (runs_end 500 l.j xs (omega arith)) in
+    record { value = omega (arith, t.count); out_after = t.content }

@@ -1,0 +1,89 @@
+-- `targets::qualified_walrus_target` meets its contract. The loop's invariant says that the target of the whole is that
+-- of the first `:=` from `from` on that has one. `found_at` and `found_within` place the next `:=`, `before` says what
+-- stands before it. Assumes nothing.
+use native.Mathlib.Omega.{arith}
+use mathlib.Core.Path.{◌≡◌, refl, sym, ◌∙◌}
+use Prim.Native.Nat.{◌-◌, ◌≤◌, ◌<◌}
+use lib.ListN.{length, take}
+use mathlib.Core.List.{reverse}
+use Rattle.spec.specs.Bytes.{ascii}
+use Rattle.spec.specs.Map.{marked}
+use Rattle.spec.specs.Search.{first}
+use Rattle.spec.specs.Assignments.{assign_here, target_before}
+use Rattle.spec.specs.declared.Found.TheVariants.{At}
+use Rattle.spec.proofs.MapLaws.{marked_length, marked_bytes}
+use Rattle.spec.proofs.FirstLaws.{nonempty_word}
+use Rattle.spec.proofs.WalkLaws.{first_within}
+use Rattle.targets.specs.Tells.{Tells}
+use Rattle.targets.proofs.TargetNameLaws.{tells_first, tells_next}
+use Rattle.targets.proofs.WalrusLaws.{assign_none, assign_at}
+use Rattle.targets.proofs.qualified_walrus_target.Goals as goal
+use Rattle.targets.proofs.qualified_walrus_target.Lts
+use Rattle.targets.proofs.qualified_walrus_target.Tie
+use Rattle.targets.proofs.qualified_walrus_target.Reads
+
+abbrev At-after-find_str_in-found : Type 0
+At-after-find_str_in-found = Lts.After-find_str_in Tie.the-claims Reads.Pre Reads.Post goal.the-invariant-loop-at goal.the-decreases-loop-at
+
+abbrev At-in-At : Type 0
+At-in-At = Lts.After-known_told Tie.the-claims Reads.Pre Reads.Post goal.the-invariant-loop-at goal.the-decreases-loop-at
+
+abbrev At-after-qualified_name_before-before : Type 0
+At-after-qualified_name_before-before = Lts.After-qualified_name_before Tie.the-claims Reads.Pre Reads.Post goal.the-invariant-loop-at goal.the-decreases-loop-at
+
+-- what the search for `:=` gives
+sought : (c : At-after-find_str_in-found) → c.find_str_in-found.result ≡ first assign_here c.loop-at.from (marked c.args.statement.now c.args.map.now)
+unfolding assign_here
+sought c = c.find_str_in-found.ensures ∙ nonempty_word (ascii ":=") _ (omega arith)
+
+-- it stands at the place found
+found_at : (c : At-in-At) →
+    first assign_here c.loop-at.from (marked c.args.statement.now c.args.map.now) ≡ At c.in-At.at
+found_at c = sym (sought c.before.before.before) ∙ c.in-At.is
+
+-- and within the statement
+found_within : (c : At-in-At) →
+    (c.loop-at.from ≤ c.in-At.at) × (c.in-At.at < length c.args.statement.now)
+found_within c =
+    let a = c.args in
+    let w = first_within assign_here (marked a.statement.now a.map.now) _ _ (found_at c) in
+    (w.0, omega (arith, w.1, marked_length a.statement.now a.map.now))
+
+-- what stands before it
+before : (c : At-after-qualified_name_before-before) →
+    Tells (marked c.args.statement.now c.args.map.now) (target_before (reverse (take c.in-At.at (marked c.args.statement.now c.args.map.now)))) c.qualified_name_before-before.result
+before c =
+    c.qualified_name_before-before.ensures _ (marked_bytes c.args.statement.now c.args.map.now)
+
+pub loop-at-init : goal.loop-at-init
+loop-at-init c = refl
+
+pub returns-in_default : goal.returns-in_default
+returns-in_default c =
+    let a = c.args in
+    record {
+      target = c.loop-at.invariant ∙ assign_none (marked a.statement.now a.map.now) c.loop-at.from (sym (sought c.before.before.before) ∙ c.in_default.is);
+      inside = tt;
+    }
+
+pub qualified_name_before-before-requires : goal.qualified_name_before-before-requires
+qualified_name_before-before-requires c = omega (arith, (found_within c.before).1)
+
+pub returns-then-is_target : goal.returns-then-is_target
+returns-then-is_target c =
+    let a = c.args in
+    rw (c.loop-at.invariant ∙ assign_at (marked a.statement.now a.map.now) c.loop-at.from _ (found_at c.before.before.before.before))
+    (tells_first _ _ _ _ (sym c.is_target.ensures ∙ c.if-is_target.true) (before c.before.before.before))
+
+pub overflow_add-from : goal.overflow_add-from
+overflow_add-from c = omega (arith, (found_within c.before.before.before.before).1)
+
+pub loop-at-smaller : goal.loop-at-smaller
+loop-at-smaller c = let w = found_within c.before.before.before.before in omega arith
+
+pub loop-at-preserved : goal.loop-at-preserved
+loop-at-preserved c =
+    let a = c.args in
+    c.loop-at.invariant
+    ∙ (assign_at (marked a.statement.now a.map.now) c.loop-at.from _ (found_at c.before.before.before.before)
+    ∙ tells_next _ _ _ _ (sym c.is_target.ensures ∙ c.if-is_target.false) (before c.before.before.before))
