@@ -10,36 +10,31 @@ use lib.ListN.{length, take, drop, length-drop}
 use lib.Seq.{length-take-le}
 use Rattle.assignments.proofs.RestLaws.{target_written}
 use Rattle.assignments.proofs.put_qualified.Goals as goal
-use Rattle.assignments.proofs.put_qualified.Lts
-use Rattle.assignments.proofs.put_qualified.Tie
-use Rattle.assignments.proofs.put_qualified.Reads
-
-abbrev At-start : Type 0
-At-start = Lts.Start Tie.the-claims Reads.Pre Reads.Post Tie.handed_clauses
+use Rattle.assignments.proofs.put_qualified.Goals.{Start}
 
 -- the parts written have the lengths given
-q-long : (c : At-start) → length (take (c.args.a + c.args.k - c.args.a) (drop c.args.a c.args.statement.now)) ≡ c.args.k
+q-long : (c : goal.Start) → length (take (c.args.a + c.args.k - c.args.a) (drop c.args.a c.args.statement.now)) ≡ c.args.k
 q-long c =
     let a = c.args in
     let k : a.a + a.k - a.a ≡ a.k = omega arith in
     rw k (length-take-le a.k (drop a.a a.statement.now) (omega (arith, length-drop a.a a.statement.now)))
 
-n-long : (c : At-start) → length (take (c.args.b + c.args.m - c.args.b) (drop c.args.b c.args.statement.now)) ≡ c.args.m
+n-long : (c : goal.Start) → length (take (c.args.b + c.args.m - c.args.b) (drop c.args.b c.args.statement.now)) ≡ c.args.m
 n-long c =
     let a = c.args in
     let k : a.b + a.m - a.b ≡ a.m = omega arith in
     rw k (length-take-le a.m (drop a.b a.statement.now) (omega (arith, length-drop a.b a.statement.now)))
 
 pub put_all-p-requires : goal.put_all-p-requires
-put_all-p-requires c = omega (arith, q-long c.before.before.before.before.before)
+put_all-p-requires c = omega (arith, q-long (goal.at.put_all-p-requires c).Start)
 
 pub put-q-requires : goal.put-q-requires
 put-q-requires c =
-    omega (arith, q-long c.before.before.before.before.before.before.before.before.before, c.put_all-p.ensures.value)
+    omega (arith, q-long (goal.at.put-q-requires c).Start, c.put_all-p.ensures.value)
 
 pub put_all-end-requires : goal.put_all-end-requires
 put_all-end-requires c =
-    omega (arith, q-long c.before.before.before.before.before.before.before.before.before.before.before.before.before.before, n-long c.before.before.before.before.before.before.before.before.before.before.before.before.before.before, c.put_all-p.ensures.value, c.put-q.ensures.value)
+    omega (arith, q-long (goal.at.put_all-end-requires c).Start, n-long (goal.at.put_all-end-requires c).Start, c.put_all-p.ensures.value, c.put-q.ensures.value)
 
 pub returns : goal.returns
 returns c =
@@ -47,8 +42,8 @@ returns c =
     let xs = a.statement.now in
     let q = take (a.a + a.k - a.a) (drop a.a xs) in
     let n = take (a.b + a.m - a.b) (drop a.b xs) in
-    let ql : length q ≡ a.k = q-long c.before.before.before.before.before.before.before.before.before.before.before.before.before.before.before.before.before in
-    let nl : length n ≡ a.m = n-long c.before.before.before.before.before.before.before.before.before.before.before.before.before.before.before.before.before in
+    let ql : length q ≡ a.k = q-long (goal.at.returns c).Start in
+    let nl : length n ≡ a.m = n-long (goal.at.returns c).Start in
     let qk : a.a + a.k - a.a ≡ a.k = omega arith in
     let nm : a.b + a.m - a.b ≡ a.m = omega arith in
     let w : take (length q + 1 + length n) c.put_all-end.new.out ≡ q ++ (46 ∷ n) =

@@ -17,15 +17,10 @@ use mathlib.Core.Path.{◌≡◌, refl, ap, ◌∙◌}
 use Prim.Native.Nat.{ℕ, ◌+◌, ◌-◌}
 use borrow.Author.Rules.{rules}
 use Rattle.assignments.proofs.put_statement.Goals as goal
-use Rattle.assignments.proofs.put_statement.Lts
-use Rattle.assignments.proofs.put_statement.Tie
-use Rattle.assignments.proofs.put_statement.Reads
-
-abbrev At-in-At : Type 0
-At-in-At = Lts.After-known_told Tie.the-claims Reads.Pre Reads.Post Tie.handed_clauses
+use Rattle.assignments.proofs.put_statement.Goals.{In-At}
 
 -- the target that the check found
-told : (c : At-in-At) →
+told : (c : goal.In-At) →
     Tells (marked c.args.text.now c.args.map.now) (statement_target (marked c.args.text.now c.args.map.now)) (target.At c.in-At.qualifier_start c.in-At.qualifier_len c.in-At.name_start c.in-At.name_len)
 told c =
     let a = c.args in
@@ -41,7 +36,7 @@ returns-then-text-eq0 c =
 
 pub put_qualified-requires : goal.put_qualified-requires
 put_qualified-requires c =
-    let t = told c.before.before in
+    let t = told (goal.at.put_qualified-requires c).In-At in
     record { b_value = t.inside.0; m_in_bounds = omega (arith, t.inside.1, marked_length c.args.text.now c.args.map.now); statement_in_bounds = search rules }
 
 pub returns-in-At : goal.returns-in-At
@@ -49,7 +44,7 @@ returns-in-At c =
     let a = c.args in
     let xs = a.text.now in
     let g = c.in-At.given.0 in
-    let t = told c.before.before.before.before.before in
+    let t = told (goal.at.returns-in-At c).In-At in
     let i = t.inside in
     let n = marked_length xs a.map.now in
     let ql : length (take g.1.0 (drop g.0 xs)) ≡ g.1.0 = length-take-le g.1.0 (drop g.0 xs) (omega (arith, length-drop g.0 xs)) in

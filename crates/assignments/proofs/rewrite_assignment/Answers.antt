@@ -12,32 +12,27 @@ use Rattle.spec.proofs.MapLaws.{marked_bytes, marked_length}
 use Rattle.assignments.proofs.AssignmentTextLaws.{assign_inside}
 use borrow.Author.Rules.{rules}
 use Rattle.assignments.proofs.rewrite_assignment.Goals as goal
-use Rattle.assignments.proofs.rewrite_assignment.Lts
-use Rattle.assignments.proofs.rewrite_assignment.Tie
-use Rattle.assignments.proofs.rewrite_assignment.Reads
-
-abbrev At-after-find_str_in-found : Type 0
-At-after-find_str_in-found = Lts.After-find_str_in Tie.the-claims Reads.Pre Reads.Post
+use Rattle.assignments.proofs.rewrite_assignment.Goals.{After-find_str_in-found}
 
 -- what the search for `:=` gives
-sought : (c : At-after-find_str_in-found) → c.find_str_in-found.result ≡ first assign_here 0 (marked c.args.statement.now c.args.map.now)
+sought : (c : goal.After-find_str_in-found) → c.find_str_in-found.result ≡ first assign_here 0 (marked c.args.statement.now c.args.map.now)
 unfolding assign_here
 sought c = c.find_str_in-found.ensures ∙ nonempty_word (ascii ":=") _ (omega arith)
 
 pub put_assignment-requires : goal.put_assignment-requires
 put_assignment-requires c =
     let a = c.args in
-    let i = assign_inside (marked a.statement.now a.map.now) _ (sym (sought c.before.before.before.before.before) ∙ c.in-At.is) in
+    let i = assign_inside (marked a.statement.now a.map.now) _ (sym (sought (goal.at.put_assignment-requires c).After-find_str_in-found) ∙ c.in-At.is) in
     record { at_in_bounds = omega (arith, marked_length a.statement.now a.map.now); statement_bound = search rules }
 
 pub returns-in-At : goal.returns-in-At
 unfolding assignment
 returns-in-At c =
     let a = c.args in
-    rw (sym (sought c.before.before.before.before.before.before.before.before) ∙ c.in-At.is) (c.put_assignment.ensures (marked a.statement.now a.map.now) (marked_bytes a.statement.now a.map.now))
+    rw (sym (sought (goal.at.returns-in-At c).After-find_str_in-found) ∙ c.in-At.is) (c.put_assignment.ensures (marked a.statement.now a.map.now) (marked_bytes a.statement.now a.map.now))
 
 pub returns-in-Nothing : goal.returns-in-Nothing
 unfolding assignment assignment_at
 returns-in-Nothing c =
     let a = c.args in
-    rw (sym (sought c.before.before.before.before.before.before.before) ∙ c.in-Nothing.is, marked_bytes a.statement.now a.map.now) (record { counted = c.put_all.ensures.value; stored = c.put_all.ensures.out_after })
+    rw (sym (sought (goal.at.returns-in-Nothing c).After-find_str_in-found) ∙ c.in-Nothing.is, marked_bytes a.statement.now a.map.now) (record { counted = c.put_all.ensures.value; stored = c.put_all.ensures.out_after })

@@ -21,25 +21,14 @@ use Rattle.output.specs.Passes.{answer_from, LeavesFrom}
 use Rattle.output.proofs.OutcomeLaws.{Turn, turn_refused, turn_answer, turn_leaves}
 use Rattle.assignments.proofs.RestLaws.{statement_turn, turn_start, left_from, left_cut, left_last, statement_long}
 use Rattle.assignments.proofs.transform_assignments.Goals as goal
-use Rattle.assignments.proofs.transform_assignments.Lts
-use Rattle.assignments.proofs.transform_assignments.Tie
-use Rattle.assignments.proofs.transform_assignments.Reads
-
-abbrev At-in-At : Type 0
-At-in-At = Lts.After-known_told Tie.the-claims Reads.Pre Reads.Post goal.the-invariant-loop-end goal.the-decreases-loop-end Tie.handed_clauses
-
-abbrev At-after-put_statement-pass : Type 0
-At-after-put_statement-pass = Lts.After-put_statement2 Tie.the-claims Reads.Pre Reads.Post goal.the-invariant-loop-end goal.the-decreases-loop-end Tie.handed_clauses
-
-abbrev At-in-Done : Type 0
-At-in-Done = Lts.After-known_told2 Tie.the-claims Reads.Pre Reads.Post goal.the-invariant-loop-end goal.the-decreases-loop-end Tie.handed_clauses
+use Rattle.assignments.proofs.transform_assignments.Goals.{In-At, After-put_statement-pass, In-Done}
 
 -- the next live `;` stands at the place found, within the text
-found_at : (c : At-in-At) →
+found_at : (c : goal.In-At) →
     first (byte_here 59) c.loop-end.from (marked c.args.text.now c.args.map.now) ≡ At c.in-At.end
 found_at c = sym c.find_byte_in-found.ensures ∙ c.in-At.is
 
-within : (c : At-in-At) →
+within : (c : goal.In-At) →
     (c.loop-end.from ≤ c.in-At.end) × (c.in-At.end < length c.args.text.now)
 within c =
     let a = c.args in
@@ -47,45 +36,49 @@ within c =
     (w.0, omega (arith, w.1, marked_length a.text.now a.map.now))
 
 -- a part from the last `;` to the next one
-abbrev partTo : (c : At-in-At) {A : Type 0} → List A → List A
+abbrev partTo : (c : goal.In-At) {A : Type 0} → List A → List A
 partTo c l = take (c.in-At.end - c.loop-end.from) (drop c.loop-end.from l)
 
 -- the statement beside its map, and its length
-abbrev piece_of : (c : At-in-At) → List Marked
+abbrev piece_of : (c : goal.In-At) → List Marked
 piece_of c =
     partTo c (marked c.args.text.now c.args.map.now)
 
-part-long : (c : At-in-At) →
+part-long : (c : goal.In-At) →
     length (partTo c c.args.text.now) ≡ c.in-At.end - c.loop-end.from
 part-long c =
     let w = within c in
     length-take-le _ (drop c.loop-end.from c.args.text.now) (omega (arith, length-drop c.loop-end.from c.args.text.now))
 
-piece-long : (c : At-in-At) → length (piece_of c) ≡ c.in-At.end - c.loop-end.from
+piece-long : (c : goal.In-At) → length (piece_of c) ≡ c.in-At.end - c.loop-end.from
 piece-long c =
     let w = within c in
     let t = marked c.args.text.now c.args.map.now in
     length-take-le _ (drop c.loop-end.from t) (omega (arith, length-drop c.loop-end.from t, marked_length c.args.text.now c.args.map.now))
 
-piece-same : (c : At-in-At) →
+piece-same : (c : goal.In-At) →
     marked (partTo c c.args.text.now) (partTo c c.args.map.now) ≡ piece_of c
 piece-same c =
     marked_part c.loop-end.from (c.in-At.end - c.loop-end.from) c.args.text.now c.args.map.now
 
 -- what is made of it, and what is left
-answered : (c : At-after-put_statement-pass) →
-    c.put_statement-pass.result ≡ answer_from c.loop-end.n (outcome (piece_of c.before.before.before.before))
+answered : (c : goal.After-put_statement-pass) →
+    c.put_statement-pass.result ≡ answer_from c.loop-end.n (outcome (piece_of @INLINE@))
 answered c =
-    let h : c.put_statement-pass.result ≡ answer_from c.loop-end.n (outcome (marked (partTo c.before.before.before.before c.args.text.now) (partTo c.before.before.before.before c.args.map.now))) = c.put_statement-pass.ensures.value in
-    rw (piece-same c.before.before.before.before) at h
+    let partTo : {A : Type 0} → List A → List A = take (c.in-At.end - c.loop-end.from) (drop c.loop-end.from l) in
+    let piece-same : marked (partTo c c.args.text.now) (partTo c c.args.map.now) ≡ piece_of c = marked_part c.loop-end.from (c.in-At.end - c.loop-end.from) c.args.text.now c.args.map.now in
+    let h : c.put_statement-pass.result ≡ answer_from c.loop-end.n (outcome (marked (partTo c.args.text.now) (partTo c.args.map.now))) = c.put_statement-pass.ensures.value in
+    rw piece-same at h
 
-left_in : (c : At-after-put_statement-pass) →
-    LeavesFrom c.loop-end.n (outcome (piece_of c.before.before.before.before)) c.loop-end.out c.put_statement-pass.new.out
+left_in : (c : goal.After-put_statement-pass) →
+    LeavesFrom c.loop-end.n (outcome (piece_of @INLINE@)) c.loop-end.out c.put_statement-pass.new.out
 left_in c =
-    let h : LeavesFrom c.loop-end.n (outcome (marked (partTo c.before.before.before.before c.args.text.now) (partTo c.before.before.before.before c.args.map.now))) c.loop-end.out c.put_statement-pass.new.out = c.put_statement-pass.ensures.leaves_from in
-    rw (piece-same c.before.before.before.before) at h
+    let partTo : {A : Type 0} → List A → List A = take (c.in-At.end - c.loop-end.from) (drop c.loop-end.from l) in
+    let piece-same : marked (partTo c c.args.text.now) (partTo c c.args.map.now) ≡ piece_of c = marked_part c.loop-end.from (c.in-At.end - c.loop-end.from) c.args.text.now c.args.map.now in
+    let h : LeavesFrom c.loop-end.n (outcome (marked (partTo c.args.text.now) (partTo c.args.map.now))) c.loop-end.out c.put_statement-pass.new.out = c.put_statement-pass.ensures.leaves_from in
+    rw piece-same at h
 
-turn_in : (c : At-in-At)
+turn_in : (c : goal.In-At)
     → let a = c.args in
     let t = marked a.text.now a.map.now in
     Turn a.out.now 0 (assignments t) c.loop-end.out c.loop-end.n
@@ -97,14 +90,23 @@ turn_in c =
     rw (left_cut t c.loop-end.from _ (found_at c)) at r
 
 -- where it is text, its end
-done_at : (c : At-in-Done) →
-    Done c.in-Done.m ≡ answer_from c.loop-end.n (outcome (piece_of c.before.before.before.before.before.before.before.before.before))
-done_at c = sym c.in-Done.is ∙ answered c.before.before.before.before.before
+done_at : (c : goal.In-Done) →
+    Done c.in-Done.m ≡ answer_from c.loop-end.n (outcome (piece_of @INLINE@))
+done_at c =
+    let answered : c.put_statement-pass.result ≡ answer_from c.loop-end.n (outcome (piece_of @INLINE@)) = let partTo : {A : Type 0} → List A → List A = take (c.in-At.end - c.loop-end.from) (drop c.loop-end.from l) in
+        let piece-same : marked (partTo c c.args.text.now) (partTo c c.args.map.now) ≡ piece_of c = marked_part c.loop-end.from (c.in-At.end - c.loop-end.from) c.args.text.now c.args.map.now in
+        let h : c.put_statement-pass.result ≡ answer_from c.loop-end.n (outcome (marked (partTo c.args.text.now) (partTo c.args.map.now))) = c.put_statement-pass.ensures.value in
+        rw piece-same at h in
+    sym c.in-Done.is ∙ answered
 
-end-within : (c : At-in-Done) →
+end-within : (c : goal.In-Done) →
     c.in-Done.m ≤ c.loop-end.n + (c.in-At.end - c.loop-end.from) + 7
 end-within c =
-    omega (arith, statement_long (piece_of c.before.before.before.before.before.before.before.before.before) c.loop-end.n _ (done_at c), piece-long c.before.before.before.before.before.before.before.before.before)
+    let piece_of : List Marked = partTo c (marked c.args.text.now c.args.map.now) in
+    let piece-long : length (piece_of c) ≡ c.in-At.end - c.loop-end.from = let w = within c in
+        let t = marked c.args.text.now c.args.map.now in
+        length-take-le _ (drop c.loop-end.from t) (omega (arith, length-drop c.loop-end.from t, marked_length c.args.text.now c.args.map.now)) in
+    omega (arith, statement_long piece_of c.loop-end.n _ (done_at c), piece-long)
 
 pub loop-end-init : goal.loop-end-init
 loop-end-init c = (omega arith, refl, omega arith, turn_start _ _)
@@ -124,49 +126,49 @@ returns-in_default c =
     record { value = rw last at p ∙ sym (turn_answer s); leaves = turn_leaves s _ (rw last at q) }
 
 pub slice_bounds-put_statement-count-in-loop-end : goal.slice_bounds-put_statement-count-in-loop-end
-slice_bounds-put_statement-count-in-loop-end c = let w = within c.before.before in omega arith
+slice_bounds-put_statement-count-in-loop-end c = let w = within (goal.at.slice_bounds-put_statement-count-in-loop-end c).In-At in omega arith
 
 pub slice_bounds-put_statement-start-in-loop-end : goal.slice_bounds-put_statement-start-in-loop-end
-slice_bounds-put_statement-start-in-loop-end c = let w = within c.before.before in omega arith
+slice_bounds-put_statement-start-in-loop-end c = let w = within (goal.at.slice_bounds-put_statement-start-in-loop-end c).In-At in omega arith
 
 pub slice_bounds-put_statement-end-in-loop-end : goal.slice_bounds-put_statement-end-in-loop-end
-slice_bounds-put_statement-end-in-loop-end c = let w = within c.before.before in omega arith
+slice_bounds-put_statement-end-in-loop-end c = let w = within (goal.at.slice_bounds-put_statement-end-in-loop-end c).In-At in omega arith
 
 pub slice_bounds-put_statement-count-in-loop-end-2 : goal.slice_bounds-put_statement-count-in-loop-end-2
-slice_bounds-put_statement-count-in-loop-end-2 c = let w = within c.before.before.before in omega arith
+slice_bounds-put_statement-count-in-loop-end-2 c = let w = within (goal.at.slice_bounds-put_statement-count-in-loop-end-2 c).In-At in omega arith
 
 pub slice_bounds-put_statement-start-in-loop-end-2 : goal.slice_bounds-put_statement-start-in-loop-end-2
-slice_bounds-put_statement-start-in-loop-end-2 c = let w = within c.before.before.before in omega arith
+slice_bounds-put_statement-start-in-loop-end-2 c = let w = within (goal.at.slice_bounds-put_statement-start-in-loop-end-2 c).In-At in omega arith
 
 pub slice_bounds-put_statement-end-in-loop-end-2 : goal.slice_bounds-put_statement-end-in-loop-end-2
-slice_bounds-put_statement-end-in-loop-end-2 c = let w = within c.before.before.before in omega arith
+slice_bounds-put_statement-end-in-loop-end-2 c = let w = within (goal.at.slice_bounds-put_statement-end-in-loop-end-2 c).In-At in omega arith
 
 pub put_statement-pass-requires : goal.put_statement-pass-requires
-put_statement-pass-requires c = let w = within c.before.before.before.before in let k = part-long c.before.before.before.before in record { text_bound = omega arith; text_in_bounds = omega arith }
+put_statement-pass-requires c = let w = within (goal.at.put_statement-pass-requires c).In-At in let k = part-long (goal.at.put_statement-pass-requires c).In-At in record { text_bound = omega arith; text_in_bounds = omega arith }
 
 pub returns-in_default-pass : goal.returns-in_default-pass
 returns-in_default-pass c =
-    let refused = sym (answered c.before.before.before.before.before) ∙ c.in_default-pass.is in
-    let r = turn_refused _ _ _ _ _ _ _ _ (turn_in c.before.before.before.before.before.before.before.before.before) refused in
-    record { value = answered c.before.before.before.before.before ∙ sym (turn_answer r); leaves = turn_leaves r _ (left_in c.before.before.before.before.before) }
+    let refused = sym (answered (goal.at.returns-in_default-pass c).After-put_statement-pass) ∙ c.in_default-pass.is in
+    let r = turn_refused _ _ _ _ _ _ _ _ (turn_in (goal.at.returns-in_default-pass c).In-At) refused in
+    record { value = answered (goal.at.returns-in_default-pass c).After-put_statement-pass ∙ sym (turn_answer r); leaves = turn_leaves r _ (left_in (goal.at.returns-in_default-pass c).After-put_statement-pass) }
 
 pub put-n-requires : goal.put-n-requires
 put-n-requires c =
-    let w = within c.before.before.before.before.before.before.before.before.before.before.before in omega (arith, end-within c.before.before)
+    let w = within (goal.at.put-n-requires c).In-At in omega (arith, end-within (goal.at.put-n-requires c).In-Done)
 
 pub overflow_add-from : goal.overflow_add-from
 overflow_add-from c =
-    let w = within c.before.before.before.before.before.before.before.before.before.before.before.before.before.before in omega (arith, c.requires.text_len_bound)
+    let w = within (goal.at.overflow_add-from c).In-At in omega (arith, c.requires.text_len_bound)
 
 pub loop-end-smaller : goal.loop-end-smaller
 loop-end-smaller c =
-    let w = within c.before.before.before.before.before.before.before.before.before.before.before.before.before.before in omega arith
+    let w = within (goal.at.loop-end-smaller c).In-At in omega arith
 
 pub loop-end-preserved : goal.loop-end-preserved
 loop-end-preserved c =
-    let w = within c.before.before.before.before.before.before.before.before.before.before.before.before.before.before in (
+    let w = within (goal.at.loop-end-preserved c).In-At in (
       omega arith,
       c.put-n.auto.out ∙ (c.put_statement-pass.auto.out ∙ c.loop-end.invariant.1),
-      omega (arith, end-within c.before.before.before.before.before, c.put-n.ensures.value),
-      statement_turn _ _ _ _ _ _ _ _ _ _ (turn_in c.before.before.before.before.before.before.before.before.before.before.before.before.before.before) (done_at c.before.before.before.before.before) (left_in c.before.before.before.before.before.before.before.before.before.before) c.put-n.ensures.value c.put-n.ensures.out_after,
+      omega (arith, end-within (goal.at.loop-end-preserved c).In-Done, c.put-n.ensures.value),
+      statement_turn _ _ _ _ _ _ _ _ _ _ (turn_in (goal.at.loop-end-preserved c).In-At) (done_at (goal.at.loop-end-preserved c).In-Done) (left_in (goal.at.loop-end-preserved c).After-put_statement-pass) c.put-n.ensures.value c.put-n.ensures.out_after,
     )

@@ -10,21 +10,16 @@ use Rattle.spec.specs.Answers.{first_high}
 use Rattle.spec.specs.Bytes.{is_high}
 use Rattle.spec.specs.Lists.{take_while}
 use Rattle.checks.proofs.first_high.Goals as goal
-use Rattle.checks.proofs.first_high.Lts
-use Rattle.checks.proofs.first_high.Tie
-use Rattle.checks.proofs.first_high.Reads
-
-abbrev At-after-run_end-n : Type 0
-At-after-run_end-n = Lts.After-run_end Tie.the-claims Reads.Pre Reads.Post
+use Rattle.checks.proofs.first_high.Goals.{After-run_end-n}
 
 -- where the run ends
-ended : (c : At-after-run_end-n) → length (take_while (λ (b : ℕ). not (is_high b)) c.args.text.now) ≡ c.run_end-n.result
+ended : (c : goal.After-run_end-n) → length (take_while (λ (b : ℕ). not (is_high b)) c.args.text.now) ≡ c.run_end-n.result
 ended c = sym (c.run_end-n.ensures.value ∙ zero-add _)
 
 pub returns-then-n-text : goal.returns-then-n-text
 unfolding first_high
-returns-then-n-text c = rw (ended c.before.before, lt-ltb _ _ c.if-n-text.true) refl
+returns-then-n-text c = rw (ended (goal.at.returns-then-n-text c).After-run_end-n, lt-ltb _ _ c.if-n-text.true) refl
 
 pub returns-else-n-text : goal.returns-else-n-text
 unfolding first_high
-returns-else-n-text c = rw (ended c.before.before, le-ltb _ _ c.if-n-text.false) refl
+returns-else-n-text c = rw (ended (goal.at.returns-else-n-text c).After-run_end-n, le-ltb _ _ c.if-n-text.false) refl

@@ -12,25 +12,18 @@ use Rattle.spec.specs.Closed.{is_plain_span}
 use Rattle.spans.proofs.StepLaws.{Stepped, step_taken, step_done}
 use Rattle.closed.proofs.ClosedLaws.{step_part, plain_ahead, plain_over}
 use Rattle.closed.proofs.has_plain_spans.Goals as goal
-use Rattle.closed.proofs.has_plain_spans.Lts
-use Rattle.closed.proofs.has_plain_spans.Tie
-use Rattle.closed.proofs.has_plain_spans.Reads
-
-abbrev At-in-Taken-2 : Type 0
-At-in-Taken-2 = Lts.After-step2 Tie.the-claims Reads.Pre Reads.Post goal.the-invariant-loop-next goal.the-decreases-loop-next
-
-abbrev At-after-is_plain_span : Type 0
-At-after-is_plain_span = Lts.After-is_plain_span Tie.the-claims Reads.Pre Reads.Post goal.the-invariant-loop-next goal.the-decreases-loop-next
+use Rattle.closed.proofs.has_plain_spans.Goals.{In-Taken, After-is_plain_span}
 
 -- the step that was taken
-turn : (c : At-in-Taken-2) → Stepped c.args.text.now c.loop-next.cursor.at c.in-Taken.field-0 c.in-Taken.next.at
+turn : (c : goal.In-Taken) → Stepped c.args.text.now c.loop-next.cursor.at c.in-Taken.field-0 c.in-Taken.next.at
 turn c = step_taken _ _ _ c.in-Taken.next (sym c.step-step.ensures ∙ c.in-Taken.is)
 
 -- what is left, by whether its front span is plain
-ahead : (c : At-after-is_plain_span) →
+ahead : (c : goal.After-is_plain_span) →
     all is_plain_span (lexemes c.args.text.now) ≡ (c.is_plain_span.result && all is_plain_span (lexemes (drop c.in-Taken.next.at c.args.text.now)))
 ahead c =
-    c.loop-next.invariant.1 ∙ plain_ahead c.args.text.now c.loop-next.cursor.at c.in-Taken.field-0 c.in-Taken.next.at (turn c.before.before.before.before) _ c.is_plain_span.ensures
+    let turn : Stepped c.args.text.now c.loop-next.cursor.at c.in-Taken.field-0 c.in-Taken.next.at = step_taken _ _ _ c.in-Taken.next (sym c.step-step.ensures ∙ c.in-Taken.is) in
+    c.loop-next.invariant.1 ∙ plain_ahead c.args.text.now c.loop-next.cursor.at c.in-Taken.field-0 c.in-Taken.next.at turn _ c.is_plain_span.ensures
 
 pub loop-next-init : goal.loop-next-init
 loop-next-init c = (omega arith, refl)
@@ -39,16 +32,16 @@ pub returns-in_default : goal.returns-in_default
 returns-in_default c = sym (c.loop-next.invariant.1 ∙ plain_over c.args.text.now c.loop-next.cursor.at (step_done _ _ (sym c.step-step.ensures ∙ c.in_default.is)))
 
 pub overflow_sub-next : goal.overflow_sub-next
-overflow_sub-next c = omega (arith, (turn c.before.before.before.before).beyond)
+overflow_sub-next c = omega (arith, (turn (goal.at.overflow_sub-next c).In-Taken).beyond)
 
 pub is_plain_span-requires : goal.is_plain_span-requires
-is_plain_span-requires c = step_part _ _ _ _ (turn c.before.before.before.before)
+is_plain_span-requires c = step_part _ _ _ _ (turn (goal.at.is_plain_span-requires c).In-Taken)
 
 pub loop-next-smaller : goal.loop-next-smaller
-loop-next-smaller c = omega (arith, (turn c.before.before.before.before.before.before).within, (turn c.before.before.before.before.before.before).beyond)
+loop-next-smaller c = omega (arith, (turn (goal.at.loop-next-smaller c).In-Taken).within, (turn (goal.at.loop-next-smaller c).In-Taken).beyond)
 
 pub loop-next-preserved : goal.loop-next-preserved
-loop-next-preserved c = ((turn c.before.before.before.before.before.before).within, rw c.if-is_plain_span.true at (ahead c.before.before))
+loop-next-preserved c = ((turn (goal.at.loop-next-preserved c).In-Taken).within, rw c.if-is_plain_span.true at (ahead (goal.at.loop-next-preserved c).After-is_plain_span))
 
 pub returns-else-is_plain_span : goal.returns-else-is_plain_span
-returns-else-is_plain_span c = sym (rw c.if-is_plain_span.false at (ahead c.before.before))
+returns-else-is_plain_span c = sym (rw c.if-is_plain_span.false at (ahead (goal.at.returns-else-is_plain_span c).After-is_plain_span))

@@ -9,15 +9,10 @@ use Rattle.spec.specs.declared.Check.TheVariants.{Passed}
 use Rattle.searches.proofs.CheckedLaws.{passed_marks}
 use Rattle.closed.specs.Answer.{closed_answer}
 use Rattle.closed.proofs.is_closed.Goals as goal
-use Rattle.closed.proofs.is_closed.Lts
-use Rattle.closed.proofs.is_closed.Tie
-use Rattle.closed.proofs.is_closed.Reads
-
-abbrev At-in_default : Type 0
-At-in_default = Lts.After-enum_told Tie.the-claims Reads.Pre Reads.Post Tie.handed_clauses
+use Rattle.closed.proofs.is_closed.Goals.{In_default}
 
 -- the checks have passed
-passed : (c : At-in_default) →
+passed : (c : goal.In_default) →
     map_check c.args.text.now c.args.map.now [] ≡ Passed
 passed c = sym c.map_checked-check.ensures.value ∙ c.in_default.is
 
@@ -25,8 +20,8 @@ pub returns-in_default : goal.returns-in_default
 unfolding closed_answer is_closed
 returns-in_default c =
     let s = c.args in
-    let m = passed_marks s.text.now s.map.now [] (passed c.before.before.before.before) c.map_checked-check.new.map c.map_checked-check.ensures.map_after in
-    record { value = c.yes_no_answer.ensures ∙ rw (passed c.before.before.before.before, ← m) (ap (λ k. search_answer Passed (yes_no k)) c.is_closed_in.ensures); map_after = c.map_checked-check.ensures.map_after }
+    let m = passed_marks s.text.now s.map.now [] (passed (goal.at.returns-in_default c).In_default) c.map_checked-check.new.map c.map_checked-check.ensures.map_after in
+    record { value = c.yes_no_answer.ensures ∙ rw (passed (goal.at.returns-in_default c).In_default, ← m) (ap (λ k. search_answer Passed (yes_no k)) c.is_closed_in.ensures); map_after = c.map_checked-check.ensures.map_after }
 
 pub returns : goal.returns
 unfolding closed_answer

@@ -9,15 +9,10 @@ use lib.ListN.{get_or, drop}
 use Rattle.spec.specs.Map.{marked}
 use Rattle.spec.specs.Search.{word_here}
 use Rattle.closed.proofs.is_raise_at.Goals as goal
-use Rattle.closed.proofs.is_raise_at.Lts
-use Rattle.closed.proofs.is_raise_at.Tie
-use Rattle.closed.proofs.is_raise_at.Reads
-
-abbrev At-else-is_ident_byte : Type 0
-At-else-is_ident_byte = Lts.Else3 Tie.the-claims Reads.Pre Reads.Post
+use Rattle.closed.proofs.is_raise_at.Goals.{Else-is_ident_byte}
 
 -- all but the byte behind is read
-edge : (c : At-else-is_ident_byte) →
+edge : (c : goal.Else-is_ident_byte) →
     word_here is_ident (ascii "RAISE") c.args.before (drop c.args.i (marked c.args.text.now c.args.map.now)) ≡ not (is_ident (get_or c.args.text.now (c.args.i + 5) 0))
 edge c =
     word_edge is_ident (ascii "RAISE") c.args.text.now c.args.map.now c.args.before c.args.i _ c.requires c.byte_at.ensures c.if-byte_at-eq0.true _ c.starts_ignoring_case.ensures c.if-starts_ignoring_case.true (sym c.is_ident_byte.ensures ∙ c.if-is_ident_byte.false)
@@ -27,10 +22,10 @@ returns-then-is_ident_byte c =
     sym (word_joined is_ident (ascii "RAISE") c.args.text.now c.args.map.now c.args.before c.args.i _ c.requires c.byte_at.ensures c.if-byte_at-eq0.true _ c.starts_ignoring_case.ensures c.if-starts_ignoring_case.true (sym c.is_ident_byte.ensures ∙ c.if-is_ident_byte.true))
 
 pub returns-then-is_ident_byte-2 : goal.returns-then-is_ident_byte-2
-returns-then-is_ident_byte-2 c = sym (edge c.before.before.before.before ∙ ap not (ap is_ident (sym c.byte_at-else-is_ident_byte.ensures) ∙ (sym c.is_ident_byte-else-is_ident_byte.ensures ∙ c.if-is_ident_byte-2.true)))
+returns-then-is_ident_byte-2 c = sym (edge (goal.at.returns-then-is_ident_byte-2 c).Else-is_ident_byte ∙ ap not (ap is_ident (sym c.byte_at-else-is_ident_byte.ensures) ∙ (sym c.is_ident_byte-else-is_ident_byte.ensures ∙ c.if-is_ident_byte-2.true)))
 
 pub returns-else-is_ident_byte-2 : goal.returns-else-is_ident_byte-2
-returns-else-is_ident_byte-2 c = sym (edge c.before.before.before.before ∙ ap not (ap is_ident (sym c.byte_at-else-is_ident_byte.ensures) ∙ (sym c.is_ident_byte-else-is_ident_byte.ensures ∙ c.if-is_ident_byte-2.false)))
+returns-else-is_ident_byte-2 c = sym (edge (goal.at.returns-else-is_ident_byte-2 c).Else-is_ident_byte ∙ ap not (ap is_ident (sym c.byte_at-else-is_ident_byte.ensures) ∙ (sym c.is_ident_byte-else-is_ident_byte.ensures ∙ c.if-is_ident_byte-2.false)))
 
 pub returns-else-starts_ignoring_case : goal.returns-else-starts_ignoring_case
 returns-else-starts_ignoring_case c =

@@ -10,25 +10,20 @@ use Rattle.spec.specs.Declarations.{body_from}
 use Rattle.spec.proofs.MapLaws.{marked_length}
 use Rattle.spec.proofs.WalkLaws.{first_within}
 use Rattle.declarations.proofs.body_start.Goals as goal
-use Rattle.declarations.proofs.body_start.Lts
-use Rattle.declarations.proofs.body_start.Tie
-use Rattle.declarations.proofs.body_start.Reads
-
-abbrev At-after-find_keyword_in-begin : Type 0
-At-after-find_keyword_in-begin = Lts.After-find_keyword_in Tie.the-claims Reads.Pre Reads.Post Tie.handed_clauses
+use Rattle.declarations.proofs.body_start.Goals.{After-find_keyword_in-begin}
 
 -- what the search found
-word : (c : At-after-find_keyword_in-begin) → c.find_keyword_in-begin.result ≡ first (keyword_here (ascii "BEGIN")) 0 (marked c.args.text.now c.args.map.now)
+word : (c : goal.After-find_keyword_in-begin) → c.find_keyword_in-begin.result ≡ first (keyword_here (ascii "BEGIN")) 0 (marked c.args.text.now c.args.map.now)
 unfolding is_empty
 word c = c.find_keyword_in-begin.ensures
 
 pub returns-in_default : goal.returns-in_default
 unfolding body_from
-returns-in_default c = record { text_value = rw (sym (word c.before.before.before) ∙ c.in_default.is) refl; upper_bound = omega arith }
+returns-in_default c = record { text_value = rw (sym (word (goal.at.returns-in_default c).After-find_keyword_in-begin) ∙ c.in_default.is) refl; upper_bound = omega arith }
 
 pub returns : goal.returns
 unfolding body_from
 returns c =
     let a = c.args in
-    let e = sym (word c.before.before.before.before) ∙ c.in-At.is in
+    let e = sym (word (goal.at.returns c).After-find_keyword_in-begin) ∙ c.in-At.is in
     record { text_value = rw e refl; upper_bound = omega (arith, (first_within (keyword_here (ascii "BEGIN")) (marked a.text.now a.map.now) 0 c.in-At.b e).1, marked_length a.text.now a.map.now) }

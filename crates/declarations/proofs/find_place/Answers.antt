@@ -9,15 +9,10 @@ use Rattle.spec.specs.Bytes.{is_before}
 use Rattle.declarations.specs.Chain.{name_in}
 use Rattle.declarations.proofs.InsertLaws.{behind_other, walk_within, walk_ends, walk_stops, walk_held, walk_fewer}
 use Rattle.declarations.proofs.find_place.Goals as goal
-use Rattle.declarations.proofs.find_place.Lts
-use Rattle.declarations.proofs.find_place.Tie
-use Rattle.declarations.proofs.find_place.Reads
-
-abbrev At-after-comes_before : Type 0
-At-after-comes_before = Lts.After-comes_before Tie.the-claims Reads.Pre Reads.Post goal.the-invariant-loop-name goal.the-decreases-loop-name Tie.handed_clauses
+use Rattle.declarations.proofs.find_place.Goals.{After-comes_before}
 
 -- what is tested
-tested : (c : At-after-comes_before) →
+tested : (c : goal.After-comes_before) →
     c.comes_before.result ≡ is_before (name_in c.args.text.now c.args.records.now c.number-next.result) (name_in c.args.text.now c.args.records.now c.args.k)
 tested c = c.comes_before.ensures ∙ rw (c.name_of-there.ensures, c.name_of-name.ensures) refl
 
@@ -46,9 +41,9 @@ pub loop-name-preserved : goal.loop-name-preserved
 loop-name-preserved c =
     let a = c.args in
     let n = name_in a.text.now a.records.now in
-    (walk_held n a.records.now a.count a.k c.loop-name.p c.number-next.result c.requires.chained c.loop-name.invariant.0 c.loop-name.invariant.1 c.number-next.ensures.value c.if-next-eq0.false, behind_other n c.number-next.result a.k c.if-next-eq0.false ∙ (sym (tested c.before.before) ∙ c.if-comes_before.true))
+    (walk_held n a.records.now a.count a.k c.loop-name.p c.number-next.result c.requires.chained c.loop-name.invariant.0 c.loop-name.invariant.1 c.number-next.ensures.value c.if-next-eq0.false, behind_other n c.number-next.result a.k c.if-next-eq0.false ∙ (sym (tested (goal.at.loop-name-preserved c).After-comes_before) ∙ c.if-comes_before.true))
 
 pub returns-else-comes_before : goal.returns-else-comes_before
 returns-else-comes_before c =
     let a = c.args in
-    walk_stops (name_in a.text.now a.records.now) a.records.now a.count a.k c.loop-name.p c.number-next.result c.requires.chained c.loop-name.invariant.0 c.loop-name.invariant.1 c.number-next.ensures.value (sym (tested c.before.before) ∙ c.if-comes_before.false)
+    walk_stops (name_in a.text.now a.records.now) a.records.now a.count a.k c.loop-name.p c.number-next.result c.requires.chained c.loop-name.invariant.0 c.loop-name.invariant.1 c.number-next.ensures.value (sym (tested (goal.at.returns-else-comes_before c).After-comes_before) ∙ c.if-comes_before.false)

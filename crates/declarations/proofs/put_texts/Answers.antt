@@ -9,60 +9,49 @@ use Rattle.declared_parts.proofs.SpacedLaws.{spaced_le}
 use Rattle.declared_parts.proofs.BetweenLaws.{piece_le}
 use Rattle.declarations.proofs.WriteLaws.{name_le, texts}
 use Rattle.declarations.proofs.put_texts.Goals as goal
-use Rattle.declarations.proofs.put_texts.Lts
-use Rattle.declarations.proofs.put_texts.Tie
-use Rattle.declarations.proofs.put_texts.Reads
-
-abbrev At-start : Type 0
-At-start = Lts.Start Tie.the-claims Reads.Pre Reads.Post Tie.handed_clauses
-
-abbrev At-after-name_of : Type 0
-At-after-name_of = Lts.After-name_of Tie.the-claims Reads.Pre Reads.Post Tie.handed_clauses
-
-abbrev At-after-piece-kind : Type 0
-At-after-piece-kind = Lts.After-piece Tie.the-claims Reads.Pre Reads.Post Tie.handed_clauses
-
-abbrev At-after-piece-value : Type 0
-At-after-piece-value = Lts.After-piece2 Tie.the-claims Reads.Pre Reads.Post Tie.handed_clauses
+use Rattle.declarations.proofs.put_texts.Goals.{Start, After-name_of, After-piece-kind, After-piece-value}
 
 -- what is known at the start
-known : (c : At-start) → (c.args.k ≤ 512) × (length c.args.text.now ≤ 65536) × (5130 ≤ length c.args.records.now) × (c.args.n ≤ 65536)
+known : (c : goal.Start) → (c.args.k ≤ 512) × (length c.args.text.now ≤ 65536) × (5130 ≤ length c.args.records.now) × (c.args.n ≤ 65536)
 known c = (c.requires.k_bound, c.requires.text_len_bound, c.requires.in_bounds, c.requires.n_bound)
 
 -- the texts are not longer than the section
-name-short : (c : At-after-name_of) → length c.name_of.result.now ≤ 65536
+name-short : (c : goal.After-name_of) → length c.name_of.result.now ≤ 65536
 name-short c =
-    let k = known c.before.before.before.before.before.before.before.before.before.before.before in
+    let known : (c.args.k ≤ 512) × (length c.args.text.now ≤ 65536) × (5130 ≤ length c.args.records.now) × (c.args.n ≤ 65536) = (c.requires.k_bound, c.requires.text_len_bound, c.requires.in_bounds, c.requires.n_bound) in
+    let k = known in
     omega (arith, k.1, name_le c.args.text.now c.args.records.now c.args.k, ap length c.name_of.ensures)
 
-kind-short : (c : At-after-piece-kind) → length c.piece-kind.result.now ≤ 65536
+kind-short : (c : goal.After-piece-kind) → length c.piece-kind.result.now ≤ 65536
 kind-short c =
-    let k = known c.before.before.before.before.before.before in
+    let known : (c.args.k ≤ 512) × (length c.args.text.now ≤ 65536) × (5130 ≤ length c.args.records.now) × (c.args.n ≤ 65536) = (c.requires.k_bound, c.requires.text_len_bound, c.requires.in_bounds, c.requires.n_bound) in
+    let k = known in
     omega (arith, k.1, piece_le c.args.text.now c.number.result c.number-2.result, ap length c.piece-kind.ensures)
 
-value-short : (c : At-after-piece-value) → length c.piece-value.result.now ≤ 65536
+value-short : (c : goal.After-piece-value) → length c.piece-value.result.now ≤ 65536
 value-short c =
-    let k = known c.before.before.before.before.before.before.before.before.before in
+    let known : (c.args.k ≤ 512) × (length c.args.text.now ≤ 65536) × (5130 ≤ length c.args.records.now) × (c.args.n ≤ 65536) = (c.requires.k_bound, c.requires.text_len_bound, c.requires.in_bounds, c.requires.n_bound) in
+    let k = known in
     omega (arith, k.1, piece_le c.args.text.now c.number-3.result c.number-4.result, ap length c.piece-value.ensures)
 
 pub put_all-name_end-requires : goal.put_all-name_end-requires
 put_all-name_end-requires c =
-    let k = known c.before.before.before.before.before.before.before.before.before.before.before.before in
-    omega (arith, k.3, name-short c.before)
+    let k = known (goal.at.put_all-name_end-requires c).Start in
+    omega (arith, k.3, name-short c)
 
 pub put_spaced-kind_end-requires : goal.put_spaced-kind_end-requires
 put_spaced-kind_end-requires c =
-    let k = known c.before.before.before.before.before.before.before.before.before.before.before.before.before.before.before.before in
-    omega (arith, k.3, name-short c.before.before.before.before.before, kind-short c.before.before.before.before.before.before.before.before.before.before, c.put_all-name_end.ensures.value)
+    let k = known (goal.at.put_spaced-kind_end-requires c).Start in
+    omega (arith, k.3, name-short (goal.at.put_spaced-kind_end-requires c).After-name_of, kind-short (goal.at.put_spaced-kind_end-requires c).After-piece-kind, c.put_all-name_end.ensures.value)
 
 pub number-requires-5 : goal.number-requires-5
 number-requires-5 c =
-    let k = known c.before.before.before.before.before.before.before.before.before.before.before.before.before.before.before.before.before.before.before.before in record { k_bound = k.0; j_bound = omega arith; in_bounds = k.2 }
+    let k = known (goal.at.number-requires-5 c).Start in record { k_bound = k.0; j_bound = omega arith; in_bounds = k.2 }
 
 pub put_value-end-requires : goal.put_value-end-requires
 put_value-end-requires c =
-    let k = known c.before.before.before.before.before.before.before.before.before.before.before.before.before.before.before.before.before.before.before.before.before in
-    omega (arith, k.3, name-short c.before.before.before.before.before.before.before.before.before.before, kind-short c.before.before.before.before.before.before.before.before.before.before.before.before.before.before.before, value-short c.before.before.before.before.before.before.before.before.before.before.before.before, c.put_all-name_end.ensures.value, c.put_spaced-kind_end.ensures.value, spaced_le false c.piece-kind.result.now)
+    let k = known (goal.at.put_value-end-requires c).Start in
+    omega (arith, k.3, name-short (goal.at.put_value-end-requires c).After-name_of, kind-short (goal.at.put_value-end-requires c).After-piece-kind, value-short (goal.at.put_value-end-requires c).After-piece-value, c.put_all-name_end.ensures.value, c.put_spaced-kind_end.ensures.value, spaced_le false c.piece-kind.result.now)
 
 pub returns : goal.returns
 returns c =

@@ -12,15 +12,7 @@ use Rattle.spec.specs.Declarations.{packed_record}
 use Rattle.declared_records.specs.Held.{record_in}
 use Rattle.declarations.proofs.WriteLaws.{Ordered, ordered, numbers}
 use Rattle.declarations.proofs.write_record.Goals as goal
-use Rattle.declarations.proofs.write_record.Lts
-use Rattle.declarations.proofs.write_record.Tie
-use Rattle.declarations.proofs.write_record.Reads
-
-abbrev At-after-put_texts-ends : Type 0
-At-after-put_texts-ends = Lts.After-put_texts Tie.the-claims Reads.Pre Reads.Post Tie.handed_clauses
-
-abbrev At-start : Type 0
-At-start = Lts.Start Tie.the-claims Reads.Pre Reads.Post Tie.handed_clauses
+use Rattle.declarations.proofs.write_record.Goals.{After-put_texts-ends, Start}
 
 -- where the function starts, seen from behind the texts
 abbrev start : tie.After-put-texts → tie.Start
@@ -30,14 +22,14 @@ start c =
     at_constant.before.before.before.before.before.before
 
 -- the ends in their order, the last within the bound
-ends : (c : At-after-put_texts-ends) →
+ends : (c : goal.After-put_texts-ends) →
     let a = (start c).args in
     Ordered a.text.now a.records.now a.k a.n c.put_texts-ends.result
 ends c =
     let a = (start c).args in
     ordered a.text.now a.records.now a.k a.n c.put_texts-ends.result c.put_texts-ends.ensures.value
 
-small : (c : At-start) → c.args.n + length (packed_record (record_in c.args.text.now c.args.records.now c.args.k)) ≤ 65536
+small : (c : goal.Start) → c.args.n + length (packed_record (record_in c.args.text.now c.args.records.now c.args.k)) ≤ 65536
 small c = c.requires.k_bound_2
 
 -- each end within the bound
@@ -47,7 +39,7 @@ record Small (c : tie.After-put-texts) : Type 0 where
   value : c.put-texts.result.value ≤ 65536
   from : (start c).args.n ≤ 65536
 
-within : (c : At-after-put_texts-ends) → Small c
+within : (c : goal.After-put_texts-ends) → Small c
 within c =
     let o = ends c in
     let s = small (start c) in
@@ -59,30 +51,30 @@ within c =
     }
 
 pub overflow_sub-name_len : goal.overflow_sub-name_len
-overflow_sub-name_len c = (ends c.before.before.before.before.before.before).first
+overflow_sub-name_len c = (ends (goal.at.overflow_sub-name_len c).After-put_texts-ends).first
 
 pub overflow_sub-kind_len : goal.overflow_sub-kind_len
-overflow_sub-kind_len c = (ends c.before.before.before.before.before.before.before).second
+overflow_sub-kind_len c = (ends (goal.at.overflow_sub-kind_len c).After-put_texts-ends).second
 
 pub overflow_sub-value_len : goal.overflow_sub-value_len
 overflow_sub-value_len c =
-    (ends c.before.before.before.before.before.before.before.before).third
+    (ends (goal.at.overflow_sub-value_len c).After-put_texts-ends).third
 
 pub overflow_cast-n : goal.overflow_cast-n
 overflow_cast-n c =
-    omega (arith, (within c.before.before.before.before.before.before.before.before.before).from)
+    omega (arith, (within (goal.at.overflow_cast-n c).After-put_texts-ends).from)
 
 pub overflow_cast-name_len : goal.overflow_cast-name_len
 overflow_cast-name_len c =
-    omega (arith, (within c.before.before.before.before.before.before.before.before.before).name)
+    omega (arith, (within (goal.at.overflow_cast-name_len c).After-put_texts-ends).name)
 
 pub overflow_cast-ends : goal.overflow_cast-ends
 overflow_cast-ends c =
-    omega (arith, (within c.before.before.before.before.before.before.before.before.before.before).name)
+    omega (arith, (within (goal.at.overflow_cast-ends c).After-put_texts-ends).name)
 
 pub overflow_cast-kind_len : goal.overflow_cast-kind_len
 overflow_cast-kind_len c =
-    omega (arith, (within c.before.before.before.before.before.before.before.before.before.before).kind)
+    omega (arith, (within (goal.at.overflow_cast-kind_len c).After-put_texts-ends).kind)
 
 pub overflow_cast-flag : goal.overflow_cast-flag
 overflow_cast-flag c =
@@ -93,11 +85,11 @@ pub overflow_cast-value_at : goal.overflow_cast-value_at
 overflow_cast-value_at c =
     let present = c.number-present.result in
     let at = c.put_texts-ends.result.kind in
-    omega (arith, c.if_present-value_at.ensures, cond_le (eqb present 0) 0 at 65536 (omega arith) (within c.before.before.before.before.before.before.before.before.before.before).kind)
+    omega (arith, c.if_present-value_at.ensures, cond_le (eqb present 0) 0 at 65536 (omega arith) (within (goal.at.overflow_cast-value_at c).After-put_texts-ends).kind)
 
 pub overflow_cast-value_len : goal.overflow_cast-value_len
 overflow_cast-value_len c =
-    omega (arith, (within c.before.before.before.before.before.before.before.before.before.before).value)
+    omega (arith, (within (goal.at.overflow_cast-value_len c).After-put_texts-ends).value)
 
 pub put_numbers-requires : goal.put_numbers-requires
 put_numbers-requires c =
@@ -113,4 +105,4 @@ returns c =
     c.if_present-value_at.result c.mark_of-constant.result c.mark_of-not_null.result e c.number-present.ensures.value
     c.put_texts-ends.ensures.value c.if_present-flag.ensures c.if_present-value_at.ensures
     c.mark_of-constant.ensures c.mark_of-not_null.ensures in
-    record { value = (ends c.before.before.before.before.before.before.before.before.before.before.before.before.before).last; declared_after = c.put_texts-ends.ensures.declared_after; records_after = c.put_numbers.ensures ∙ ap (λ (l : List ℕ). sets a.records.now (10 * a.k) (get_or a.records.now (10 * a.k) 0 ∷ l)) n }
+    record { value = (ends (goal.at.returns c).After-put_texts-ends).last; declared_after = c.put_texts-ends.ensures.declared_after; records_after = c.put_numbers.ensures ∙ ap (λ (l : List ℕ). sets a.records.now (10 * a.k) (get_or a.records.now (10 * a.k) 0 ∷ l)) n }

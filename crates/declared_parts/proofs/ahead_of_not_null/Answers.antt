@@ -9,22 +9,14 @@ use lib.Seq.{length-take-le}
 use Rattle.declared_parts.proofs.TypePlaceLaws.{type_by}
 use Rattle.declared_parts.specs.DeclaredParts.{last_word, type_len}
 use Rattle.declared_parts.proofs.ahead_of_not_null.Goals as goal
-use Rattle.declared_parts.proofs.ahead_of_not_null.Lts
-use Rattle.declared_parts.proofs.ahead_of_not_null.Tie
-use Rattle.declared_parts.proofs.ahead_of_not_null.Reads
-
-abbrev At-after-last_word-last : Type 0
-At-after-last_word-last = Lts.After-last_word Tie.the-claims Reads.Pre Reads.Post Tie.handed_clauses
-
-abbrev At-after-is_text-then-is_text : Type 0
-At-after-is_text-then-is_text = Lts.After-is_text2 Tie.the-claims Reads.Pre Reads.Post Tie.handed_clauses
+use Rattle.declared_parts.proofs.ahead_of_not_null.Goals.{After-last_word-last, After-is_text-then-is_text}
 
 -- the last word starts within the text
-from-inside : (c : At-after-last_word-last) → c.last_word-last.result.from ≤ length c.args.text.now
+from-inside : (c : goal.After-last_word-last) → c.last_word-last.result.from ≤ length c.args.text.now
 from-inside c = omega (arith, c.last_word-last.ensures.from_le_to.0, c.last_word-last.ensures.from_le_to.1)
 
 -- where the last word is NULL, the test of the word ahead of it decides
-by-not : (c : At-after-is_text-then-is_text) →
+by-not : (c : goal.After-is_text-then-is_text) →
     let xs = c.args.text.now in
     type_len xs ≡ cond c.is_text-then-is_text.result c.last_word-second.result.from (length xs)
 by-not c =
@@ -37,17 +29,17 @@ by-not c =
 pub slice_bounds-front-end : goal.slice_bounds-front-end
 slice_bounds-front-end c =
     let xs = c.args.text.now in
-    sym (length-take-le c.last_word-last.result.from xs (from-inside c.before.before.before.before.before.before))
+    sym (length-take-le c.last_word-last.result.from xs (from-inside (goal.at.slice_bounds-front-end c).After-last_word-last))
 
 pub returns-then-is_text-2 : goal.returns-then-is_text-2
 returns-then-is_text-2 c =
     let m = c.last_word-second in
-    let inside = from-inside c.before.before.before.before.before.before.before.before.before.before.before in
+    let inside = from-inside (goal.at.returns-then-is_text-2 c).After-last_word-last in
     let front = length-take-le c.last_word-last.result.from c.args.text.now inside in
-    record { value = sym (by-not c.before.before ∙ rw c.if-is_text-2.true refl); upper_bound = omega (arith, m.ensures.from_le_to.0, m.ensures.from_le_to.1, front, inside) }
+    record { value = sym (by-not (goal.at.returns-then-is_text-2 c).After-is_text-then-is_text ∙ rw c.if-is_text-2.true refl); upper_bound = omega (arith, m.ensures.from_le_to.0, m.ensures.from_le_to.1, front, inside) }
 
 pub returns-else-is_text-2 : goal.returns-else-is_text-2
-returns-else-is_text-2 c = record { value = sym (by-not c.before.before ∙ rw c.if-is_text-2.false refl); upper_bound = omega arith }
+returns-else-is_text-2 c = record { value = sym (by-not (goal.at.returns-else-is_text-2 c).After-is_text-then-is_text ∙ rw c.if-is_text-2.false refl); upper_bound = omega arith }
 
 pub returns-else-is_text : goal.returns-else-is_text
 returns-else-is_text c =

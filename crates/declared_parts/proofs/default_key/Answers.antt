@@ -1,6 +1,5 @@
 -- `declared_parts::default_key` meets its contract. Its tests are those of the definition, each by a law on the bytes and
 -- the map: another first byte, a quoted byte, then `:=`, a lone `=` and DEFAULT, and none of them. Assumes nothing.
-use borrow.Author.Tests.{not-true}
 use mathlib.Core.Path.{◌≡◌, sym, ◌∙◌}
 use Prim.Native.Nat.{◌-◌}
 use lib.ListN.{length, take, drop}
@@ -12,18 +11,10 @@ use Rattle.spec.proofs.MapLaws.{marked_bytes}
 use Rattle.spec.proofs.WalkLaws.{passes_at}
 use Rattle.declared_parts.proofs.DefaultCutLaws.{key_other, key_quoted, key_assign, key_equals, key_word, key_none}
 use Rattle.declared_parts.proofs.default_key.Goals as goal
-use Rattle.declared_parts.proofs.default_key.Lts
-use Rattle.declared_parts.proofs.default_key.Tie
-use Rattle.declared_parts.proofs.default_key.Reads
-
-abbrev At-after-starts_with : Type 0
-At-after-starts_with = Lts.After-starts_with Tie.the-claims Reads.Pre Reads.Post Tie.handed_clauses
-
-abbrev At-after-is_lone : Type 0
-At-after-is_lone = Lts.After-is_lone Tie.the-claims Reads.Pre Reads.Post Tie.handed_clauses
+use Rattle.declared_parts.proofs.default_key.Goals.{After-starts_with, After-is_lone}
 
 -- the answer about `:=`, of what stands from i on
-assigned : (c : At-after-starts_with) →
+assigned : (c : goal.After-starts_with) →
     let a = c.args in
     c.starts_with.result ≡ is_prefix (ascii ":=") (drop a.i a.text.now)
 assigned c =
@@ -33,7 +24,7 @@ assigned c =
     rw rest_of at h
 
 -- the answer about a lone `=`, of the text beside its map
-lone : (c : At-after-is_lone) →
+lone : (c : goal.After-is_lone) →
     let a = c.args in
     c.is_lone.result ≡ passes_at is_lone (marked a.text.now a.map.now) a.i
 lone c =
@@ -42,7 +33,7 @@ lone c =
 
 pub returns-then-not-starts_key : goal.returns-then-not-starts_key
 returns-then-not-starts_key c =
-    key_other _ c.args.map.now _ c.requires (sym c.starts_key.ensures ∙ not-true _ c.if-not-starts_key.true)
+    key_other _ c.args.map.now _ c.requires (sym c.starts_key.ensures ∙ c.if-not-starts_key.true
 
 pub returns-then-byte_at-ne0 : goal.returns-then-byte_at-ne0
 returns-then-byte_at-ne0 c =
@@ -50,11 +41,11 @@ returns-then-byte_at-ne0 c =
 
 pub returns-then-starts_with : goal.returns-then-starts_with
 returns-then-starts_with c =
-    key_assign _ _ _ c.requires _ c.byte_at.ensures c.if-byte_at-ne0.false (sym (assigned c.before.before) ∙ c.if-starts_with.true)
+    key_assign _ _ _ c.requires _ c.byte_at.ensures c.if-byte_at-ne0.false (sym (assigned (goal.at.returns-then-starts_with c).After-starts_with) ∙ c.if-starts_with.true)
 
 pub returns-then-is_lone : goal.returns-then-is_lone
 returns-then-is_lone c =
-    key_equals _ _ _ c.requires _ c.byte_at.ensures c.if-byte_at-ne0.false (sym (lone c.before.before) ∙ c.if-is_lone.true)
+    key_equals _ _ _ c.requires _ c.byte_at.ensures c.if-byte_at-ne0.false (sym (lone (goal.at.returns-then-is_lone c).After-is_lone) ∙ c.if-is_lone.true)
 
 pub returns-then-keyword_at : goal.returns-then-keyword_at
 returns-then-keyword_at c =
@@ -62,4 +53,4 @@ returns-then-keyword_at c =
 
 pub returns : goal.returns
 returns c =
-    key_none _ _ _ c.requires _ c.byte_at.ensures c.if-byte_at-ne0.false (sym (assigned c.before.before.before.before.before.before.before) ∙ c.if-starts_with.false) (sym (lone c.before.before.before.before.before) ∙ c.if-is_lone.false) (sym c.keyword_at.ensures ∙ c.if-keyword_at.false)
+    key_none _ _ _ c.requires _ c.byte_at.ensures c.if-byte_at-ne0.false (sym (assigned (goal.at.returns c).After-starts_with) ∙ c.if-starts_with.false) (sym (lone (goal.at.returns c).After-is_lone) ∙ c.if-is_lone.false) (sym c.keyword_at.ensures ∙ c.if-keyword_at.false)

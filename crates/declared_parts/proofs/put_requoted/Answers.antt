@@ -11,38 +11,32 @@ use Rattle.spec.specs.Declarations.{delimiter_of}
 use Rattle.runs.proofs.RunLaws.{end_le}
 use Rattle.declared_parts.proofs.WholeLaws.{delimiter_length, whole_long, whole_text, other_text}
 use Rattle.declared_parts.proofs.put_requoted.Goals as goal
-use Rattle.declared_parts.proofs.put_requoted.Lts
-use Rattle.declared_parts.proofs.put_requoted.Tie
-use Rattle.declared_parts.proofs.put_requoted.Reads
-
-abbrev At-after-run_end-d : Type 0
-At-after-run_end-d = Lts.After-run_end Tie.the-claims Reads.Pre Reads.Post Tie.handed_clauses
-
-abbrev At-then-is_whole : Type 0
-At-then-is_whole = Lts.Then1 Tie.the-claims Reads.Pre Reads.Post Tie.handed_clauses
+use Rattle.declared_parts.proofs.put_requoted.Goals.{After-run_end-d, Then-is_whole}
 
 -- the delimiter's length
-long : (c : At-after-run_end-d) → c.run_end-d.result + 1 ≡ length (delimiter_of c.args.text.now)
+long : (c : goal.After-run_end-d) → c.run_end-d.result + 1 ≡ length (delimiter_of c.args.text.now)
 long c = omega (arith, c.run_end-d.ensures.value, delimiter_length c.args.text.now)
 
 -- a whole default has two delimiters
-fits : (c : At-then-is_whole) → 2 * (c.run_end-d.result + 1) ≤ length c.args.text.now
-fits c = whole_long c.args.text.now (c.run_end-d.result + 1) (long c.before.before) (sym c.is_whole.ensures ∙ c.if-is_whole.true)
+fits : (c : goal.Then-is_whole) → 2 * (c.run_end-d.result + 1) ≤ length c.args.text.now
+fits c =
+    let long : c.run_end-d.result + 1 ≡ length (delimiter_of c.args.text.now) = omega (arith, c.run_end-d.ensures.value, delimiter_length c.args.text.now) in
+    whole_long c.args.text.now (c.run_end-d.result + 1) long (sym c.is_whole.ensures ∙ c.if-is_whole.true)
 
 pub overflow_add-d : goal.overflow_add-d
 overflow_add-d c = omega (arith, c.run_end-d.ensures.value, end_le is_ident c.args.text.now 1)
 
 pub is_whole-requires : goal.is_whole-requires
-is_whole-requires c = record { d_value = long c.before; text_bound = omega arith }
+is_whole-requires c = record { d_value = long c; text_bound = omega arith }
 
 pub overflow_sub-e : goal.overflow_sub-e
-overflow_sub-e c = omega (arith, fits c.before)
+overflow_sub-e c = omega (arith, fits c)
 
 pub slice_bounds-put_single_quoted-count : goal.slice_bounds-put_single_quoted-count
-slice_bounds-put_single_quoted-count c = omega (arith, fits c.before.before)
+slice_bounds-put_single_quoted-count c = omega (arith, fits (goal.at.slice_bounds-put_single_quoted-count c).Then-is_whole)
 
 pub slice_bounds-put_single_quoted-start : goal.slice_bounds-put_single_quoted-start
-slice_bounds-put_single_quoted-start c = omega (arith, fits c.before.before)
+slice_bounds-put_single_quoted-start c = omega (arith, fits (goal.at.slice_bounds-put_single_quoted-start c).Then-is_whole)
 
 pub put_single_quoted-requires : goal.put_single_quoted-requires
 put_single_quoted-requires c =
@@ -56,7 +50,7 @@ returns-then-is_whole c =
     let a = c.args in
     let d = c.run_end-d.result + 1 in
     let p = c.put_single_quoted in
-    let e = whole_text a.text.now d (long c.before.before.before.before.before.before.before.before) (sym c.is_whole.ensures ∙ c.if-is_whole.true) in
+    let e = whole_text a.text.now d (long (goal.at.returns-then-is_whole c).After-run_end-d) (sym c.is_whole.ensures ∙ c.if-is_whole.true) in
     let counted : p.result ≡ a.n + length (single_quoted (take (length a.text.now - d - d) (drop d a.text.now))) = p.ensures.value in
     let stored : p.new.out ≡ sets a.out.now a.n (single_quoted (take (length a.text.now - d - d) (drop d a.text.now))) = p.ensures.out_after in
     record { value = rw e counted; out_after = rw e stored }
@@ -66,5 +60,5 @@ returns-else-is_whole c =
     let a = c.args in
     let d = c.run_end-d.result + 1 in
     let p = c.put_all in
-    let e = other_text a.text.now d (long c.before.before.before.before.before.before.before) (sym c.is_whole.ensures ∙ c.if-is_whole.false) in
+    let e = other_text a.text.now d (long (goal.at.returns-else-is_whole c).After-run_end-d) (sym c.is_whole.ensures ∙ c.if-is_whole.false) in
     record { value = rw e p.ensures.value; out_after = rw e p.ensures.out_after }

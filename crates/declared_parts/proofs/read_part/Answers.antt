@@ -9,18 +9,10 @@ use Rattle.spec.specs.Parts.{part}
 use Rattle.declared_parts.proofs.BetweenLaws.{between_length}
 use Rattle.declared_parts.proofs.ReadLaws.{part_read}
 use Rattle.declared_parts.proofs.read_part.Goals as goal
-use Rattle.declared_parts.proofs.read_part.Lts
-use Rattle.declared_parts.proofs.read_part.Tie
-use Rattle.declared_parts.proofs.read_part.Reads
-
-abbrev At-after-find_default-cut : Type 0
-At-after-find_default-cut = Lts.After-find_default Tie.the-claims Reads.Pre Reads.Post Tie.handed_clauses
-
-abbrev At-after-read_type-kind : Type 0
-At-after-read_type-kind = Lts.After-read_type Tie.the-claims Reads.Pre Reads.Post Tie.handed_clauses
+use Rattle.declared_parts.proofs.read_part.Goals.{After-find_default-cut, After-read_type-kind}
 
 -- the cut is within the trimmed part
-inside : (c : At-after-find_default-cut) → c.run_end_between-start.result + c.find_default-cut.result.rest ≤ c.trim_end-end.result
+inside : (c : goal.After-find_default-cut) → c.run_end_between-start.result + c.find_default-cut.result.rest ≤ c.trim_end-end.result
 inside c =
     let xs = c.args.text.now in
     let s = c.run_end_between-start.result in
@@ -29,20 +21,25 @@ inside c =
     omega (arith, h, between_length xs s e c.trim_end-end.ensures.lower_bound.0 (omega arith))
 
 -- the type's words are within what stands ahead of the default
-type-inside : (c : At-after-read_type-kind) →
+type-inside : (c : goal.After-read_type-kind) →
     c.run_end_between-name_end.result + c.read_type-kind.result.to ≤ c.run_end_between-start.result + c.find_default-cut.result.head
 type-inside c =
+    let inside : c.run_end_between-start.result + c.find_default-cut.result.rest ≤ c.trim_end-end.result = let xs = c.args.text.now in
+        let s = c.run_end_between-start.result in
+        let e = c.trim_end-end.result in
+        let h : c.find_default-cut.result.rest ≤ length (part s e xs) = c.find_default-cut.ensures.head_le_rest.1 in
+        omega (arith, h, between_length xs s e c.trim_end-end.ensures.lower_bound.0 (omega arith)) in
     let a = c.run_end_between-name_end.result in
     let b = c.run_end_between-start.result + c.find_default-cut.result.head in
     let xs = c.args.text.now in
     let h : c.read_type-kind.result.to ≤ length (part a b xs) = c.read_type-kind.ensures.from_le_to.1 in
     let low = c.run_end_between-name_end.ensures.lower_bound.1 in
-    let within : b ≤ length xs = omega (arith, inside c.before.before.before.before.before, c.find_default-cut.ensures.head_le_rest.0, c.trim_end-end.ensures.lower_bound.1, c.requires.1) in
+    let within : b ≤ length xs = omega (arith, inside, c.find_default-cut.ensures.head_le_rest.0, c.trim_end-end.ensures.lower_bound.1, c.requires.1) in
     omega (arith, h, between_length xs a b low within, low)
 
 pub run_end_between-value-requires : goal.run_end_between-value-requires
 run_end_between-value-requires c =
-    record { from_le_to = inside c.before.before.before.before.before.before.before; to_in_bounds = omega (arith, c.trim_end-end.ensures.lower_bound.1, c.requires.1) }
+    record { from_le_to = inside (goal.at.run_end_between-value-requires c).After-find_default-cut; to_in_bounds = omega (arith, c.trim_end-end.ensures.lower_bound.1, c.requires.1) }
 
 pub trim_end-value_end-requires : goal.trim_end-value_end-requires
 trim_end-value_end-requires c =
@@ -50,12 +47,12 @@ trim_end-value_end-requires c =
 
 pub overflow_add-result : goal.overflow_add-result
 overflow_add-result c =
-    omega (arith, type-inside c.before.before.before.before.before, c.read_type-kind.ensures.from_le_to.0, inside c.before.before.before.before.before.before.before.before.before.before, c.find_default-cut.ensures.head_le_rest.0, c.trim_end-end.ensures.lower_bound.1, c.requires.1)
+    omega (arith, type-inside (goal.at.overflow_add-result c).After-read_type-kind, c.read_type-kind.ensures.from_le_to.0, inside (goal.at.overflow_add-result c).After-find_default-cut, c.find_default-cut.ensures.head_le_rest.0, c.trim_end-end.ensures.lower_bound.1, c.requires.1)
 
 pub returns : goal.returns
 returns c =
     let a = c.args in
-    let f = inside c.before.before.before.before.before.before.before.before.before.before.before in
+    let f = inside (goal.at.returns c).After-find_default-cut in
     let f₁ = c.trim_end-end.ensures.lower_bound.1 in
     let f₂ = c.requires.1 in
     let f₃ = c.run_end_between-name.ensures.lower_bound in
@@ -66,7 +63,7 @@ returns c =
     let n = c.run_end_between-name.result in
     let e = c.run_end_between-name_end.result in
     let q : n + (e - n) ≡ e = omega arith in
-    let k = type-inside c.before.before.before.before.before.before in
+    let k = type-inside (goal.at.returns c).After-read_type-kind in
     let g = c.find_default-cut.ensures.head_le_rest.0 in record { map_value = part_read a.text.now a.map.now a.from a.to c.run_end_between-start.result c.trim_end-end.result c.find_default-cut.result c.read_type-kind.result _ record {
         c.before.before.before.before.before.before.before.before.before.before.before.before.before.before.before = c.run_end_between-start.ensures.value;
         c.before.before.before.before.before.before.before.before.before.before.before.before.before.before = c.trim_end-end.ensures.value;

@@ -11,15 +11,10 @@ use Rattle.spec.proofs.MapLaws.{marked_length}
 use Rattle.spec.proofs.WalkLaws.{first_within}
 use Rattle.declared_records.proofs.GatherLaws.{within_more, gathered_start, gathered_last, gathered_over, gathered_next}
 use Rattle.declared_records.proofs.gather.Goals as goal
-use Rattle.declared_records.proofs.gather.Lts
-use Rattle.declared_records.proofs.gather.Tie
-use Rattle.declared_records.proofs.gather.Reads
-
-abbrev At-in-At-2 : Type 0
-At-in-At-2 = Lts.After-found Tie.the-claims Reads.Pre Reads.Post goal.the-invariant-loop-end goal.the-decreases-loop-end Tie.handed_clauses
+use Rattle.declared_records.proofs.gather.Goals.{In-At}
 
 -- the next `;` stands within the text
-inside : (c : At-in-At-2) →
+inside : (c : goal.In-At) →
     (c.loop-end.at ≤ c.in-At.end) × (c.in-At.end < length c.args.text.now)
 inside c =
     let xs = c.args.text.now in
@@ -46,7 +41,7 @@ returns-in_default c =
 
 pub read_part-p-requires : goal.read_part-p-requires
 read_part-p-requires c =
-    let w = inside c.before.before in
+    let w = inside c in
     record { from_le_to = w.0; to_in_bounds = omega arith; text_in_bounds = omega arith }
 
 pub add_part-count-requires : goal.add_part-count-requires
@@ -65,15 +60,15 @@ returns-then-count-gt-RECORD_LIMIT c =
 
 pub overflow_add-at : goal.overflow_add-at
 overflow_add-at c =
-    let w = inside c.before.before.before.before.before.before.before.before in omega arith
+    let w = inside (goal.at.overflow_add-at c).In-At in omega arith
 
 pub loop-end-smaller : goal.loop-end-smaller
 loop-end-smaller c =
-    let w = inside c.before.before.before.before.before.before.before.before in omega arith
+    let w = inside (goal.at.loop-end-smaller c).In-At in omega arith
 
 pub loop-end-preserved : goal.loop-end-preserved
 loop-end-preserved c =
     let a = c.args in
     let l = c.loop-end in
-    let w = inside c.before.before.before.before.before.before.before.before in
+    let w = inside (goal.at.loop-end-preserved c).In-At in
     (omega arith, omega arith, c.add_part-count.auto.records ∙ l.invariant.2, gathered_next a.text.now a.map.now l.at l.records l.count c.read_part-p.result _ _ c.add_part-count.ensures l.invariant.3 c.in-At.end (sym c.find_byte_in-found.ensures ∙ c.in-At.is) c.read_part-p.ensures.map_value (omega arith), c.add_part-count.ensures.behind ∙ l.invariant.4, c.add_part-count.ensures.hashed (omega arith))

@@ -3,12 +3,7 @@
 use Rattle.declared_parts.specs.DeclaredParts.{part_numbers, Within}
 use native.Mathlib.Omega.{arith}
 use Rattle.declared_records.proofs.put_part.Goals as goal
-use Rattle.declared_records.proofs.put_part.Lts
-use Rattle.declared_records.proofs.put_part.Tie
-use Rattle.declared_records.proofs.put_part.Reads
-
-abbrev At-after-struct_known-5-1 : Type 0
-At-after-struct_known-5-1 = Lts.After-struct_known5 Tie.the-claims Reads.Pre Reads.Post Tie.handed_clauses
+use Rattle.declared_records.proofs.put_part.Goals.{After-struct_known-5-1}
 
 -- where the function starts, seen from behind the value's offset
 abbrev start : tie.After-struct-known5 → tie.Start
@@ -17,17 +12,17 @@ start c =
     first.before.before.before
 
 -- what is asked of the part
-part-within : (c : At-after-struct_known-5-1) → Within 65536 (start c).args.p
+part-within : (c : goal.After-struct_known-5-1) → Within 65536 (start c).args.p
 part-within c = (start c).requires.1.1.1
 
 pub overflow_cast-p-7 : goal.overflow_cast-p-7
-overflow_cast-p-7 c = omega (arith, (part-within c.before.before.before).value_len)
+overflow_cast-p-7 c = omega (arith, (part-within (goal.at.overflow_cast-p-7 c).After-struct_known-5-1).value_len)
 
 pub overflow_cast-p-8 : goal.overflow_cast-p-8
-overflow_cast-p-8 c = omega (arith, (part-within c.before.before.before.before).constant)
+overflow_cast-p-8 c = omega (arith, (part-within (goal.at.overflow_cast-p-8 c).After-struct_known-5-1).constant)
 
 pub overflow_cast-p-9 : goal.overflow_cast-p-9
-overflow_cast-p-9 c = omega (arith, (part-within c.before.before.before.before.before).not_null)
+overflow_cast-p-9 c = omega (arith, (part-within (goal.at.overflow_cast-p-9 c).After-struct_known-5-1).not_null)
 
 pub put_numbers-requires : goal.put_numbers-requires
 put_numbers-requires c =

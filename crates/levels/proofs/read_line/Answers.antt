@@ -13,67 +13,71 @@ use Rattle.levels.specs.declared.LineRead.TheVariants.{Line}
 use Rattle.levels.proofs.AheadLaws.{level_found_lem, level_missing, action_found_lem, action_missing, line_length, line_no_level, level_fits, line_no_action, line_whole}
 use borrow.Author.Rules.{rules}
 use Rattle.levels.proofs.read_line.Goals as goal
-use Rattle.levels.proofs.read_line.Lts
-use Rattle.levels.proofs.read_line.Tie
-use Rattle.levels.proofs.read_line.Reads
-
-abbrev At-in-Level-2 : Type 0
-At-in-Level-2 = Lts.After-l Tie.the-claims Reads.Pre Reads.Post
-
-abbrev At-after-action_ahead-a : Type 0
-At-after-action_ahead-a = Lts.After-action_ahead Tie.the-claims Reads.Pre Reads.Post
-
-abbrev At-in-Action-2 : Type 0
-At-in-Action-2 = Lts.After-a Tie.the-claims Reads.Pre Reads.Post
+use Rattle.levels.proofs.read_line.Goals.{In-Level, After-action_ahead-a, In-Action}
 
 -- the level in front, and where it ends
-levelled : (c : At-in-Level-2) →
+levelled : (c : goal.In-Level) →
     let xs = c.args.text.now in
     let level = c.in-Level.level in
     (ahead level_text all_levels xs ≡ some level) × (c.in-Level.end ≡ length (level_text level))
 levelled c = level_found_lem _ _ _ (sym c.level_ahead-l.ensures ∙ c.in-Level.is)
 
-within : (c : At-in-Level-2) → c.in-Level.end ≤ length c.args.text.now
+within : (c : goal.In-Level) → c.in-Level.end ≤ length c.args.text.now
 within c = omega (arith, (levelled c).1, level_fits _ _ (levelled c).0)
 
 -- what is said of the text behind the level
-behind : (c : At-after-action_ahead-a) →
+behind : (c : goal.After-action_ahead-a) →
     c.action_ahead-a.result ≡ action_ahead (drop (length (level_text c.in-Level.level)) c.args.text.now)
 behind c =
+    let levelled : let xs = c.args.text.now in
+    let level = c.in-Level.level in
+    (ahead level_text all_levels xs ≡ some level) × (c.in-Level.end ≡ length (level_text level)) = level_found_lem _ _ _ (sym c.level_ahead-l.ensures ∙ c.in-Level.is) in
     let xs = c.args.text.now in
     let end = c.in-Level.end in
     let h : c.action_ahead-a.result ≡ action_ahead (take (length xs - end) (drop end xs)) = c.action_ahead-a.ensures in
-    rw (rest_of, (levelled c.before.before.before).1) at h
+    rw (rest_of, levelled.1) at h
 
 -- the action behind it, and where that ends
-acted : (c : At-in-Action-2) →
+acted : (c : goal.In-Action) →
     let rest = drop (length (level_text c.in-Level.level)) c.args.text.now in
     let action = c.in-Action.action in
     (ahead action_text all_actions rest ≡ some action) × (c.in-Action.n ≡ length (action_text action))
-acted c = action_found_lem _ _ _ (sym (behind c.before.before) ∙ c.in-Action.is)
+acted c =
+    let behind : c.action_ahead-a.result ≡ action_ahead (drop (length (level_text c.in-Level.level)) c.args.text.now) = let levelled : let xs = c.args.text.now in
+        let level = c.in-Level.level in
+        (ahead level_text all_levels xs ≡ some level) × (c.in-Level.end ≡ length (level_text level)) = level_found_lem _ _ _ (sym c.level_ahead-l.ensures ∙ c.in-Level.is) in
+        let xs = c.args.text.now in
+        let end = c.in-Level.end in
+        let h : c.action_ahead-a.result ≡ action_ahead (take (length xs - end) (drop end xs)) = c.action_ahead-a.ensures in
+        rw (rest_of, levelled.1) at h in
+    action_found_lem _ _ _ (sym behind ∙ c.in-Action.is)
 
-size : (c : At-in-Action-2) →
+size : (c : goal.In-Action) →
     c.in-Level.end + c.in-Action.n ≡ length (line_text (entry c.in-Level.level c.in-Action.action))
-size c = omega (arith, (levelled c.before.before.before.before.before).1, (acted c).1, line_length c.in-Level.level c.in-Action.action)
+size c =
+    let levelled : let xs = c.args.text.now in
+    let level = c.in-Level.level in
+    (ahead level_text all_levels xs ≡ some level) × (c.in-Level.end ≡ length (level_text level)) = level_found_lem _ _ _ (sym c.level_ahead-l.ensures ∙ c.in-Level.is) in
+    omega (arith, levelled.1, (acted c).1, line_length c.in-Level.level c.in-Action.action)
 
 pub returns-in_default : goal.returns-in_default
 returns-in_default c = rw (line_no_level _ (level_missing _ (sym c.level_ahead-l.ensures ∙ c.in_default.is)))
 
 pub slice_bounds-action_ahead-count : goal.slice_bounds-action_ahead-count
-slice_bounds-action_ahead-count c = within c.before.before
+slice_bounds-action_ahead-count c = within c
 
 pub slice_bounds-action_ahead-start : goal.slice_bounds-action_ahead-start
-slice_bounds-action_ahead-start c = let h = within c.before.before in search rules
+slice_bounds-action_ahead-start c = let h = within c in search rules
 
 pub returns-in_default-a : goal.returns-in_default-a
 returns-in_default-a c =
-    rw (line_no_action _ _ (levelled c.before.before.before.before.before.before).0 (action_missing _ (sym (behind c.before.before.before) ∙ c.in_default-a.is)))
+    rw (line_no_action _ _ (levelled (goal.at.returns-in_default-a c).In-Level).0 (action_missing _ (sym (behind (goal.at.returns-in_default-a c).After-action_ahead-a) ∙ c.in_default-a.is)))
 
 pub overflow_add-result : goal.overflow_add-result
-overflow_add-result c = omega (arith, size c.before.before, text_size (entry c.in-Level.level c.in-Action.action))
+overflow_add-result c = omega (arith, size c, text_size (entry c.in-Level.level c.in-Action.action))
 
 pub returns : goal.returns
 returns c =
     let level = c.in-Level.level in
     let action = c.in-Action.action in
-    ap (λ (n : ℕ). Line level action n) (size c.before.before) ∙ ap line_found (sym (line_whole _ level (levelled c.before.before.before.before.before.before.before).0 action (acted c.before.before).0))
+    ap (λ (n : ℕ). Line level action n) (size c) ∙ ap line_found (sym (line_whole _ level (levelled (goal.at.returns c).In-Level).0 action (acted c).0))

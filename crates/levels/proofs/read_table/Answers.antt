@@ -15,21 +15,10 @@ use Rattle.levels.proofs.AheadLaws.{line_found_lem, line_missing}
 use Rattle.levels.proofs.GivenLaws.{given_by_lem, giving_by, completed_by, said_none, said_some}
 use Rattle.levels.proofs.TurnLaws.{says_from, says_start, says_end, says_malformed, line_fits, says_repeated, says_on}
 use Rattle.levels.proofs.read_table.Goals as goal
-use Rattle.levels.proofs.read_table.Lts
-use Rattle.levels.proofs.read_table.Tie
-use Rattle.levels.proofs.read_table.Reads
-
-abbrev At-after-read_line-line : Type 0
-At-after-read_line-line = Lts.After-read_line Tie.the-claims Reads.Pre Reads.Post goal.the-invariant-loop-at goal.the-decreases-loop-at
-
-abbrev At-in-Line-2 : Type 0
-At-in-Line-2 = Lts.After-line Tie.the-claims Reads.Pre Reads.Post goal.the-invariant-loop-at goal.the-decreases-loop-at
-
-abbrev At-after-given_action-before : Type 0
-At-after-given_action-before = Lts.After-given_action Tie.the-claims Reads.Pre Reads.Post goal.the-invariant-loop-at goal.the-decreases-loop-at
+use Rattle.levels.proofs.read_table.Goals.{After-read_line-line, In-Line, After-given_action-before}
 
 -- the line in front at the loop's offset
-ahead-read : (c : At-after-read_line-line) →
+ahead-read : (c : goal.After-read_line-line) →
     c.read_line-line.result ≡ line_ahead (drop c.loop-at.at c.args.table.now)
 ahead-read c =
     let xs = c.args.table.now in
@@ -38,20 +27,25 @@ ahead-read c =
     rw rest_of at h
 
 -- what it says, and its length
-lined : (c : At-in-Line-2) →
+lined : (c : goal.In-Line) →
     let e = entry c.in-Line.level c.in-Line.action in
     (ahead line_text all_entries (drop c.loop-at.at c.args.table.now) ≡ some e) × (c.in-Line.end ≡ length (line_text e))
-lined c = line_found_lem _ _ _ _ (sym (ahead-read c.before.before) ∙ c.in-Line.is)
+lined c =
+    let ahead-read : c.read_line-line.result ≡ line_ahead (drop c.loop-at.at c.args.table.now) = let xs = c.args.table.now in
+        let at = c.loop-at.at in
+        let h : c.read_line-line.result ≡ line_ahead (take (length xs - at) (drop at xs)) = c.read_line-line.ensures in
+        rw rest_of at h in
+    line_found_lem _ _ _ _ (sym ahead-read ∙ c.in-Line.is)
 
 -- the action that its level has by then
-had : (c : At-after-given_action-before) →
+had : (c : goal.After-given_action-before) →
     c.given_action-before.result ≡ said_by (given_action c.loop-at.invariant.0 c.in-Line.level)
 had c =
     let level = c.in-Line.level in
     c.given_action-before.ensures ∙ (ap (λ (g : GivenActions). given g level) c.loop-at.invariant.2 ∙ given_by_lem c.loop-at.invariant.0 level)
 
 -- the line stands within the table
-within : (c : At-in-Line-2) →
+within : (c : goal.In-Line) →
     c.loop-at.at + c.in-Line.end ≤ length c.args.table.now
 within c =
     let fits = line_fits _ c.loop-at.invariant.0 _ _ (lined c).0 c.loop-at.invariant.1 in
@@ -62,21 +56,21 @@ loop-at-init c = ([], omega arith, c.none_given-g.ensures, says_start c.args.tab
 
 pub returns-in_default : goal.returns-in_default
 returns-in_default c =
-    let malformed = line_missing _ (sym (ahead-read c.before.before.before) ∙ c.in_default.is) in
+    let malformed = line_missing _ (sym (ahead-read (goal.at.returns-in_default c).After-read_line-line) ∙ c.in_default.is) in
     sym (c.loop-at.invariant.3 ∙ says_malformed _ c.loop-at.invariant.0 _ c.loop-at-test.true malformed)
 
 pub returns-in_default-before : goal.returns-in_default-before
 returns-in_default-before c =
-    let action = said_some _ _ (sym (had c.before.before.before) ∙ c.in_default-before.is) in
-    sym (c.loop-at.invariant.3 ∙ says_repeated _ c.loop-at.invariant.0 _ _ (lined c.before.before.before.before.before).0 _ action)
+    let action = said_some _ _ (sym (had (goal.at.returns-in_default-before c).After-given_action-before) ∙ c.in_default-before.is) in
+    sym (c.loop-at.invariant.3 ∙ says_repeated _ c.loop-at.invariant.0 _ _ (lined (goal.at.returns-in_default-before c).In-Line).0 _ action)
 
 pub overflow_add-at : goal.overflow_add-at
-overflow_add-at c = let h = within c.before.before.before.before.before.before in omega arith
+overflow_add-at c = let h = within (goal.at.overflow_add-at c).In-Line in omega arith
 
 pub loop-at-smaller : goal.loop-at-smaller
 loop-at-smaller c =
-    let h = within c.before.before.before.before.before.before in
-    omega (arith, (lined c.before.before.before.before.before.before).1, text_size (entry c.in-Line.level c.in-Line.action))
+    let h = within (goal.at.loop-at-smaller c).In-Line in
+    omega (arith, (lined (goal.at.loop-at-smaller c).In-Line).1, text_size (entry c.in-Line.level c.in-Line.action))
 
 pub loop-at-preserved : goal.loop-at-preserved
 loop-at-preserved c =
@@ -84,10 +78,10 @@ loop-at-preserved c =
     let es = c.loop-at.invariant.0 in
     let level = c.in-Line.level in
     let action = c.in-Line.action in
-    let missing = said_none _ (sym (had c.before.before.before.before) ∙ c.in-Missing.is) in
-    let more = says_on xs es _ (entry level action) (lined c.before.before.before.before.before.before).0 missing in
-    let moved = ap (λ (n : ℕ). says_from xs (entry level action ∷ es) (c.loop-at.at + n)) (sym (lined c.before.before.before.before.before.before).1) in
-    (entry level action ∷ es, within c.before.before.before.before.before.before, c.give-g.ensures ∙ (ap (λ (g : GivenActions). giving g level action) c.loop-at.invariant.2 ∙ giving_by es level action), c.loop-at.invariant.3 ∙ (more ∙ moved))
+    let missing = said_none _ (sym (had (goal.at.loop-at-preserved c).After-given_action-before) ∙ c.in-Missing.is) in
+    let more = says_on xs es _ (entry level action) (lined (goal.at.loop-at-preserved c).In-Line).0 missing in
+    let moved = ap (λ (n : ℕ). says_from xs (entry level action ∷ es) (c.loop-at.at + n)) (sym (lined (goal.at.loop-at-preserved c).In-Line).1) in
+    (entry level action ∷ es, within (goal.at.loop-at-preserved c).In-Line, c.give-g.ensures ∙ (ap (λ (g : GivenActions). giving g level action) c.loop-at.invariant.2 ∙ giving_by es level action), c.loop-at.invariant.3 ∙ (more ∙ moved))
 
 pub returns : goal.returns
 returns c =

@@ -6,15 +6,10 @@ use Prim.Native.Nat.{◌-◌}
 use Rattle.spans.proofs.StepLaws.{Stepped, step_taken, step_done}
 use Rattle.messages.proofs.ContentLaws.{content_on, content_stops, content_over}
 use Rattle.messages.proofs.content_len.Goals as goal
-use Rattle.messages.proofs.content_len.Lts
-use Rattle.messages.proofs.content_len.Tie
-use Rattle.messages.proofs.content_len.Reads
-
-abbrev At-in-Taken-2 : Type 0
-At-in-Taken-2 = Lts.After-step2 Tie.the-claims Reads.Pre Reads.Post goal.the-invariant-loop-s goal.the-decreases-loop-s
+use Rattle.messages.proofs.content_len.Goals.{In-Taken}
 
 -- the step that was taken
-turn : (c : At-in-Taken-2) → Stepped c.args.rest.now c.loop-s.cursor.at c.in-Taken.s c.in-Taken.next.at
+turn : (c : goal.In-Taken) → Stepped c.args.rest.now c.loop-s.cursor.at c.in-Taken.s c.in-Taken.next.at
 turn c = step_taken _ _ _ c.in-Taken.next (sym c.step-step.ensures ∙ c.in-Taken.is)
 
 pub loop-s-init : goal.loop-s-init
@@ -27,11 +22,11 @@ returns-in_default c =
 
 pub returns-then-ends_statement : goal.returns-then-ends_statement
 returns-then-ends_statement c =
-    omega (arith, content_stops c.args.rest.now c.loop-s.cursor.at _ _ (turn c.before.before.before.before.before) (rw (← c.byte_at.ensures) (sym c.ends_statement.ensures ∙ c.if-ends_statement.true)))
+    omega (arith, content_stops c.args.rest.now c.loop-s.cursor.at _ _ (turn (goal.at.returns-then-ends_statement c).In-Taken) (rw (← c.byte_at.ensures) (sym c.ends_statement.ensures ∙ c.if-ends_statement.true)))
 
 pub loop-s-smaller : goal.loop-s-smaller
-loop-s-smaller c = omega (arith, (turn c.before.before.before.before.before).within, (turn c.before.before.before.before.before).beyond)
+loop-s-smaller c = omega (arith, (turn (goal.at.loop-s-smaller c).In-Taken).within, (turn (goal.at.loop-s-smaller c).In-Taken).beyond)
 
 pub loop-s-preserved : goal.loop-s-preserved
 loop-s-preserved c =
-    ((turn c.before.before.before.before.before).within, c.loop-s.invariant.1 ∙ content_on c.args.rest.now c.loop-s.cursor.at _ _ (turn c.before.before.before.before.before) (rw (← c.byte_at.ensures) (sym c.ends_statement.ensures ∙ c.if-ends_statement.false)))
+    ((turn (goal.at.loop-s-preserved c).In-Taken).within, c.loop-s.invariant.1 ∙ content_on c.args.rest.now c.loop-s.cursor.at _ _ (turn (goal.at.loop-s-preserved c).In-Taken) (rw (← c.byte_at.ensures) (sym c.ends_statement.ensures ∙ c.if-ends_statement.false)))

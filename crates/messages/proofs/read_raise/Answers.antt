@@ -13,15 +13,10 @@ use Rattle.spec.proofs.AheadLaws.{rest_of}
 use Rattle.messages.specs.Readings.{level_found, level_reach}
 use Rattle.messages.proofs.ReadingLaws.{found_level, found_nothing, level_none, reads_none}
 use Rattle.messages.proofs.read_raise.Goals as goal
-use Rattle.messages.proofs.read_raise.Lts
-use Rattle.messages.proofs.read_raise.Tie
-use Rattle.messages.proofs.read_raise.Reads
-
-abbrev At-after-level_at-level : Type 0
-At-after-level_at-level = Lts.After-level_at Tie.the-claims Reads.Pre Reads.Post Tie.handed_clauses
+use Rattle.messages.proofs.read_raise.Goals.{After-level_at-level}
 
 -- the level behind the separator
-told : (c : At-after-level_at-level) (t : List Marked) → bytes t ≡ c.args.rest.now → c.level_at-level.result ≡ level_found (level_in level_words (drop 6 t))
+told : (c : goal.After-level_at-level) (t : List Marked) → bytes t ≡ c.args.rest.now → c.level_at-level.result ≡ level_found (level_in level_words (drop 6 t))
 told c t e = c.level_at-level.ensures.value (drop 6 t) (bytes_drop 6 t ∙ (ap (drop 6) e ∙ sym (rest_of c.args.rest.now 6)))
 
 pub returns-then-rest-lt6 : goal.returns-then-rest-lt6
@@ -38,11 +33,11 @@ read_statement-requires c =
 pub returns-in-At : goal.returns-in-At
 returns-in-At c =
     record { reads = (λ t e.
-          rw (found_level (level_in level_words (drop 6 t)) _ (sym c.in-At.is ∙ told c.before.before.before.before.before.before t e))
+          rw (found_level (level_in level_words (drop 6 t)) _ (sym c.in-At.is ∙ told (goal.at.returns-in-At c).After-level_at-level t e))
           (c.read_statement.ensures.reads _ t e (sym c.action_of.ensures))); fate_within = c.read_statement.ensures.fate_within }
 
 pub returns-in-Nothing : goal.returns-in-Nothing
 returns-in-Nothing c =
     record { reads = (λ t e.
-          rw (found_nothing (level_in level_words (drop 6 t)) (sym c.in-Nothing.is ∙ told c.before.before.before t e))
+          rw (found_nothing (level_in level_words (drop 6 t)) (sym c.in-Nothing.is ∙ told (goal.at.returns-in-Nothing c).After-level_at-level t e))
           (reads_none t c.args.rest.now e _ 6 (omega arith))); fate_within = tt }

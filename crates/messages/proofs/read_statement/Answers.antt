@@ -9,15 +9,10 @@ use Rattle.messages.specs.Readings.{content_in}
 use Rattle.messages.proofs.ContentLaws.{content_le}
 use Rattle.messages.proofs.ReadingLaws.{reads_level, fate_within}
 use Rattle.messages.proofs.read_statement.Goals as goal
-use Rattle.messages.proofs.read_statement.Lts
-use Rattle.messages.proofs.read_statement.Tie
-use Rattle.messages.proofs.read_statement.Reads
-
-abbrev At-after-content_len : Type 0
-At-after-content_len = Lts.After-content_len Tie.the-claims Reads.Pre Reads.Post Tie.handed_clauses
+use Rattle.messages.proofs.read_statement.Goals.{After-content_len}
 
 -- the content behind the level
-content : (c : At-after-content_len)
+content : (c : goal.After-content_len)
     → c.content_len.result ≡ length (content_in (drop c.level_end-k.result c.args.rest.now))
 content c =
     let xs = c.args.rest.now in
@@ -25,7 +20,7 @@ content c =
     let h : c.content_len.result ≡ length (content_in (take (length xs - k) (drop k xs))) = c.content_len.ensures in
     rw rest_of at h
 
-content-in : (c : At-after-content_len)
+content-in : (c : goal.After-content_len)
     → c.level_end-k.result + c.content_len.result ≤ length c.args.rest.now
 content-in c =
     let xs = c.args.rest.now in
@@ -33,12 +28,12 @@ content-in c =
     omega (arith, content c, content_le (drop k xs), length-drop k xs, c.level_end-k.ensures.upper_bound)
 
 pub overflow_add-stop : goal.overflow_add-stop
-overflow_add-stop c = omega (arith, content-in c.before)
+overflow_add-stop c = omega (arith, content-in c)
 
 pub returns : goal.returns
 returns c =
     let xs = c.args.rest.now in
     let k : ℕ = c.level_end-k.result in
     let n : ℕ = c.behind.result in
-    let ends : n ≡ _ = rw (content c.before.before.before) at c.behind.ensures in record { reads = (λ act t e q. rw (c.fate_of.ensures, ← q, content c.before.before.before) (reads_level t xs e act c.args.level k n c.level_end-k.ensures.value ends)); fate_within = rw c.fate_of.ensures
-          (fate_within c.args.action 6 k _ n c.level_end-k.ensures.lower_bound (omega arith) (omega (arith, c.behind.ensures, content-in c.before.before.before))) }
+    let ends : n ≡ _ = rw (content (goal.at.returns c).After-content_len) at c.behind.ensures in record { reads = (λ act t e q. rw (c.fate_of.ensures, ← q, content (goal.at.returns c).After-content_len) (reads_level t xs e act c.args.level k n c.level_end-k.ensures.value ends)); fate_within = rw c.fate_of.ensures
+          (fate_within c.args.action 6 k _ n c.level_end-k.ensures.lower_bound (omega arith) (omega (arith, c.behind.ensures, content-in (goal.at.returns c).After-content_len))) }

@@ -7,7 +7,7 @@ use mathlib.Core.List.{List}
 use Prim.Native.Nat.{ℕ, ◌≤◌, ◌<◌, ◌+◌, ◌-◌}
 use lib.Dec.{leb}
 use lib.ListN.{length, take, drop, length-drop}
-use borrow.Author.Tests.{eq-eqb, ne_eqb, le-leb, lt-leb, not-true, not-false}
+use borrow.Author.Tests.{eq-eqb, ne_eqb, le-leb, lt-leb, not-false}
 use Rattle.spec.proofs.AheadLaws.{rest_of}
 use Rattle.spec.proofs.BytesLaws.{bytes_lives}
 use Rattle.spec.proofs.SpanLaws.{seen}
@@ -21,27 +21,10 @@ use Rattle.messages.proofs.MessageLaws.{message_in, message_is, message_le}
 use Rattle.messages.proofs.UsingLaws.{no_message, no_equals, no_quote, at_quote}
 use Rattle.spec.specs.declared.RaiseType.{RaiseType}
 use Rattle.messages.proofs.using_message.Goals as goal
-use Rattle.messages.proofs.using_message.Lts
-use Rattle.messages.proofs.using_message.Tie
-use Rattle.messages.proofs.using_message.Reads
-
-abbrev At-after-starts_ignoring_case : Type 0
-At-after-starts_ignoring_case = Lts.After-starts_ignoring_case Tie.the-claims Reads.Pre Reads.Post Tie.handed_clauses
-
-abbrev At-else-not-starts_ignoring_case : Type 0
-At-else-not-starts_ignoring_case = Lts.Else1 Tie.the-claims Reads.Pre Reads.Post Tie.handed_clauses
-
-abbrev At-else-byte_at-ne39 : Type 0
-At-else-byte_at-ne39 = Lts.Else3 Tie.the-claims Reads.Pre Reads.Post Tie.handed_clauses
-
-abbrev At-after-extract_first_string_literal-message : Type 0
-At-after-extract_first_string_literal-message = Lts.After-extract_first_string_literal Tie.the-claims Reads.Pre Reads.Post Tie.handed_clauses
-
-abbrev At-after-run_end : Type 0
-At-after-run_end = Lts.After-run_end4 Tie.the-claims Reads.Pre Reads.Post Tie.handed_clauses
+use Rattle.messages.proofs.using_message.Goals.{After-starts_ignoring_case, Else-not-starts_ignoring_case, Else-byte_at-ne39, After-extract_first_string_literal-message, After-run_end}
 
 -- whether MESSAGE stands behind the W
-named : (c : At-after-starts_ignoring_case) → c.starts_ignoring_case.result ≡ prefix_by upper (ascii "MESSAGE") (drop c.run_end-a.result c.args.content.now)
+named : (c : goal.After-starts_ignoring_case) → c.starts_ignoring_case.result ≡ prefix_by upper (ascii "MESSAGE") (drop c.run_end-a.result c.args.content.now)
 named c =
     let xs = c.args.content.now in
     let a = c.run_end-a.result in
@@ -49,8 +32,13 @@ named c =
     rw rest_of at h
 
 -- it does
-message-named : (c : At-else-not-starts_ignoring_case) → prefix_by upper (ascii "MESSAGE") (drop c.run_end-a.result c.args.content.now) ≡ true
-message-named c = sym (named c.before) ∙ not-false _ c.if-not-starts_ignoring_case.false
+message-named : (c : goal.Else-not-starts_ignoring_case) → prefix_by upper (ascii "MESSAGE") (drop c.run_end-a.result c.args.content.now) ≡ true
+message-named c =
+    let named : c.starts_ignoring_case.result ≡ prefix_by upper (ascii "MESSAGE") (drop c.run_end-a.result c.args.content.now) = let xs = c.args.content.now in
+        let a = c.run_end-a.result in
+        let h : c.starts_ignoring_case.result ≡ prefix_by upper (ascii "MESSAGE") (take (length xs - a) (drop a xs)) = c.starts_ignoring_case.ensures in
+        rw rest_of at h in
+    sym named ∙ not-false _ c.if-not-starts_ignoring_case.false
 
 -- the content, where a quote stands behind `=`
 abbrev content-of : tie.Else3 → List ℕ
@@ -65,11 +53,11 @@ abbrev quote-of : tie.Else3 → ℕ
 quote-of c = c.before.before.run-end3.result
 
 -- it lies within the content
-quoted-in : (c : At-else-byte_at-ne39) → quote-of c < length (content-of c)
+quoted-in : (c : goal.Else-byte_at-ne39) → quote-of c < length (content-of c)
 quoted-in c = seen (content-of c) (quote-of c) 38 (sym c.byte_at-2.ensures ∙ c.if-byte_at-ne39.false)
 
 -- the message that was found
-found : (c : At-after-extract_first_string_literal-message)
+found : (c : goal.After-extract_first_string_literal-message)
     → c.extract_first_string_literal-message.result.now ≡ message_in (drop (quote-of c.before.before) (content-of c.before.before))
 found c =
     let xs = content-of c.before.before in
@@ -78,22 +66,32 @@ found c =
     c.extract_first_string_literal-message.ensures (lives ys) (bytes_lives ys ∙ sym (rest_of xs from)) ∙ message_is (lives ys) ys (bytes_lives ys)
 
 -- it ends within the content
-found_in : (c : At-after-extract_first_string_literal-message)
+found_in : (c : goal.After-extract_first_string_literal-message)
     → quote-of c.before.before + length c.extract_first_string_literal-message.result.now ≤ length (content-of c.before.before)
 found_in c =
+    let quoted-in : quote-of c < length (content-of c) = seen (content-of c) (quote-of c) 38 (sym c.byte_at-2.ensures ∙ c.if-byte_at-ne39.false) in
     let xs = content-of c.before.before in
     let from = quote-of c.before.before in
-    omega (arith, ap length (found c), message_le (drop from xs), length-drop from xs, quoted-in c.before.before)
+    omega (arith, ap length (found c), message_le (drop from xs), length-drop from xs, quoted-in)
 
 -- what it comes to
-judged : (c : At-after-run_end) (w : RaiseType) (t : List Marked) → bytes t ≡ content-of c.before.before.before
+judged : (c : goal.After-run_end) (w : RaiseType) (t : List Marked) → bytes t ≡ content-of c.before.before.before
     → let xs = content-of c.before.before.before in
     forget (fate_text (using_fate w t (drop 5 t)))
     ≡ cond (leb (length xs) c.run_end.result) (accepted (raising w c.extract_first_string_literal-message.result.now)) (refused (using_clause xs))
 judged c w t e =
+    let found : c.extract_first_string_literal-message.result.now ≡ message_in (drop (quote-of c.before.before) (content-of c.before.before)) = let xs = content-of c.before.before in
+        let from = quote-of c.before.before in
+        let ys = drop from xs in
+        c.extract_first_string_literal-message.ensures (lives ys) (bytes_lives ys ∙ sym (rest_of xs from)) ∙ message_is (lives ys) ys (bytes_lives ys) in
+    let message-named : prefix_by upper (ascii "MESSAGE") (drop c.run_end-a.result c.args.content.now) ≡ true = let named : c.starts_ignoring_case.result ≡ prefix_by upper (ascii "MESSAGE") (drop c.run_end-a.result c.args.content.now) = let xs = c.args.content.now in
+            let a = c.run_end-a.result in
+            let h : c.starts_ignoring_case.result ≡ prefix_by upper (ascii "MESSAGE") (take (length xs - a) (drop a xs)) = c.starts_ignoring_case.ensures in
+            rw rest_of at h in
+        sym named ∙ not-false _ c.if-not-starts_ignoring_case.false in
     rw c.run_end.ensures.value
     (at_quote w t c.args.content.now e _ _ _ _
-    c.run_end-a.ensures.value c.run_end-b.ensures.value c.run_end-from.ensures.value (found c.before) (message-named c.before.before.before.before.before.before.before.before.before)
+    c.run_end-a.ensures.value c.run_end-b.ensures.value c.run_end-from.ensures.value found message-named
     (eq-eqb _ _ (sym c.byte_at.ensures ∙ c.if-byte_at-ne61.false)) (eq-eqb _ _ (sym c.byte_at-2.ensures ∙ c.if-byte_at-ne39.false)))
 
 pub slice_bounds-starts_ignoring_case-count : goal.slice_bounds-starts_ignoring_case-count
@@ -105,7 +103,7 @@ slice_bounds-starts_ignoring_case-start c = c.run_end-a.ensures.upper_bound (ome
 pub returns-then-not-starts_ignoring_case : goal.returns-then-not-starts_ignoring_case
 returns-then-not-starts_ignoring_case c =
     let xs = c.args.content.now in
-    record { t_value = (λ w t e. no_message w t xs e _ _ _ _ c.run_end-a.ensures.value refl refl refl (sym (named c.before.before) ∙ not-true _ c.if-not-starts_ignoring_case.true)); result_in_bounds = omega arith }
+    ((λ w t e. no_message w t xs e _ _ _ _ c.run_end-a.ensures.value refl refl refl (sym (named (goal.at.returns-then-not-starts_ignoring_case c).After-starts_ignoring_case) ∙ c.if-not-starts_ignoring_case.true), omega arith)
 
 pub overflow_add-a : goal.overflow_add-a
 overflow_add-a c =
@@ -113,7 +111,7 @@ overflow_add-a c =
 
 pub returns-then-byte_at-ne61 : goal.returns-then-byte_at-ne61
 returns-then-byte_at-ne61 c =
-    let xs = c.args.content.now in record { t_value = (λ w t e. no_equals w t xs e _ _ _ _ c.run_end-a.ensures.value c.run_end-b.ensures.value refl refl (message-named c.before.before.before.before) (ne_eqb _ _ (λ q. c.if-byte_at-ne61.true (c.byte_at.ensures ∙ q)))); result_in_bounds = omega arith }
+    let xs = c.args.content.now in record { t_value = (λ w t e. no_equals w t xs e _ _ _ _ c.run_end-a.ensures.value c.run_end-b.ensures.value refl refl (message-named (goal.at.returns-then-byte_at-ne61 c).Else-not-starts_ignoring_case) (ne_eqb _ _ (λ q. c.if-byte_at-ne61.true (c.byte_at.ensures ∙ q)))); result_in_bounds = omega arith }
 
 pub overflow_add-b : goal.overflow_add-b
 overflow_add-b c =
@@ -122,19 +120,19 @@ overflow_add-b c =
 
 pub returns-then-byte_at-ne39 : goal.returns-then-byte_at-ne39
 returns-then-byte_at-ne39 c =
-    let xs = c.args.content.now in record { t_value = (λ w t e. no_quote w t xs e _ _ _ _ c.run_end-a.ensures.value c.run_end-b.ensures.value c.run_end-from.ensures.value refl (message-named c.before.before.before.before.before.before.before) (eq-eqb _ _ (sym c.byte_at.ensures ∙ c.if-byte_at-ne61.false)) (ne_eqb _ _ (λ q. c.if-byte_at-ne39.true (c.byte_at-2.ensures ∙ q)))); result_in_bounds = omega arith }
+    let xs = c.args.content.now in record { t_value = (λ w t e. no_quote w t xs e _ _ _ _ c.run_end-a.ensures.value c.run_end-b.ensures.value c.run_end-from.ensures.value refl (message-named (goal.at.returns-then-byte_at-ne39 c).Else-not-starts_ignoring_case) (eq-eqb _ _ (sym c.byte_at.ensures ∙ c.if-byte_at-ne61.false)) (ne_eqb _ _ (λ q. c.if-byte_at-ne39.true (c.byte_at-2.ensures ∙ q)))); result_in_bounds = omega arith }
 
 pub slice_bounds-extract_first_string_literal-count : goal.slice_bounds-extract_first_string_literal-count
-slice_bounds-extract_first_string_literal-count c = omega (arith, quoted-in c.before)
+slice_bounds-extract_first_string_literal-count c = omega (arith, quoted-in c)
 
 pub slice_bounds-extract_first_string_literal-start : goal.slice_bounds-extract_first_string_literal-start
-slice_bounds-extract_first_string_literal-start c = omega (arith, quoted-in c.before)
+slice_bounds-extract_first_string_literal-start c = omega (arith, quoted-in c)
 
 pub overflow_add-from : goal.overflow_add-from
-overflow_add-from c = omega (arith, found_in c.before)
+overflow_add-from c = omega (arith, found_in c)
 
 pub returns-then-run_end-content : goal.returns-then-run_end-content
-returns-then-run_end-content c = record { t_value = (λ w t e. judged c.before.before w t e ∙ rw (lt-leb _ _ c.if-run_end-content.true) refl); result_in_bounds = omega arith }
+returns-then-run_end-content c = record { t_value = (λ w t e. judged (goal.at.returns-then-run_end-content c).After-run_end w t e ∙ rw (lt-leb _ _ c.if-run_end-content.true) refl); result_in_bounds = omega arith }
 
 pub returns : goal.returns
-returns c = record { t_value = (λ w t e. judged c.before.before w t e ∙ rw (le-leb _ _ c.if-run_end-content.false) refl); result_in_bounds = omega (arith, found_in c.before.before.before) }
+returns c = record { t_value = (λ w t e. judged (goal.at.returns c).After-run_end w t e ∙ rw (le-leb _ _ c.if-run_end-content.false) refl); result_in_bounds = omega (arith, found_in (goal.at.returns c).After-extract_first_string_literal-message) }

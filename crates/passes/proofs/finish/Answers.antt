@@ -5,27 +5,22 @@ use Rattle.spec.specs.Answers.{call_numbers}
 use Rattle.spec.specs.declared.Rewritten.{Rewritten}
 use Rattle.passes.specs.Gives.{finished}
 use Rattle.passes.proofs.finish.Goals as goal
-use Rattle.passes.proofs.finish.Lts
-use Rattle.passes.proofs.finish.Tie
-use Rattle.passes.proofs.finish.Reads
-
-abbrev At-after-output_length : Type 0
-At-after-output_length = Lts.After-output_length Tie.the-claims Reads.Pre Reads.Post Tie.handed_clauses
+use Rattle.passes.proofs.finish.Goals.{After-output_length}
 
 -- how many bytes are copied
-count : (c : At-after-output_length)
+count : (c : goal.After-output_length)
     → c.output_length.result ≡ (call_numbers (finished c.args.p)).length
 count c =
     c.output_length.ensures ∙ ap (λ (r : Rewritten). (call_numbers r).length) c.answer_of-r.ensures
 
 pub copy_front-requires : goal.copy_front-requires
 copy_front-requires c =
-    record { out_len = c.requires.out_len; from_len = c.requires.from_len; k_bound = rw (count c.before) c.requires.p_bound }
+    record { out_len = c.requires.out_len; from_len = c.requires.from_len; k_bound = rw (count c) c.requires.p_bound }
 
 pub returns : goal.returns
 returns c =
     let d = c.args.from.now in
-    let n = count c.before.before.before.before in
+    let n = count (goal.at.returns c).After-output_length in
     let copied : take c.output_length.result c.copy_front.new.out ≡ take c.output_length.result d =
     c.copy_front.ensures in
     record { value = c.answer_of-r.ensures; out_after = rw n at copied }

@@ -14,18 +14,10 @@ use Rattle.spec.proofs.AheadLaws.{rest_of}
 use Rattle.runs.proofs.RunLaws.{start_whole}
 use Rattle.quotes.proofs.ItemLaws.{comma_at, comma_part, comma_within, lead_within, item_over, item_skip, item_found}
 use Rattle.quotes.proofs.next_item.Goals as goal
-use Rattle.quotes.proofs.next_item.Lts
-use Rattle.quotes.proofs.next_item.Tie
-use Rattle.quotes.proofs.next_item.Reads
-
-abbrev At-after-comma_at : Type 0
-At-after-comma_at = Lts.After-comma_at Tie.the-claims Reads.Pre Reads.Post goal.the-invariant-loop-at goal.the-decreases-loop-at
-
-abbrev At-after-run_end : Type 0
-At-after-run_end = Lts.After-run_end Tie.the-claims Reads.Pre Reads.Post goal.the-invariant-loop-at goal.the-decreases-loop-at
+use Rattle.quotes.proofs.next_item.Goals.{After-comma_at, After-run_end}
 
 -- the first comma from `at` on
-comma : (c : At-after-comma_at) →
+comma : (c : goal.After-comma_at) →
     c.comma_at.result ≡ comma_at (drop c.loop-at.at (marked c.args.text.now c.args.map.now))
 comma c =
     let xs = c.args.text.now in
@@ -35,67 +27,72 @@ comma c =
     (simp rest_of at h) ∙ comma_part xs ms at
 
 -- it stands within the text
-within : (c : At-after-comma_at) →
+within : (c : goal.After-comma_at) →
     c.loop-at.at + c.comma_at.result ≤ length c.args.text.now
 within c =
     comma_within c.args.text.now c.args.map.now c.loop-at.at c.comma_at.result (omega arith) (comma c)
 
 -- W in front of it, which ends at it or before
-white : (c : At-after-run_end) → let at = c.loop-at.at in c.run_end.result ≡ length (take_while is_w (take (at + c.comma_at.result - at) (drop at c.args.text.now)))
+white : (c : goal.After-run_end) → let at = c.loop-at.at in c.run_end.result ≡ length (take_while is_w (take (at + c.comma_at.result - at) (drop at c.args.text.now)))
 white c = omega (arith, c.run_end.ensures.value)
 
-lead : (c : At-after-run_end) → c.run_end.result ≤ c.comma_at.result
+lead : (c : goal.After-run_end) → c.run_end.result ≤ c.comma_at.result
 lead c =
+    let comma : c.comma_at.result ≡ comma_at (drop c.loop-at.at (marked c.args.text.now c.args.map.now)) = let xs = c.args.text.now in
+        let ms = c.args.map.now in
+        let at = c.loop-at.at in
+        let h : c.comma_at.result ≡ place_or (first comma_here 0 (marked (take (length xs - at) (drop at xs)) (take (length ms - at) (drop at ms)))) (length (take (length xs - at) (drop at xs))) = c.comma_at.ensures in
+        (simp rest_of at h) ∙ comma_part xs ms at in
     let a = c.args in
-    lead_within a.text.now a.map.now c.loop-at.at c.comma_at.result c.run_end.result (omega arith) (comma c.before.before) (white c)
+    lead_within a.text.now a.map.now c.loop-at.at c.comma_at.result c.run_end.result (omega arith) comma (white c)
 
 pub loop-at-init : goal.loop-at-init
 loop-at-init c = (omega arith, refl)
 
 pub overflow_add-end : goal.overflow_add-end
-overflow_add-end c = omega (arith, within c.before)
+overflow_add-end c = omega (arith, within c)
 
 pub slice_bounds-run_end-count : goal.slice_bounds-run_end-count
-slice_bounds-run_end-count c = omega (arith, within c.before)
+slice_bounds-run_end-count c = omega (arith, within c)
 
 pub slice_bounds-run_end-start : goal.slice_bounds-run_end-start
-slice_bounds-run_end-start c = omega (arith, within c.before)
+slice_bounds-run_end-start c = omega (arith, within c)
 
 pub slice_bounds-run_end-end : goal.slice_bounds-run_end-end
-slice_bounds-run_end-end c = omega (arith, within c.before)
+slice_bounds-run_end-end c = omega (arith, within c)
 
 pub overflow_add-start : goal.overflow_add-start
-overflow_add-start c = omega (arith, within c.before.before.before, lead c.before)
+overflow_add-start c = omega (arith, within (goal.at.overflow_add-start c).After-comma_at, lead c)
 
 pub slice_bounds-rest-count : goal.slice_bounds-rest-count
-slice_bounds-rest-count c = omega (arith, within c.before.before.before.before, lead c.before.before)
+slice_bounds-rest-count c = omega (arith, within (goal.at.slice_bounds-rest-count c).After-comma_at, lead (goal.at.slice_bounds-rest-count c).After-run_end)
 
 pub slice_bounds-rest-start : goal.slice_bounds-rest-start
-slice_bounds-rest-start c = omega (arith, within c.before.before.before.before, lead c.before.before)
+slice_bounds-rest-start c = omega (arith, within (goal.at.slice_bounds-rest-start c).After-comma_at, lead (goal.at.slice_bounds-rest-start c).After-run_end)
 
 pub slice_bounds-rest-end : goal.slice_bounds-rest-end
-slice_bounds-rest-end c = omega (arith, within c.before.before.before.before, lead c.before.before)
+slice_bounds-rest-end c = omega (arith, within (goal.at.slice_bounds-rest-end c).After-comma_at, lead (goal.at.slice_bounds-rest-end c).After-run_end)
 
 pub overflow_add-result : goal.overflow_add-result
-overflow_add-result c = omega (arith, within c.before.before.before.before.before.before)
+overflow_add-result c = omega (arith, within (goal.at.overflow_add-result c).After-comma_at)
 
 pub returns-then-start-end : goal.returns-then-start-end
 returns-then-start-end c =
     let l = c.loop-at in
     let a = c.args in
-    item_found a.text.now a.map.now l.at c.comma_at.result c.run_end.result (omega arith) (comma c.before.before.before.before.before.before) (white c.before.before.before.before) c.run_start-k.result (start_whole is_w _ _ c.run_start-k.ensures.value).0 a.from l.invariant.1 l.invariant.0 c.if-start-end.true
+    item_found a.text.now a.map.now l.at c.comma_at.result c.run_end.result (omega arith) (comma (goal.at.returns-then-start-end c).After-comma_at) (white (goal.at.returns-then-start-end c).After-run_end) c.run_start-k.result (start_whole is_w _ _ c.run_start-k.ensures.value).0 a.from l.invariant.1 l.invariant.0 c.if-start-end.true
 
 pub overflow_add-at : goal.overflow_add-at
-overflow_add-at c = omega (arith, within c.before.before.before.before)
+overflow_add-at c = omega (arith, within (goal.at.overflow_add-at c).After-comma_at)
 
 pub loop-at-smaller : goal.loop-at-smaller
-loop-at-smaller c = omega (arith, within c.before.before.before.before)
+loop-at-smaller c = omega (arith, within (goal.at.loop-at-smaller c).After-comma_at)
 
 pub loop-at-preserved : goal.loop-at-preserved
 loop-at-preserved c =
     let l = c.loop-at in
     let a = c.args in
-    (omega arith, l.invariant.1 ∙ item_skip a.text.now a.map.now l.at c.comma_at.result c.run_end.result (omega arith) (comma c.before.before.before.before) (white c.before.before) (omega (arith, c.if-start-end.false)))
+    (omega arith, l.invariant.1 ∙ item_skip a.text.now a.map.now l.at c.comma_at.result c.run_end.result (omega arith) (comma (goal.at.loop-at-preserved c).After-comma_at) (white (goal.at.loop-at-preserved c).After-run_end) (omega (arith, c.if-start-end.false)))
 
 pub returns : goal.returns
 returns c =

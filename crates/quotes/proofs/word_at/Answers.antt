@@ -12,15 +12,10 @@ use Rattle.spec.proofs.AheadLaws.{rest_of}
 use Rattle.spec.proofs.WalkLaws.{prefix_by_len}
 use Rattle.quotes.proofs.DepthLaws.{word_here_lem}
 use Rattle.quotes.proofs.word_at.Goals as goal
-use Rattle.quotes.proofs.word_at.Lts
-use Rattle.quotes.proofs.word_at.Tie
-use Rattle.quotes.proofs.word_at.Reads
-
-abbrev At-after-starts_ignoring_case : Type 0
-At-after-starts_ignoring_case = Lts.After-starts_ignoring_case Tie.the-claims Reads.Pre Reads.Post
+use Rattle.quotes.proofs.word_at.Goals.{After-starts_ignoring_case}
 
 -- whether the word stands at i
-prefix : (c : At-after-starts_ignoring_case) → c.starts_ignoring_case.result ≡ prefix_by upper c.args.word.now (drop c.args.i c.args.text.now)
+prefix : (c : goal.After-starts_ignoring_case) → c.starts_ignoring_case.result ≡ prefix_by upper c.args.word.now (drop c.args.i c.args.text.now)
 prefix c =
     let a = c.args in
     let h : c.starts_ignoring_case.result ≡ prefix_by upper a.word.now (take (length a.text.now - a.i) (drop a.i a.text.now)) = c.starts_ignoring_case.ensures in
@@ -29,25 +24,25 @@ prefix c =
 pub overflow_add-i : goal.overflow_add-i
 overflow_add-i c =
     let a = c.args in
-    omega (arith, prefix_by_len upper a.word.now (drop a.i a.text.now) (sym (prefix c.before.before.before.before.before.before.before) ∙ c.if-starts_ignoring_case.true), length-drop a.i a.text.now, c.requires)
+    omega (arith, prefix_by_len upper a.word.now (drop a.i a.text.now) (sym (prefix (goal.at.overflow_add-i c).After-starts_ignoring_case) ∙ c.if-starts_ignoring_case.true), length-drop a.i a.text.now, c.requires)
 
 pub returns-then-is_ident_byte : goal.returns-then-is_ident_byte
 returns-then-is_ident_byte c =
     let a = c.args in
     sym (word_here_lem a.text.now a.map.now a.word.now a.i c.byte_at.result c.byte_before.result _ c.requires c.byte_at.ensures c.byte_before.ensures refl
-    ∙ simp (eq-eqb _ _ c.if-byte_at-eq0.true, sym (prefix c.before.before.before.before.before.before.before) ∙ c.if-starts_ignoring_case.true, sym c.is_ident_byte.ensures ∙ c.if-is_ident_byte.true))
+    ∙ simp (eq-eqb _ _ c.if-byte_at-eq0.true, sym (prefix (goal.at.returns-then-is_ident_byte c).After-starts_ignoring_case) ∙ c.if-starts_ignoring_case.true, sym c.is_ident_byte.ensures ∙ c.if-is_ident_byte.true))
 
 pub returns-then-is_ident_byte-2 : goal.returns-then-is_ident_byte-2
 returns-then-is_ident_byte-2 c =
     let a = c.args in
     sym (word_here_lem a.text.now a.map.now a.word.now a.i c.byte_at.result c.byte_before.result c.byte_at-else-is_ident_byte.result c.requires c.byte_at.ensures c.byte_before.ensures c.byte_at-else-is_ident_byte.ensures
-    ∙ simp (eq-eqb _ _ c.if-byte_at-eq0.true, sym (prefix c.before.before.before.before.before.before.before.before.before.before) ∙ c.if-starts_ignoring_case.true, sym c.is_ident_byte.ensures ∙ c.if-is_ident_byte.false, sym c.is_ident_byte-else-is_ident_byte.ensures ∙ c.if-is_ident_byte-2.true))
+    ∙ simp (eq-eqb _ _ c.if-byte_at-eq0.true, sym (prefix (goal.at.returns-then-is_ident_byte-2 c).After-starts_ignoring_case) ∙ c.if-starts_ignoring_case.true, sym c.is_ident_byte.ensures ∙ c.if-is_ident_byte.false, sym c.is_ident_byte-else-is_ident_byte.ensures ∙ c.if-is_ident_byte-2.true))
 
 pub returns-else-is_ident_byte-2 : goal.returns-else-is_ident_byte-2
 returns-else-is_ident_byte-2 c =
     let a = c.args in
     sym (word_here_lem a.text.now a.map.now a.word.now a.i c.byte_at.result c.byte_before.result c.byte_at-else-is_ident_byte.result c.requires c.byte_at.ensures c.byte_before.ensures c.byte_at-else-is_ident_byte.ensures
-    ∙ simp (eq-eqb _ _ c.if-byte_at-eq0.true, sym (prefix c.before.before.before.before.before.before.before.before.before.before) ∙ c.if-starts_ignoring_case.true, sym c.is_ident_byte.ensures ∙ c.if-is_ident_byte.false, sym c.is_ident_byte-else-is_ident_byte.ensures ∙ c.if-is_ident_byte-2.false))
+    ∙ simp (eq-eqb _ _ c.if-byte_at-eq0.true, sym (prefix (goal.at.returns-else-is_ident_byte-2 c).After-starts_ignoring_case) ∙ c.if-starts_ignoring_case.true, sym c.is_ident_byte.ensures ∙ c.if-is_ident_byte.false, sym c.is_ident_byte-else-is_ident_byte.ensures ∙ c.if-is_ident_byte-2.false))
 
 pub returns-else-byte_at-eq0 : goal.returns-else-byte_at-eq0
 returns-else-byte_at-eq0 c =
@@ -57,4 +52,4 @@ returns-else-byte_at-eq0 c =
 pub returns-else-starts_ignoring_case : goal.returns-else-starts_ignoring_case
 returns-else-starts_ignoring_case c =
     let a = c.args in
-    sym (word_here_lem a.text.now a.map.now a.word.now a.i _ _ _ c.requires refl refl refl ∙ simp (sym (prefix c.before.before) ∙ c.if-starts_ignoring_case.false, and-false))
+    sym (word_here_lem a.text.now a.map.now a.word.now a.i _ _ _ c.requires refl refl refl ∙ simp (sym (prefix (goal.at.returns-else-starts_ignoring_case c).After-starts_ignoring_case) ∙ c.if-starts_ignoring_case.false, and-false))

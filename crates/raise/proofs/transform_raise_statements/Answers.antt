@@ -23,27 +23,10 @@ use Rattle.raise.proofs.RaiseLaws.{left_at, raise_start}
 use Rattle.spec.proofs.RaiseWalk.{raise_here}
 use Rattle.raise.proofs.PassLaws.{last_turn, raise_within, end_within, end_pos, raise_turn, raise_clause}
 use Rattle.raise.proofs.transform_raise_statements.Goals as goal
-use Rattle.raise.proofs.transform_raise_statements.Lts
-use Rattle.raise.proofs.transform_raise_statements.Tie
-use Rattle.raise.proofs.transform_raise_statements.Reads
-
-abbrev At-after-find_keyword_in-found : Type 0
-At-after-find_keyword_in-found = Lts.After-find_keyword_in Tie.the-claims Reads.Pre Reads.Post goal.the-invariant-loop-at goal.the-decreases-loop-at Tie.handed_clauses
-
-abbrev At-in-At : Type 0
-At-in-At = Lts.After-known_told Tie.the-claims Reads.Pre Reads.Post goal.the-invariant-loop-at goal.the-decreases-loop-at Tie.handed_clauses
-
-abbrev At-after-read_raise-read : Type 0
-At-after-read_raise-read = Lts.After-read_raise Tie.the-claims Reads.Pre Reads.Post goal.the-invariant-loop-at goal.the-decreases-loop-at Tie.handed_clauses
-
-abbrev At-after-put_raise-n : Type 0
-At-after-put_raise-n = Lts.After-put_raise Tie.the-claims Reads.Pre Reads.Post goal.the-invariant-loop-at goal.the-decreases-loop-at Tie.handed_clauses
-
-abbrev At-else-refused : Type 0
-At-else-refused = Lts.Else1 Tie.the-claims Reads.Pre Reads.Post goal.the-invariant-loop-at goal.the-decreases-loop-at Tie.handed_clauses
+use Rattle.raise.proofs.transform_raise_statements.Goals.{After-find_keyword_in-found, In-At, After-read_raise-read, After-put_raise-n, Else-refused}
 
 -- what the search for the keyword gives
-sought : (c : At-after-find_keyword_in-found) → c.find_keyword_in-found.result ≡ first raise_here c.loop-at.from (marked c.args.text.now c.args.map.now)
+sought : (c : goal.After-find_keyword_in-found) → c.find_keyword_in-found.result ≡ first raise_here c.loop-at.from (marked c.args.text.now c.args.map.now)
 sought c = c.find_keyword_in-found.ensures ∙ nonempty_word (ascii "RAISE") _ (omega arith)
 
 -- where a RAISE is found: the text and its map, the place from which it was sought, and its own
@@ -76,10 +59,12 @@ told-act c =
     action_of at-loop.before.before.before.before.args.actions
 
 -- a RAISE stands at the place found
-found_at : (c : At-in-At) → first raise_here (told-from c) (marked (told_text c) (told-map c)) ≡ At (told_at c)
-found_at c = sym (sought c.before.before.before) ∙ c.in-At.is
+found_at : (c : goal.In-At) → first raise_here (told-from c) (marked (told_text c) (told-map c)) ≡ At (told_at c)
+found_at c =
+    let sought : c.find_keyword_in-found.result ≡ first raise_here c.loop-at.from (marked c.args.text.now c.args.map.now) = c.find_keyword_in-found.ensures ∙ nonempty_word (ascii "RAISE") _ (omega arith) in
+    sym sought ∙ c.in-At.is
 
-found_within : (c : At-in-At) → (told-from c ≤ told_at c) × (told_at c < length (told_text c))
+found_within : (c : goal.In-At) → (told-from c ≤ told_at c) × (told_at c < length (told_text c))
 found_within c = raise_within (told-act c) (told_text c) (told-map c) (told-from c) _ (found_at c)
 
 -- the output that was lent, and what was asked of the two lengths
@@ -88,7 +73,7 @@ told-out c =
     let at-loop = c.before.before.before.before.before in
     at-loop.before.before.before.before.args.out.now
 
-asked : (c : At-in-At) → (length (told_text c) ≤ 65536) × (length (told_text c) ≤ length (told-out c))
+asked : (c : goal.In-At) → (length (told_text c) ≤ 65536) × (length (told_text c) ≤ length (told-out c))
 asked c =
     (c.requires.text_len_bound, c.requires.text_in_bounds_2)
 
@@ -97,7 +82,7 @@ abbrev rest_at : tie.After-known-told invariant-loop decreases-loop → List ℕ
 rest_at c = drop (told_at c) (told_text c)
 
 -- how it is read
-reads_at : (c : At-after-read_raise-read) (u : List Marked) → bytes u ≡ rest_at (told_of c)
+reads_at : (c : goal.After-read_raise-read) (u : List Marked) → bytes u ≡ rest_at (told_of c)
     → Reads (told-act (told_of c)) u (level_in level_words (drop 6 u)) (rest_at (told_of c)) c.read_raise-read.result
 reads_at c u e =
     let xs = told_text (told_of c) in
@@ -105,12 +90,12 @@ reads_at c u e =
     let h : Reads (told-act (told_of c)) u (level_in level_words (drop 6 u)) (take (length xs - at) (drop at xs)) c.read_raise-read.result = c.read_raise-read.ensures.reads u (e ∙ sym (rest_of xs at)) in
     rw rest_of at h
 
-end-in : (c : At-after-read_raise-read) → c.read_raise-read.result.end ≤ length (told_text (told_of c)) - told_at (told_of c)
+end-in : (c : goal.After-read_raise-read) → c.read_raise-read.result.end ≤ length (told_text (told_of c)) - told_at (told_of c)
 end-in c =
     let found = told_of c in
     end_within (told-act found) (told_text found) (told-map found) (told-from found) _ (found_at found) c.read_raise-read.result (reads_at c)
 
-end_more : (c : At-after-read_raise-read) → 0 < c.read_raise-read.result.end
+end_more : (c : goal.After-read_raise-read) → 0 < c.read_raise-read.result.end
 end_more c =
     let found = told_of c in
     end_pos (told-act found) (told_text found) (told-map found) (told-from found) _ (found_at found) c.read_raise-read.result (reads_at c)
@@ -120,7 +105,7 @@ rest-long : (xs : List ℕ) (i : ℕ) → length (take (length xs - i) (drop i x
 rest-long xs i = ap length (rest_of xs i) ∙ length-drop i xs
 
 -- what is put
-put-at : (c : At-after-put_raise-n)
+put-at : (c : goal.After-put_raise-n)
     → let read = read_of c.before.before.before.before.before in
     Put (fate_in read.read-raise.result.fate read.read-raise.result.end (rest_at (told_of read))) c.put_all-n.new.out c.put_all-n.result c.put_raise-n.new.refused c.put_raise-n.new.out c.put_raise-n.result
 put-at c =
@@ -131,14 +116,14 @@ put-at c =
     rw rest_of at p
 
 -- the output stays as long as it was
-as_long : (c : At-after-put_raise-n)
+as_long : (c : goal.After-put_raise-n)
     → length c.put_raise-n.new.out ≡ length (told-out (told_of (read_of c.before.before.before.before.before)))
 as_long c =
     let found = told_of (read_of c.before.before.before.before.before) in
     c.put_raise-n.auto.out ∙ (c.put_all-n.auto.out ∙ found.before.before.before.before.before.loop.inv.2)
 
 -- the search goes on behind the place found, within the text
-goes_on : (c : At-else-refused)
+goes_on : (c : goal.Else-refused)
     → let read = read_of c.before.before.before.before.before.before.before.before in
     let found = told_of read in
     (told-from found ≤ told_at found)
@@ -174,13 +159,13 @@ returns-in_default c =
     let g : c.put_all.new.out ≡ sets l.out l.n (take (length xs - l.from) (drop l.from xs)) = c.put_all.ensures.out_after in
     turn_done _ _ _ _
     (turn_both l.invariant.3
-    (last_turn (action_of c.args.actions) xs c.args.map.now l.from _ _ _ _ (sym (sought c.before.before.before.before.before.before.before.before) ∙ c.in_default.is) (rw rest_of at g) (rw rest_of at h)))
+    (last_turn (action_of c.args.actions) xs c.args.map.now l.from _ _ _ _ (sym (sought (goal.at.returns-in_default c).After-find_keyword_in-found) ∙ c.in_default.is) (rw rest_of at g) (rw rest_of at h)))
 
 pub slice_bounds-rest-count : goal.slice_bounds-rest-count
-slice_bounds-rest-count c = omega (arith, found_within c.before)
+slice_bounds-rest-count c = omega (arith, found_within c)
 
 pub slice_bounds-rest-start : goal.slice_bounds-rest-start
-slice_bounds-rest-start c = omega (arith, found_within c.before)
+slice_bounds-rest-start c = omega (arith, found_within c)
 
 pub read_raise-read-requires : goal.read_raise-read-requires
 read_raise-read-requires c =
@@ -190,20 +175,20 @@ read_raise-read-requires c =
     h
 
 pub slice_bounds-put_all-count-in-loop-at : goal.slice_bounds-put_all-count-in-loop-at
-slice_bounds-put_all-count-in-loop-at c = omega (arith, found_within c.before.before.before.before)
+slice_bounds-put_all-count-in-loop-at c = omega (arith, found_within (goal.at.slice_bounds-put_all-count-in-loop-at c).In-At)
 
 pub slice_bounds-put_all-start-in-loop-at : goal.slice_bounds-put_all-start-in-loop-at
-slice_bounds-put_all-start-in-loop-at c = omega (arith, found_within c.before.before.before.before)
+slice_bounds-put_all-start-in-loop-at c = omega (arith, found_within (goal.at.slice_bounds-put_all-start-in-loop-at c).In-At)
 
 pub slice_bounds-put_all-end-in-loop-at : goal.slice_bounds-put_all-end-in-loop-at
-slice_bounds-put_all-end-in-loop-at c = omega (arith, found_within c.before.before.before.before)
+slice_bounds-put_all-end-in-loop-at c = omega (arith, found_within (goal.at.slice_bounds-put_all-end-in-loop-at c).In-At)
 
 pub put_all-n-requires : goal.put_all-n-requires
 put_all-n-requires c =
     let at = told_at c.before.before.before.before.before in
     let xs = told_text c.before.before.before.before.before in
     let l = c.loop-at in
-    let h : l.n + length (take (at - l.from) (drop l.from xs)) < 9223372036854775808 = omega (arith, length-take (at - l.from) (drop l.from xs), found_within c.before.before.before.before.before) in
+    let h : l.n + length (take (at - l.from) (drop l.from xs)) < 9223372036854775808 = omega (arith, length-take (at - l.from) (drop l.from xs), found_within (goal.at.put_all-n-requires c).In-At) in
     h
 
 pub put_raise-n-requires : goal.put_raise-n-requires
@@ -222,7 +207,7 @@ put_raise-n-requires c =
     record { rest_len_bound = short; rest_bound = count; end_in_bounds = end; fate_within = read.read-raise.ensures.1 }
 
 pub shape_of-out-then-refused : goal.shape_of-out-then-refused
-shape_of-out-then-refused c = as_long c.before.before.before.before
+shape_of-out-then-refused c = as_long (goal.at.shape_of-out-then-refused c).After-put_raise-n
 
 pub returns-then-refused : goal.returns-then-refused
 returns-then-refused c =
@@ -231,14 +216,14 @@ returns-then-refused c =
     let l = found.before.before.before.before.before.loop in
     let r = read.read-raise.result in
     let most : c.put_raise-n.result ≤ cond c.put_raise-n.new.refused 0 (c.put_all-n.result + 4 * r.end) + r.end = c.put_raise-n.ensures.upper_bound in
-    raise_clause (told-act found) (told_text found) (told-map found) l.from (told_at found) (found_at found) r (reads_at read) _ _ _ _ _ _ _ _ l.inv.3 (rw c.if-refused.true at (put-at c.before.before.before.before))
+    raise_clause (told-act found) (told_text found) (told-map found) l.from (told_at found) (found_at found) r (reads_at read) _ _ _ _ _ _ _ _ l.inv.3 (rw c.if-refused.true at (put-at (goal.at.returns-then-refused c).After-put_raise-n))
     (omega (arith, rw c.if-refused.true at most, end-in read, c.put_all-n.auto.out, l.inv.2, (asked found).1))
 
 pub overflow_add-from : goal.overflow_add-from
-overflow_add-from c = omega (arith, goes_on c.before)
+overflow_add-from c = omega (arith, goes_on c)
 
 pub loop-at-smaller : goal.loop-at-smaller
-loop-at-smaller c = omega (arith, goes_on c.before)
+loop-at-smaller c = omega (arith, goes_on c)
 
 pub loop-at-preserved : goal.loop-at-preserved
 loop-at-preserved c =
@@ -251,8 +236,8 @@ loop-at-preserved c =
     let n₁ : c.put_all-n.result ≡ l.n + length (take (at - l.from) (drop l.from xs)) = c.put_all-n.ensures.value in
     let d₁ : c.put_all-n.new.out ≡ sets l.out l.n (take (at - l.from) (drop l.from xs)) = c.put_all-n.ensures.out_after in
     let most : c.put_raise-n.result ≤ cond c.put_raise-n.new.refused 0 (c.put_all-n.result + 4 * r.end) + r.end = c.put_raise-n.ensures.upper_bound in (
-      omega (arith, goes_on c.before),
-      omega (arith, n₁, rw c.if-refused.false at most, length-take (at - l.from) (drop l.from xs), goes_on c.before),
-      as_long c.before.before.before.before,
-      turn_both l.inv.3 (raise_turn (told-act found) xs (told-map found) l.from at (found_at found) r (reads_at read) _ _ _ _ _ _ d₁ n₁ (rw c.if-refused.false at (put-at c.before.before.before.before))),
+      omega (arith, goes_on c),
+      omega (arith, n₁, rw c.if-refused.false at most, length-take (at - l.from) (drop l.from xs), goes_on c),
+      as_long (goal.at.loop-at-preserved c).After-put_raise-n,
+      turn_both l.inv.3 (raise_turn (told-act found) xs (told-map found) l.from at (found_at found) r (reads_at read) _ _ _ _ _ _ d₁ n₁ (rw c.if-refused.false at (put-at (goal.at.loop-at-preserved c).After-put_raise-n))),
     )

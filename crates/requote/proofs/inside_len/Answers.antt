@@ -8,15 +8,10 @@ use lib.Seq.{length-take-le}
 use Rattle.spec.proofs.RequotedLength.{quotes_le}
 use Rattle.spec.specs.Requote.{quotes_in}
 use Rattle.requote.proofs.inside_len.Goals as goal
-use Rattle.requote.proofs.inside_len.Lts
-use Rattle.requote.proofs.inside_len.Tie
-use Rattle.requote.proofs.inside_len.Reads
-
-abbrev At-after-quotes_in : Type 0
-At-after-quotes_in = Lts.After-quotes_in Tie.the-claims Reads.Pre Reads.Post Tie.handed_clauses
+use Rattle.requote.proofs.inside_len.Goals.{After-quotes_in}
 
 -- how many are counted
-counted : (c : At-after-quotes_in) →
+counted : (c : goal.After-quotes_in) →
     let s = c.args in
     c.quotes_in.result ≡ quotes_in (take s.k (drop s.a s.span.now))
 counted c =
@@ -28,7 +23,7 @@ counted c =
 pub overflow_add-result-2 : goal.overflow_add-result-2
 overflow_add-result-2 c =
     let s = c.args in
-    omega (arith, counted c.before, quotes_le (take s.k (drop s.a s.span.now)), length-take-le s.k (drop s.a s.span.now) (omega (arith, length-drop s.a s.span.now)))
+    omega (arith, counted c, quotes_le (take s.k (drop s.a s.span.now)), length-take-le s.k (drop s.a s.span.now) (omega (arith, length-drop s.a s.span.now)))
 
 pub returns : goal.returns
-returns c = omega (arith, counted c.before)
+returns c = omega (arith, counted c)

@@ -13,18 +13,10 @@ use Rattle.spec.specs.Spans.{span_at}
 use Rattle.requote.proofs.RequoteLaws.{length_turn, length_plain, length_over, inside_within}
 use Rattle.spans.proofs.StepLaws.{Stepped, stepped}
 use Rattle.requote.proofs.requoted_len.Goals as goal
-use Rattle.requote.proofs.requoted_len.Lts
-use Rattle.requote.proofs.requoted_len.Tie
-use Rattle.requote.proofs.requoted_len.Reads
-
-abbrev At-after-span_len : Type 0
-At-after-span_len = Lts.After-span_len Tie.the-claims Reads.Pre Reads.Post goal.the-invariant-loop-at goal.the-decreases-loop-at
-
-abbrev At-after-requoted_span_len-n : Type 0
-At-after-requoted_span_len-n = Lts.After-requoted_span_len Tie.the-claims Reads.Pre Reads.Post goal.the-invariant-loop-at goal.the-decreases-loop-at
+use Rattle.requote.proofs.requoted_len.Goals.{After-span_len, After-requoted_span_len-n}
 
 -- the span at the offset, and the offset behind it
-turn : (c : At-after-span_len) →
+turn : (c : goal.After-span_len) →
     Stepped c.args.text.now c.loop-at.at c.next_span-s.result (c.loop-at.at + c.span_len.result)
 turn c =
     let xs = c.args.text.now in
@@ -33,33 +25,37 @@ turn c =
     stepped xs at c.next_span-s.result (at + c.span_len.result) (omega arith) (rw rest_of at front) (ap (λ n. at + n) c.span_len.ensures)
 
 -- what is counted behind the span
-added : (c : At-after-requoted_span_len-n) →
+added : (c : goal.After-requoted_span_len-n) →
     let xs = c.args.text.now in
     requoted_length xs ≡ c.loop-at.n + c.requoted_span_len-n.result + requoted_length (drop (c.loop-at.at + c.span_len.result) xs)
 added c =
+    let turn : Stepped c.args.text.now c.loop-at.at c.next_span-s.result (c.loop-at.at + c.span_len.result) = let xs = c.args.text.now in
+        let at = c.loop-at.at in
+        let front : c.next_span-s.result ≡ span_at (take (length xs - at) (drop at xs)) = c.next_span-s.ensures in
+        stepped xs at c.next_span-s.result (at + c.span_len.result) (omega arith) (rw rest_of at front) (ap (λ n. at + n) c.span_len.ensures) in
     let xs = c.args.text.now in
     let at = c.loop-at.at in
-    let t = turn c.before.before in
+    let t = turn in
     omega (arith, c.loop-at.invariant.1, c.requoted_span_len-n.ensures, length_turn xs at _ _ t)
 
 pub loop-at-init : goal.loop-at-init
 loop-at-init c = (omega arith, omega arith)
 
 pub overflow_add-to : goal.overflow_add-to
-overflow_add-to c = omega (arith, (turn c.before).within)
+overflow_add-to c = omega (arith, (turn c).within)
 
 pub slice_bounds-requoted_span_len-count : goal.slice_bounds-requoted_span_len-count
-slice_bounds-requoted_span_len-count c = omega (arith, (turn c.before).beyond)
+slice_bounds-requoted_span_len-count c = omega (arith, (turn c).beyond)
 
 pub slice_bounds-requoted_span_len-start : goal.slice_bounds-requoted_span_len-start
-slice_bounds-requoted_span_len-start c = omega (arith, (turn c.before).beyond, (turn c.before).within)
+slice_bounds-requoted_span_len-start c = omega (arith, (turn c).beyond, (turn c).within)
 
 pub slice_bounds-requoted_span_len-end : goal.slice_bounds-requoted_span_len-end
-slice_bounds-requoted_span_len-end c = omega (arith, (turn c.before).beyond, (turn c.before).within)
+slice_bounds-requoted_span_len-end c = omega (arith, (turn c).beyond, (turn c).within)
 
 pub requoted_span_len-n-requires : goal.requoted_span_len-n-requires
 requoted_span_len-n-requires c =
-    let t = turn c.before.before in
+    let t = turn (goal.at.requoted_span_len-n-requires c).After-span_len in
     let xs = c.args.text.now in
     let at = c.loop-at.at in
     let to = at + c.span_len.result in
@@ -68,13 +64,13 @@ requoted_span_len-n-requires c =
 
 pub overflow_add-n : goal.overflow_add-n
 overflow_add-n c =
-    omega (arith, added c.before, requoted_twice c.args.text.now)
+    omega (arith, added c, requoted_twice c.args.text.now)
 
 pub loop-at-smaller-then-opens_span : goal.loop-at-smaller-then-opens_span
-loop-at-smaller-then-opens_span c = omega (arith, (turn c.before.before.before).beyond, (turn c.before.before.before).within)
+loop-at-smaller-then-opens_span c = omega (arith, (turn (goal.at.loop-at-smaller-then-opens_span c).After-span_len).beyond, (turn (goal.at.loop-at-smaller-then-opens_span c).After-span_len).within)
 
 pub loop-at-preserved-then-opens_span : goal.loop-at-preserved-then-opens_span
-loop-at-preserved-then-opens_span c = ((turn c.before.before.before).within, added c.before)
+loop-at-preserved-then-opens_span c = ((turn (goal.at.loop-at-preserved-then-opens_span c).After-span_len).within, added c)
 
 pub overflow_add-n-else-opens_span : goal.overflow_add-n-else-opens_span
 overflow_add-n-else-opens_span c =

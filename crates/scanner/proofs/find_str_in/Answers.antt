@@ -9,15 +9,10 @@ use Rattle.spec.proofs.AheadLaws.{rest_of}
 use Rattle.spec.proofs.FirstLaws.{empty_word, nonempty_word}
 use Rattle.scanner.proofs.NeedleLaws.{needle_end, needle_hit, needle_miss, needle_dead}
 use Rattle.scanner.proofs.find_str_in.Goals as goal
-use Rattle.scanner.proofs.find_str_in.Lts
-use Rattle.scanner.proofs.find_str_in.Tie
-use Rattle.scanner.proofs.find_str_in.Reads
-
-abbrev At-after-starts_with : Type 0
-At-after-starts_with = Lts.After-starts_with Tie.the-claims Reads.Pre Reads.Post goal.the-invariant-loop-i goal.the-decreases-loop-i
+use Rattle.scanner.proofs.find_str_in.Goals.{After-starts_with}
 
 -- the test's result, of what stands from i on
-tested : (c : At-after-starts_with) →
+tested : (c : goal.After-starts_with) →
     c.starts_with.result ≡ is_prefix c.args.needle.now (drop c.loop-i.i c.args.text.now)
 tested c =
     let xs = c.args.text.now in
@@ -37,13 +32,13 @@ returns-then-starts_with c =
     let l = c.loop-i in
     sym (nonempty_word c.args.needle.now _ (omega (arith, c.if-needle-eq0.false))
     ∙ (l.invariant
-    ∙ needle_hit c.args.needle.now c.args.text.now c.args.map.now l.i _ (omega arith) c.byte_at.ensures c.if-byte_at-eq0.true (sym (tested c.before.before) ∙ c.if-starts_with.true)))
+    ∙ needle_hit c.args.needle.now c.args.text.now c.args.map.now l.i _ (omega arith) c.byte_at.ensures c.if-byte_at-eq0.true (sym (tested (goal.at.returns-then-starts_with c).After-starts_with) ∙ c.if-starts_with.true)))
 
 pub loop-i-preserved-else-starts_with : goal.loop-i-preserved-else-starts_with
 loop-i-preserved-else-starts_with c =
     let l = c.loop-i in
     l.invariant
-    ∙ needle_miss c.args.needle.now c.args.text.now c.args.map.now l.i _ (omega arith) c.byte_at.ensures c.if-byte_at-eq0.true (sym (tested c.before.before) ∙ c.if-starts_with.false)
+    ∙ needle_miss c.args.needle.now c.args.text.now c.args.map.now l.i _ (omega arith) c.byte_at.ensures c.if-byte_at-eq0.true (sym (tested (goal.at.loop-i-preserved-else-starts_with c).After-starts_with) ∙ c.if-starts_with.false)
 
 pub loop-i-preserved : goal.loop-i-preserved
 loop-i-preserved c =

@@ -13,27 +13,21 @@ use lib.ListN.{length}
 use Rattle.spec.specs.Map.{marked}
 use Rattle.spec.specs.Search.{first, is_found}
 use Rattle.scanner.proofs.has_handler_in.Goals as goal
-use Rattle.scanner.proofs.has_handler_in.Lts
-use Rattle.scanner.proofs.has_handler_in.Tie
-use Rattle.scanner.proofs.has_handler_in.Reads
-
-abbrev At-after-find_keyword_in-found : Type 0
-At-after-find_keyword_in-found = Lts.After-find_keyword_in Tie.the-claims Reads.Pre Reads.Post goal.the-invariant-loop-at goal.the-decreases-loop-at
-
-abbrev At-in-At : Type 0
-At-in-At = Lts.After-known_told Tie.the-claims Reads.Pre Reads.Post goal.the-invariant-loop-at goal.the-decreases-loop-at
+use Rattle.scanner.proofs.has_handler_in.Goals.{After-find_keyword_in-found, In-At}
 
 -- what the search for the keyword gives
-sought-from : (c : At-after-find_keyword_in-found) → c.find_keyword_in-found.result ≡ first keyword c.loop-at.from (marked c.args.text.now c.args.map.now)
+sought-from : (c : goal.After-find_keyword_in-found) → c.find_keyword_in-found.result ≡ first keyword c.loop-at.from (marked c.args.text.now c.args.map.now)
 sought-from c = c.find_keyword_in-found.ensures ∙ nonempty_word (ascii "EXCEPTION") _ (omega arith)
 
 -- the keyword stands at the place found
-found_at : (c : At-in-At) →
+found_at : (c : goal.In-At) →
     first keyword c.loop-at.from (marked c.args.text.now c.args.map.now) ≡ At c.in-At.at
-found_at c = sym (sought-from c.before.before.before) ∙ c.in-At.is
+found_at c =
+    let sought-from : c.find_keyword_in-found.result ≡ first keyword c.loop-at.from (marked c.args.text.now c.args.map.now) = c.find_keyword_in-found.ensures ∙ nonempty_word (ascii "EXCEPTION") _ (omega arith) in
+    sym sought-from ∙ c.in-At.is
 
 -- and within the text
-found_within : (c : At-in-At) →
+found_within : (c : goal.In-At) →
     (c.loop-at.from ≤ c.in-At.at) × (c.in-At.at < length c.args.text.now)
 found_within c =
     let a = c.args in
@@ -46,25 +40,25 @@ loop-at-init c = refl
 pub returns-in_default : goal.returns-in_default
 returns-in_default c =
     let a = c.args in
-    sym (c.loop-at.invariant ∙ ap is_found (handler_none (marked a.text.now a.map.now) c.loop-at.from (sym (sought-from c.before.before.before) ∙ c.in_default.is)))
+    sym (c.loop-at.invariant ∙ ap is_found (handler_none (marked a.text.now a.map.now) c.loop-at.from (sym (sought-from (goal.at.returns-in_default c).After-find_keyword_in-found) ∙ c.in_default.is)))
 
 pub overflow_add-at : goal.overflow_add-at
-overflow_add-at c = omega (arith, (found_within c.before).1)
+overflow_add-at c = omega (arith, (found_within c).1)
 
 pub returns-then-next_is_when : goal.returns-then-next_is_when
 returns-then-next_is_when c =
     let a = c.args in
     sym (c.loop-at.invariant
-    ∙ ap is_found (handler_hit (marked a.text.now a.map.now) c.loop-at.from _ (found_at c.before.before.before) (sym c.next_is_when.ensures ∙ c.if-next_is_when.true)))
+    ∙ ap is_found (handler_hit (marked a.text.now a.map.now) c.loop-at.from _ (found_at (goal.at.returns-then-next_is_when c).In-At) (sym c.next_is_when.ensures ∙ c.if-next_is_when.true)))
 
 pub overflow_add-from : goal.overflow_add-from
-overflow_add-from c = omega (arith, (found_within c.before.before.before).1)
+overflow_add-from c = omega (arith, (found_within (goal.at.overflow_add-from c).In-At).1)
 
 pub loop-at-smaller : goal.loop-at-smaller
-loop-at-smaller c = let w = found_within c.before.before.before in omega arith
+loop-at-smaller c = let w = found_within (goal.at.loop-at-smaller c).In-At in omega arith
 
 pub loop-at-preserved : goal.loop-at-preserved
 loop-at-preserved c =
     let a = c.args in
     c.loop-at.invariant
-    ∙ ap is_found (handler_miss (marked a.text.now a.map.now) c.loop-at.from _ (found_at c.before.before.before) (sym c.next_is_when.ensures ∙ c.if-next_is_when.false))
+    ∙ ap is_found (handler_miss (marked a.text.now a.map.now) c.loop-at.from _ (found_at (goal.at.loop-at-preserved c).In-At) (sym c.next_is_when.ensures ∙ c.if-next_is_when.false))

@@ -10,26 +10,19 @@ use Rattle.spec.specs.Search.{has_unterminated_dollar_quote}
 use Rattle.scanner.proofs.SpanWalkLaws.{unclosed_ahead, unclosed_over}
 use Rattle.spans.proofs.StepLaws.{Stepped, step_taken, step_done}
 use Rattle.scanner.proofs.has_unterminated.Goals as goal
-use Rattle.scanner.proofs.has_unterminated.Lts
-use Rattle.scanner.proofs.has_unterminated.Tie
-use Rattle.scanner.proofs.has_unterminated.Reads
-
-abbrev At-in-Taken-2 : Type 0
-At-in-Taken-2 = Lts.After-step2 Tie.the-claims Reads.Pre Reads.Post goal.the-invariant-loop-s goal.the-decreases-loop-s
-
-abbrev At-after-is_unclosed : Type 0
-At-after-is_unclosed = Lts.After-is_unclosed Tie.the-claims Reads.Pre Reads.Post goal.the-invariant-loop-s goal.the-decreases-loop-s
+use Rattle.scanner.proofs.has_unterminated.Goals.{In-Taken, After-is_unclosed}
 
 -- the step that was taken
-turn : (c : At-in-Taken-2) → Stepped c.args.text.now c.loop-s.cursor.at c.in-Taken.s c.in-Taken.next.at
+turn : (c : goal.In-Taken) → Stepped c.args.text.now c.loop-s.cursor.at c.in-Taken.s c.in-Taken.next.at
 turn c = step_taken _ _ _ c.in-Taken.next (sym c.step-step.ensures ∙ c.in-Taken.is)
 
 -- what is left, by whether its front span is closed
-ahead : (c : At-after-is_unclosed) →
+ahead : (c : goal.After-is_unclosed) →
     has_unterminated_dollar_quote c.args.text.now ≡ (c.is_unclosed.result || has_unterminated_dollar_quote (drop c.in-Taken.next.at c.args.text.now))
 ahead c =
+    let turn : Stepped c.args.text.now c.loop-s.cursor.at c.in-Taken.s c.in-Taken.next.at = step_taken _ _ _ c.in-Taken.next (sym c.step-step.ensures ∙ c.in-Taken.is) in
     c.loop-s.invariant.1
-    ∙ (unclosed_ahead c.args.text.now c.loop-s.cursor.at c.in-Taken.s c.in-Taken.next.at (turn c.before.before)
+    ∙ (unclosed_ahead c.args.text.now c.loop-s.cursor.at c.in-Taken.s c.in-Taken.next.at turn
     ∙ rw c.is_unclosed.ensures)
 
 pub loop-s-init : goal.loop-s-init
@@ -40,10 +33,10 @@ returns-in_default c =
     sym (c.loop-s.invariant.1 ∙ unclosed_over c.args.text.now c.loop-s.cursor.at (step_done _ _ (sym c.step-step.ensures ∙ c.in_default.is)))
 
 pub returns-then-is_unclosed : goal.returns-then-is_unclosed
-returns-then-is_unclosed c = sym (rw c.if-is_unclosed.true at (ahead c.before.before))
+returns-then-is_unclosed c = sym (rw c.if-is_unclosed.true at (ahead (goal.at.returns-then-is_unclosed c).After-is_unclosed))
 
 pub loop-s-smaller : goal.loop-s-smaller
-loop-s-smaller c = omega (arith, (turn c.before.before.before.before).within, (turn c.before.before.before.before).beyond)
+loop-s-smaller c = omega (arith, (turn (goal.at.loop-s-smaller c).In-Taken).within, (turn (goal.at.loop-s-smaller c).In-Taken).beyond)
 
 pub loop-s-preserved : goal.loop-s-preserved
-loop-s-preserved c = ((turn c.before.before.before.before).within, rw c.if-is_unclosed.false at (ahead c.before.before))
+loop-s-preserved c = ((turn (goal.at.loop-s-preserved c).In-Taken).within, rw c.if-is_unclosed.false at (ahead (goal.at.loop-s-preserved c).After-is_unclosed))

@@ -11,15 +11,10 @@ use Rattle.spec.proofs.WalkLaws.{prefix_by_len}
 use Rattle.scanner.specs.Edges.{edges}
 use Rattle.scanner.proofs.KeywordLaws.{key_here}
 use Rattle.scanner.proofs.keyword_at.Goals as goal
-use Rattle.scanner.proofs.keyword_at.Lts
-use Rattle.scanner.proofs.keyword_at.Tie
-use Rattle.scanner.proofs.keyword_at.Reads
-
-abbrev At-after-starts_ignoring_case : Type 0
-At-after-starts_ignoring_case = Lts.After-starts_ignoring_case Tie.the-claims Reads.Pre Reads.Post
+use Rattle.scanner.proofs.keyword_at.Goals.{After-starts_ignoring_case}
 
 -- the comparison's result, of what stands from i on
-tested : (c : At-after-starts_ignoring_case) →
+tested : (c : goal.After-starts_ignoring_case) →
     let a = c.args in
     c.starts_ignoring_case.result ≡ prefix_by upper a.word.now (drop a.i a.text.now)
 tested c =
@@ -31,7 +26,7 @@ tested c =
 pub edges_at-requires : goal.edges_at-requires
 edges_at-requires c =
     let a = c.args in
-    omega (arith, c.requires, prefix_by_len upper a.word.now (drop a.i a.text.now) (sym (tested c.before.before) ∙ c.if-starts_ignoring_case.true), length-drop a.i a.text.now)
+    omega (arith, c.requires, prefix_by_len upper a.word.now (drop a.i a.text.now) (sym (tested (goal.at.edges_at-requires c).After-starts_ignoring_case) ∙ c.if-starts_ignoring_case.true), length-drop a.i a.text.now)
 
 pub returns-then-starts_ignoring_case : goal.returns-then-starts_ignoring_case
 returns-then-starts_ignoring_case c =
@@ -39,11 +34,11 @@ returns-then-starts_ignoring_case c =
     let e = edges a.text.now a.map.now (length a.word.now) a.i in
     c.edges_at.ensures
     ∙ sym (key_here a.text.now a.map.now a.word.now a.i c.requires
-    ∙ (ap (λ (b : Bool). e && b) (sym (tested c.before.before.before) ∙ c.if-starts_ignoring_case.true) ∙ and-true e))
+    ∙ (ap (λ (b : Bool). e && b) (sym (tested (goal.at.returns-then-starts_ignoring_case c).After-starts_ignoring_case) ∙ c.if-starts_ignoring_case.true) ∙ and-true e))
 
 pub returns-else-starts_ignoring_case : goal.returns-else-starts_ignoring_case
 returns-else-starts_ignoring_case c =
     let a = c.args in
     let e = edges a.text.now a.map.now (length a.word.now) a.i in
     sym (key_here a.text.now a.map.now a.word.now a.i c.requires
-    ∙ (ap (λ (b : Bool). e && b) (sym (tested c.before.before) ∙ c.if-starts_ignoring_case.false) ∙ and-false e))
+    ∙ (ap (λ (b : Bool). e && b) (sym (tested (goal.at.returns-else-starts_ignoring_case c).After-starts_ignoring_case) ∙ c.if-starts_ignoring_case.false) ∙ and-false e))

@@ -10,15 +10,10 @@ use Rattle.spec.specs.Map.{span_flag}
 use Rattle.scanner.proofs.SpanWalkLaws.{map_turn, map_over, map_kept}
 use Rattle.spans.proofs.StepLaws.{Stepped, step_taken, step_done}
 use Rattle.scanner.proofs.map_text.Goals as goal
-use Rattle.scanner.proofs.map_text.Lts
-use Rattle.scanner.proofs.map_text.Tie
-use Rattle.scanner.proofs.map_text.Reads
-
-abbrev At-in-Taken-2 : Type 0
-At-in-Taken-2 = Lts.After-step2 Tie.the-claims Reads.Pre Reads.Post goal.the-invariant-loop-s goal.the-decreases-loop-s
+use Rattle.scanner.proofs.map_text.Goals.{In-Taken}
 
 -- the step that was taken
-turn : (c : At-in-Taken-2) → Stepped c.args.text.now c.loop-s.cursor.at c.in-Taken.s c.in-Taken.next.at
+turn : (c : goal.In-Taken) → Stepped c.args.text.now c.loop-s.cursor.at c.in-Taken.s c.in-Taken.next.at
 turn c = step_taken _ _ _ c.in-Taken.next (sym c.step-step.ensures ∙ c.in-Taken.is)
 
 pub loop-s-init : goal.loop-s-init
@@ -35,7 +30,7 @@ returns-in_default c =
     sym (l.invariant.2 ∙ over) ∙ map_kept a.text.now a.map.now c.requires
 
 pub loop-s-smaller : goal.loop-s-smaller
-loop-s-smaller c = omega (arith, (turn c.before.before.before.before.before.before.before).within, (turn c.before.before.before.before.before.before.before).beyond)
+loop-s-smaller c = omega (arith, (turn (goal.at.loop-s-smaller c).In-Taken).within, (turn (goal.at.loop-s-smaller c).In-Taken).beyond)
 
 pub loop-s-preserved : goal.loop-s-preserved
 loop-s-preserved c =
@@ -44,4 +39,4 @@ loop-s-preserved c =
     let s = c.in-Taken.s in
     let to = c.in-Taken.next.at in
     let stored : c.mark_span.new.map ≡ sets l.map l.cursor.at (replicate (to - l.cursor.at) (span_flag s)) = rw (← c.span_flag.ensures) c.mark_span.ensures in
-    ((turn c.before.before.before.before.before.before.before).within, c.mark_span.auto.map ∙ l.invariant.1, l.invariant.2 ∙ map_turn xs l.cursor.at s to (turn c.before.before.before.before.before.before.before) l.map c.mark_span.new.map stored)
+    ((turn (goal.at.loop-s-preserved c).In-Taken).within, c.mark_span.auto.map ∙ l.invariant.1, l.invariant.2 ∙ map_turn xs l.cursor.at s to (turn (goal.at.loop-s-preserved c).In-Taken) l.map c.mark_span.new.map stored)

@@ -8,15 +8,10 @@ use Rattle.spec.specs.Search.{has_exception_handler}
 use Rattle.spec.specs.declared.Check.TheVariants.{Passed}
 use Rattle.searches.proofs.CheckedLaws.{passed_marks}
 use Rattle.searches.proofs.has_exception_handler.Goals as goal
-use Rattle.searches.proofs.has_exception_handler.Lts
-use Rattle.searches.proofs.has_exception_handler.Tie
-use Rattle.searches.proofs.has_exception_handler.Reads
-
-abbrev At-in_default : Type 0
-At-in_default = Lts.After-enum_told Tie.the-claims Reads.Pre Reads.Post Tie.handed_clauses
+use Rattle.searches.proofs.has_exception_handler.Goals.{In_default}
 
 -- the checks have passed
-passed : (c : At-in_default) →
+passed : (c : goal.In_default) →
     map_check c.args.text.now c.args.map.now [] ≡ Passed
 passed c = sym c.map_checked-check.ensures.value ∙ c.in_default.is
 
@@ -24,8 +19,8 @@ pub returns-in_default : goal.returns-in_default
 unfolding handler_answer has_exception_handler
 returns-in_default c =
     let s = c.args in
-    let m = passed_marks s.text.now s.map.now [] (passed c.before.before.before.before) c.map_checked-check.new.map c.map_checked-check.ensures.map_after in
-    record { value = c.yes_no_answer.ensures ∙ rw (passed c.before.before.before.before, ← m) (ap (λ k. search_answer Passed (yes_no k)) c.has_handler_in.ensures); map_after = c.map_checked-check.ensures.map_after }
+    let m = passed_marks s.text.now s.map.now [] (passed (goal.at.returns-in_default c).In_default) c.map_checked-check.new.map c.map_checked-check.ensures.map_after in
+    record { value = c.yes_no_answer.ensures ∙ rw (passed (goal.at.returns-in_default c).In_default, ← m) (ap (λ k. search_answer Passed (yes_no k)) c.has_handler_in.ensures); map_after = c.map_checked-check.ensures.map_after }
 
 pub returns : goal.returns
 unfolding handler_answer

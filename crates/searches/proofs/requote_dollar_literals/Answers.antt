@@ -12,15 +12,10 @@ use Rattle.spec.specs.declared.Filled.TheVariants.{Count}
 use Rattle.spec.proofs.RequotedLength.{requoted_exactly, length_told, length_refused, text_refused, told_fits, told_short}
 use Rattle.searches.proofs.CheckedLaws.{within_limit, sets_front}
 use Rattle.searches.proofs.requote_dollar_literals.Goals as goal
-use Rattle.searches.proofs.requote_dollar_literals.Lts
-use Rattle.searches.proofs.requote_dollar_literals.Tie
-use Rattle.searches.proofs.requote_dollar_literals.Reads
-
-abbrev At-in-Count : Type 0
-At-in-Count = Lts.After-known_told Tie.the-claims Reads.Pre Reads.Post Tie.handed_clauses
+use Rattle.searches.proofs.requote_dollar_literals.Goals.{In-Count}
 
 -- what was told
-told : (c : At-in-Count) →
+told : (c : goal.In-Count) →
     requoted_length_answer c.args.text.now ≡ Count c.in-Count.n
 told c = sym c.requoted_length-length.ensures ∙ c.in-Count.is
 
@@ -36,13 +31,13 @@ pub returns-then-output-n : goal.returns-then-output-n
 unfolding requote_answer requote_exit
 returns-then-output-n c =
     let s = c.args in
-    let e = told_short s.text.now s.output.now _ (told c.before.before) c.if-output-n.true in
+    let e = told_short s.text.now s.output.now _ (told (goal.at.returns-then-output-n c).In-Count) c.if-output-n.true in
     record { value = rw e refl; output_after = rw e refl }
 
 pub requote-requires : goal.requote-requires
 requote-requires c =
     let xs = c.args.text.now in
-    within_limit xs (length_told xs _ (told c.before.before.before)).0
+    within_limit xs (length_told xs _ (told (goal.at.requote-requires c).In-Count)).0
 
 pub returns : goal.returns
 unfolding requote_answer requote_exit
@@ -50,6 +45,6 @@ returns c =
     let q = c.requote in
     let s = c.args in
     let xs = s.text.now in
-    let e = told_fits xs s.output.now _ (told c.before.before.before.before.before.before) c.if-output-n.false in
-    let fits : length (requoted xs) ≤ length s.output.now = omega (arith, (length_told xs _ (told c.before.before.before.before.before.before)).1, c.if-output-n.false) in
+    let e = told_fits xs s.output.now _ (told (goal.at.returns c).In-Count) c.if-output-n.false in
+    let fits : length (requoted xs) ≤ length s.output.now = omega (arith, (length_told xs _ (told (goal.at.returns c).In-Count)).1, c.if-output-n.false) in
     record { value = rw e (ap (λ n. filled_answer Passed n) (q.ensures.value ∙ sym (requoted_exactly xs))); output_after = rw e (q.ensures.out_after ∙ sets_front s.output.now (requoted xs) fits) }

@@ -10,15 +10,10 @@ use Rattle.spec.specs.Answers.{split_check, split_answer, split_map_exit, split_
 use Rattle.spec.specs.declared.Check.TheVariants.{Passed}
 use Rattle.searches.proofs.CheckedLaws.{split_fits, split_short_map, split_short_starts, refused_count, short_exit, passed_fits}
 use Rattle.searches.proofs.split_in_code.Goals as goal
-use Rattle.searches.proofs.split_in_code.Lts
-use Rattle.searches.proofs.split_in_code.Tie
-use Rattle.searches.proofs.split_in_code.Reads
-
-abbrev At-in_default : Type 0
-At-in_default = Lts.After-enum_told Tie.the-claims Reads.Pre Reads.Post Tie.handed_clauses
+use Rattle.searches.proofs.split_in_code.Goals.{In_default}
 
 -- both buffers are long enough and the checks have passed
-passed : (c : At-in_default) →
+passed : (c : goal.In_default) →
     split_check c.args.text.now c.args.map.now c.args.starts.now ≡ Passed
 passed c =
     split_fits c.args.text.now c.args.map.now c.args.starts.now c.if-map-text.false c.if-starts-text.false ∙ (sym c.check_texts-check.ensures ∙ c.in_default.is)
@@ -45,7 +40,7 @@ pub returns-in_default : goal.returns-in_default
 unfolding split_answer split_map_exit split_exit split_in_code
 returns-in_default c =
     let s = c.args in
-    let e = passed c.before.before.before.before.before.before.before.before.before.before in
+    let e = passed (goal.at.returns-in_default c).In_default in
     let q = c.split_in in
     let m = ap (λ l. marked s.text.now l) c.map_text.ensures ∙ marked_kept s.text.now s.map.now in
     record { value = rw (e, ← m) (ap (λ n. filled_answer Passed n) q.ensures.value); map_after = rw e c.map_text.ensures; starts_after = rw (e, ← m) q.ensures.starts_after }

@@ -12,18 +12,10 @@ use Rattle.set_lines.proofs.SetLineLaws.{part_short}
 use Rattle.set_lines.proofs.PutLaws.{puts_same}
 use Rattle.select_into.proofs.StatementCutLaws.{place_bound, part_mapped, cut_copied, cut_written}
 use Rattle.select_into.proofs.put_cut.Goals as goal
-use Rattle.select_into.proofs.put_cut.Lts
-use Rattle.select_into.proofs.put_cut.Tie
-use Rattle.select_into.proofs.put_cut.Reads
-
-abbrev At-after-greater-d : Type 0
-At-after-greater-d = Lts.After-greater2 Tie.the-claims Reads.Pre Reads.Post Tie.handed_clauses
-
-abbrev At-after-varsmap-1 : Type 0
-At-after-varsmap-1 = Lts.After-varsmap Tie.the-claims Reads.Pre Reads.Post Tie.handed_clauses
+use Rattle.select_into.proofs.put_cut.Goals.{After-greater-d, After-varsmap-1}
 
 -- where the columns and the variables stand
-places : (c : At-after-greater-d) →
+places : (c : goal.After-greater-d) →
     (c.args.s + 6 ≤ c.greater-b.result) × (c.greater-b.result ≤ length c.args.text.now) × (c.args.i + 4 ≤ c.greater-d.result) × (c.greater-d.result ≤ length c.args.text.now)
 places c =
     let a = c.args in
@@ -32,11 +24,15 @@ places c =
     (omega (arith, c.greater-b.ensures), omega (arith, c.greater-b.ensures, c.requires), omega (arith, c.greater-d.ensures), omega (arith, c.greater-d.ensures, c.place_or.ensures, c.requires))
 
 -- their maps are long enough
-mapped : (c : At-after-varsmap-1) →
+mapped : (c : goal.After-varsmap-1) →
     (length (take (c.greater-b.result - (c.args.s + 6)) (drop (c.args.s + 6) c.args.text.now)) ≤ length (take (c.greater-b.result - (c.args.s + 6)) (drop (c.args.s + 6) c.args.map.now))) × (length (take (c.greater-d.result - (c.args.i + 4)) (drop (c.args.i + 4) c.args.text.now)) ≤ length (take (c.greater-d.result - (c.args.i + 4)) (drop (c.args.i + 4) c.args.map.now)))
 mapped c =
+    let places : (c.args.s + 6 ≤ c.greater-b.result) × (c.greater-b.result ≤ length c.args.text.now) × (c.args.i + 4 ≤ c.greater-d.result) × (c.greater-d.result ≤ length c.args.text.now) = let a = c.args in
+        let n = length a.text.now in
+        let p = place_bound a.from (n - 1) n c.requires.from_in_bounds (omega arith) in
+        (omega (arith, c.greater-b.ensures), omega (arith, c.greater-b.ensures, c.requires), omega (arith, c.greater-d.ensures), omega (arith, c.greater-d.ensures, c.place_or.ensures, c.requires)) in
     let a = c.args in
-    let p = places c.before.before.before.before in
+    let p = places in
     (part_mapped a.text.now a.map.now (a.s + 6) c.greater-b.result c.requires.text_in_bounds p.0 p.1, part_mapped a.text.now a.map.now (a.i + 4) c.greater-d.result c.requires.text_in_bounds p.2 p.3)
 
 pub overflow_add-a : goal.overflow_add-a
@@ -51,55 +47,55 @@ overflow_sub-text c =
     omega (arith, c.requires.s_in_bounds)
 
 pub slice_bounds-cols-count : goal.slice_bounds-cols-count
-slice_bounds-cols-count c = omega (arith, places c.before)
+slice_bounds-cols-count c = omega (arith, places c)
 
 pub slice_bounds-cols-start : goal.slice_bounds-cols-start
-slice_bounds-cols-start c = omega (arith, places c.before)
+slice_bounds-cols-start c = omega (arith, places c)
 
 pub slice_bounds-cols-end : goal.slice_bounds-cols-end
-slice_bounds-cols-end c = omega (arith, places c.before)
+slice_bounds-cols-end c = omega (arith, places c)
 
 pub slice_bounds-colsmap-count : goal.slice_bounds-colsmap-count
 slice_bounds-colsmap-count c =
-    omega (arith, places c.before.before, c.requires.text_in_bounds)
+    omega (arith, places (goal.at.slice_bounds-colsmap-count c).After-greater-d, c.requires.text_in_bounds)
 
 pub slice_bounds-colsmap-start : goal.slice_bounds-colsmap-start
 slice_bounds-colsmap-start c =
-    omega (arith, places c.before.before, c.requires.text_in_bounds)
+    omega (arith, places (goal.at.slice_bounds-colsmap-start c).After-greater-d, c.requires.text_in_bounds)
 
 pub slice_bounds-colsmap-end : goal.slice_bounds-colsmap-end
 slice_bounds-colsmap-end c =
-    omega (arith, places c.before.before, c.requires.text_in_bounds)
+    omega (arith, places (goal.at.slice_bounds-colsmap-end c).After-greater-d, c.requires.text_in_bounds)
 
 pub slice_bounds-vars-count : goal.slice_bounds-vars-count
-slice_bounds-vars-count c = omega (arith, places c.before.before.before)
+slice_bounds-vars-count c = omega (arith, places (goal.at.slice_bounds-vars-count c).After-greater-d)
 
 pub slice_bounds-vars-start : goal.slice_bounds-vars-start
-slice_bounds-vars-start c = omega (arith, places c.before.before.before)
+slice_bounds-vars-start c = omega (arith, places (goal.at.slice_bounds-vars-start c).After-greater-d)
 
 pub slice_bounds-vars-end : goal.slice_bounds-vars-end
-slice_bounds-vars-end c = omega (arith, places c.before.before.before)
+slice_bounds-vars-end c = omega (arith, places (goal.at.slice_bounds-vars-end c).After-greater-d)
 
 pub slice_bounds-varsmap-count : goal.slice_bounds-varsmap-count
 slice_bounds-varsmap-count c =
-    omega (arith, places c.before.before.before.before, c.requires.text_in_bounds)
+    omega (arith, places (goal.at.slice_bounds-varsmap-count c).After-greater-d, c.requires.text_in_bounds)
 
 pub slice_bounds-varsmap-start : goal.slice_bounds-varsmap-start
 slice_bounds-varsmap-start c =
-    omega (arith, places c.before.before.before.before, c.requires.text_in_bounds)
+    omega (arith, places (goal.at.slice_bounds-varsmap-start c).After-greater-d, c.requires.text_in_bounds)
 
 pub slice_bounds-varsmap-end : goal.slice_bounds-varsmap-end
 slice_bounds-varsmap-end c =
-    omega (arith, places c.before.before.before.before, c.requires.text_in_bounds)
+    omega (arith, places (goal.at.slice_bounds-varsmap-end c).After-greater-d, c.requires.text_in_bounds)
 
 pub pairs_up-requires : goal.pairs_up-requires
-pairs_up-requires c = mapped c.before
+pairs_up-requires c = mapped c
 
 pub put_pairs-requires : goal.put_pairs-requires
 put_pairs-requires c =
     let a = c.args in
-    let m = mapped c.before.before.before.before.before in
-    let p = places c.before.before.before.before.before.before.before.before.before in record { cols_in_bounds = m.0; vars_in_bounds = m.1; text_bound = omega (arith, c.requires.text_bound, part_short (c.greater-b.result - (a.s + 6)) (a.s + 6) a.text.now, part_short (c.greater-d.result - (a.i + 4)) (a.i + 4) a.text.now); front_le_s = c.front_place-front.ensures.upper_bound; s_in_bounds = omega (arith, c.requires.s_in_bounds); f_in_bounds = omega (arith, c.place_or-f.ensures, place_bound a.from (length a.text.now) (length a.text.now) c.requires.from_in_bounds (omega arith)) }
+    let m = mapped (goal.at.put_pairs-requires c).After-varsmap-1 in
+    let p = places (goal.at.put_pairs-requires c).After-greater-d in record { cols_in_bounds = m.0; vars_in_bounds = m.1; text_bound = omega (arith, c.requires.text_bound, part_short (c.greater-b.result - (a.s + 6)) (a.s + 6) a.text.now, part_short (c.greater-d.result - (a.i + 4)) (a.i + 4) a.text.now); front_le_s = c.front_place-front.ensures.upper_bound; s_in_bounds = omega (arith, c.requires.s_in_bounds); f_in_bounds = omega (arith, c.place_or-f.ensures, place_bound a.from (length a.text.now) (length a.text.now) c.requires.from_in_bounds (omega arith)) }
 
 pub put_text-requires : goal.put_text-requires
 put_text-requires c =

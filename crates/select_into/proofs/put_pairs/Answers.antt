@@ -14,12 +14,7 @@ use Rattle.set_lines.proofs.SetLineLaws.{part_short}
 use Rattle.select_into.proofs.FromLaws.{from_within, shared_same}
 use Rattle.set_lines.proofs.PutLaws.{all_stored, stored_puts, puts_same}
 use Rattle.select_into.proofs.put_pairs.Goals as goal
-use Rattle.select_into.proofs.put_pairs.Lts
-use Rattle.select_into.proofs.put_pairs.Tie
-use Rattle.select_into.proofs.put_pairs.Reads
-
-abbrev At-after-from_len : Type 0
-At-after-from_len = Lts.After-from_len Tie.the-claims Reads.Pre Reads.Post Tie.handed_clauses
+use Rattle.select_into.proofs.put_pairs.Goals.{After-from_len}
 
 -- earlier steps
 abbrev at-start : tie.After-put-all → tie.Start
@@ -29,7 +24,7 @@ abbrev at-put : tie.After-from-len → tie.After-put-all
 at-put c = let limit = c.before.before.before.before in limit.before.before.before.before
 
 -- the FROM part ends within the text
-inside : (c : At-after-from_len) → let start = at-start (at-put c) in start.args.f + c.from_len.result ≤ length start.args.text.now
+inside : (c : goal.After-from_len) → let start = at-start (at-put c) in start.args.f + c.from_len.result ≤ length start.args.text.now
 inside c =
     let start = at-start (at-put c) in
     from_within start.args.text.now start.args.f _ c.from_len.ensures start.pre.1.1.1.1.1
@@ -46,13 +41,13 @@ pub limit_after-k-requires : goal.limit_after-k-requires
 limit_after-k-requires c = omega (arith, c.limit_after.ensures.upper_bound)
 
 pub overflow_add-end : goal.overflow_add-end
-overflow_add-end c = let start = at-start (at-put c.before) in omega (arith, start.pre, inside c.before)
+overflow_add-end c = let start = at-start (at-put c.before) in omega (arith, start.pre, inside c)
 
 pub slice_bounds-from-start : goal.slice_bounds-from-start
-slice_bounds-from-start c = omega (arith, inside c.before)
+slice_bounds-from-start c = omega (arith, inside c)
 
 pub slice_bounds-from-end : goal.slice_bounds-from-end
-slice_bounds-from-end c = omega (arith, inside c.before)
+slice_bounds-from-end c = omega (arith, inside c)
 
 pub slice_bounds-trimmed-end : goal.slice_bounds-trimmed-end
 slice_bounds-trimmed-end c = sym (length-take-le _ _ (omega arith))

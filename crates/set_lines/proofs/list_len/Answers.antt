@@ -9,15 +9,10 @@ use Rattle.spec.proofs.MapLaws.{marked_length}
 use Rattle.quotes.specs.Items.{Listed}
 use Rattle.set_lines.proofs.ListedLaws.{item_part, item_over, parts_count}
 use Rattle.set_lines.proofs.list_len.Goals as goal
-use Rattle.set_lines.proofs.list_len.Lts
-use Rattle.set_lines.proofs.list_len.Tie
-use Rattle.set_lines.proofs.list_len.Reads
-
-abbrev At-in-Next : Type 0
-At-in-Next = Lts.After-known_told Tie.the-claims Reads.Pre Reads.Post goal.the-invariant-loop-next goal.the-decreases-loop-next
+use Rattle.set_lines.proofs.list_len.Goals.{In-Next}
 
 -- the part that was given
-given-item : (c : At-in-Next) →
+given-item : (c : goal.In-Next) →
     Listed (marked c.args.text.now c.args.map.now) c.loop-next.from c.in-Next.field-0 c.in-Next.field-1 c.in-Next.next
 given-item c = item_part _ _ _ c.next_item-item.ensures _ _ _ c.in-Next.is
 
@@ -33,15 +28,15 @@ returns-in_default c =
 
 pub overflow_add-n : goal.overflow_add-n
 overflow_add-n c =
-    let h = given-item c.before in let l = c.loop-next in omega (arith, h.behind, h.inside, marked_length c.args.text.now c.args.map.now)
+    let h = given-item c in let l = c.loop-next in omega (arith, h.behind, h.inside, marked_length c.args.text.now c.args.map.now)
 
 pub loop-next-smaller : goal.loop-next-smaller
 loop-next-smaller c =
-    let h = given-item c.before in let l = c.loop-next in omega (arith, h.behind, h.beyond, h.inside, marked_length c.args.text.now c.args.map.now)
+    let h = given-item c in let l = c.loop-next in omega (arith, h.behind, h.beyond, h.inside, marked_length c.args.text.now c.args.map.now)
 
 pub loop-next-preserved : goal.loop-next-preserved
 loop-next-preserved c =
-    let h = given-item c.before in
+    let h = given-item c in
     let l = c.loop-next in
     let k = marked_length c.args.text.now c.args.map.now in
     (omega (arith, h.behind, h.beyond), omega (arith, h.within), omega (arith, l.invariant.2, parts_count _ _ _ _ _ h))

@@ -13,49 +13,42 @@ use Rattle.set_lines.proofs.ListedLaws.{item_part, item_over}
 use Rattle.set_lines.proofs.SetLineLaws.{part_length, line_same, lines_turn, lines_over, lines_short}
 use Rattle.set_lines.proofs.PutLaws.{left_more, left_done, left_over, stored_same, line_length, break_length}
 use Rattle.set_lines.proofs.put_set_lines.Goals as goal
-use Rattle.set_lines.proofs.put_set_lines.Lts
-use Rattle.set_lines.proofs.put_set_lines.Tie
-use Rattle.set_lines.proofs.put_set_lines.Reads
-
-abbrev At-in-Next : Type 0
-At-in-Next = Lts.After-known_told Tie.the-claims Reads.Pre Reads.Post goal.the-invariant-loop-o goal.the-decreases-loop-o Tie.handed_clauses
-
-abbrev At-in-Next-var : Type 0
-At-in-Next-var = Lts.After-known_told2 Tie.the-claims Reads.Pre Reads.Post goal.the-invariant-loop-o goal.the-decreases-loop-o Tie.handed_clauses
-
-abbrev At-after-put_set_line-o : Type 0
-At-after-put_set_line-o = Lts.After-put_set_line Tie.the-claims Reads.Pre Reads.Post goal.the-invariant-loop-o goal.the-decreases-loop-o Tie.handed_clauses
+use Rattle.set_lines.proofs.put_set_lines.Goals.{In-Next, In-Next-var, After-put_set_line-o}
 
 -- the column that was given, and the variable
-col-item : (c : At-in-Next) →
+col-item : (c : goal.In-Next) →
     Listed (marked c.args.cols.now c.args.colsmap.now) c.loop-o.at c.in-Next.start c.in-Next.len c.in-Next.next
 col-item c = item_part _ _ _ c.next_item-col.ensures _ _ _ c.in-Next.is
 
-var-item : (c : At-in-Next-var) →
+var-item : (c : goal.In-Next-var) →
     Listed (marked c.args.vars.now c.args.varsmap.now) c.loop-o.to c.in-Next-var.first c.in-Next-var.count c.in-Next-var.then
 var-item c = item_part _ _ _ c.next_item-var.ensures _ _ _ c.in-Next-var.is
 
 -- they stand within their lists
-col-within : (c : At-in-Next-var) →
+col-within : (c : goal.In-Next-var) →
     c.in-Next.start + c.in-Next.len ≤ length c.args.cols.now
 col-within c =
-    omega (arith, (col-item c.before.before.before.before).inside, marked_length c.args.cols.now c.args.colsmap.now)
+    let col-item : Listed (marked c.args.cols.now c.args.colsmap.now) c.loop-o.at c.in-Next.start c.in-Next.len c.in-Next.next = item_part _ _ _ c.next_item-col.ensures _ _ _ c.in-Next.is in
+    omega (arith, col-item.inside, marked_length c.args.cols.now c.args.colsmap.now)
 
-var-within : (c : At-in-Next-var) →
+var-within : (c : goal.In-Next-var) →
     c.in-Next-var.first + c.in-Next-var.count ≤ length c.args.vars.now
 var-within c =
     omega (arith, (var-item c).inside, marked_length c.args.vars.now c.args.varsmap.now)
 
 -- how far a line reaches
-line-bound : (c : At-after-put_set_line-o) →
+line-bound : (c : goal.After-put_set_line-o) →
     c.put_set_line-o.result ≤ c.loop-o.o + length c.args.with.now + length c.args.from.now + length c.args.cols.now + length c.args.vars.now + 32
 line-bound c =
+    let col-within : c.in-Next.start + c.in-Next.len ≤ length c.args.cols.now = let col-item : Listed (marked c.args.cols.now c.args.colsmap.now) c.loop-o.at c.in-Next.start c.in-Next.len c.in-Next.next = item_part _ _ _ c.next_item-col.ensures _ _ _ c.in-Next.is in
+        omega (arith, col-item.inside, marked_length c.args.cols.now c.args.colsmap.now) in
+    let var-within : c.in-Next-var.first + c.in-Next-var.count ≤ length c.args.vars.now = omega (arith, (var-item c).inside, marked_length c.args.vars.now c.args.varsmap.now) in
     let a = c.args in
     let i = c.in-Next.given.0 in
     let j = c.in-Next-var.given.0 in
     let col = take (i.0 + i.1.0 - i.0) (drop i.0 a.cols.now) in
     let var = take (j.0 + j.1.0 - j.0) (drop j.0 a.vars.now) in
-    omega (arith, c.put_set_line-o.ensures.count, line_length a.with.now a.from.now col var c.is_limited-held.result, part_length a.cols.now i.0 i.1.0 (col-within c.before.before.before.before.before.before), part_length a.vars.now j.0 j.1.0 (var-within c.before.before.before.before.before.before), col-within c.before.before.before.before.before.before, var-within c.before.before.before.before.before.before)
+    omega (arith, c.put_set_line-o.ensures.count, line_length a.with.now a.from.now col var c.is_limited-held.result, part_length a.cols.now i.0 i.1.0 col-within, part_length a.vars.now j.0 j.1.0 var-within, col-within, var-within)
 
 pub loop-o-init : goal.loop-o-init
 loop-o-init c = (refl, record { stores = refl; counts = refl }, omega arith)
@@ -92,46 +85,46 @@ returns-in_default-var c =
     let t = marked a.cols.now a.colsmap.now in
     let u = marked a.vars.now a.varsmap.now in
     left_done _ _ l.out _ l.o _ l.invariant.1
-    (lines_short (shared a.with.now a.from.now a.indent.now a.k a.tail) t u l.at l.to _ _ _ (col-item c.before.before.before.before) (item_over u l.to _ c.next_item-var.ensures c.in_default-var.is))
+    (lines_short (shared a.with.now a.from.now a.indent.now a.k a.tail) t u l.at l.to _ _ _ (col-item (goal.at.returns-in_default-var c).In-Next) (item_over u l.to _ c.next_item-var.ensures c.in_default-var.is))
     (omega (arith, c.if-o-gt-BUFFER_SIZE.false))
 
 pub overflow_add-end : goal.overflow_add-end
-overflow_add-end c = omega (arith, col-within c.before)
+overflow_add-end c = omega (arith, col-within c)
 
 pub overflow_add-last : goal.overflow_add-last
-overflow_add-last c = omega (arith, var-within c.before)
+overflow_add-last c = omega (arith, var-within c)
 
 pub slice_bounds-is_limited-count : goal.slice_bounds-is_limited-count
 slice_bounds-is_limited-count c = omega arith
 
 pub slice_bounds-is_limited-start : goal.slice_bounds-is_limited-start
-slice_bounds-is_limited-start c = omega (arith, col-within c.before)
+slice_bounds-is_limited-start c = omega (arith, col-within c)
 
 pub slice_bounds-is_limited-end : goal.slice_bounds-is_limited-end
-slice_bounds-is_limited-end c = omega (arith, col-within c.before)
+slice_bounds-is_limited-end c = omega (arith, col-within c)
 
 pub slice_bounds-put_set_line-count : goal.slice_bounds-put_set_line-count
 slice_bounds-put_set_line-count c = omega arith
 
 pub slice_bounds-put_set_line-start : goal.slice_bounds-put_set_line-start
-slice_bounds-put_set_line-start c = omega (arith, col-within c.before.before.before.before)
+slice_bounds-put_set_line-start c = omega (arith, col-within (goal.at.slice_bounds-put_set_line-start c).In-Next-var)
 
 pub slice_bounds-put_set_line-end : goal.slice_bounds-put_set_line-end
-slice_bounds-put_set_line-end c = omega (arith, col-within c.before.before.before.before)
+slice_bounds-put_set_line-end c = omega (arith, col-within (goal.at.slice_bounds-put_set_line-end c).In-Next-var)
 
 pub slice_bounds-put_set_line-count-in-loop-o : goal.slice_bounds-put_set_line-count-in-loop-o
 slice_bounds-put_set_line-count-in-loop-o c = omega arith
 
 pub slice_bounds-put_set_line-start-in-loop-o : goal.slice_bounds-put_set_line-start-in-loop-o
-slice_bounds-put_set_line-start-in-loop-o c = omega (arith, var-within c.before.before.before.before.before)
+slice_bounds-put_set_line-start-in-loop-o c = omega (arith, var-within (goal.at.slice_bounds-put_set_line-start-in-loop-o c).In-Next-var)
 
 pub slice_bounds-put_set_line-end-in-loop-o : goal.slice_bounds-put_set_line-end-in-loop-o
-slice_bounds-put_set_line-end-in-loop-o c = omega (arith, var-within c.before.before.before.before.before)
+slice_bounds-put_set_line-end-in-loop-o c = omega (arith, var-within (goal.at.slice_bounds-put_set_line-end-in-loop-o c).In-Next-var)
 
 pub put_set_line-o-requires : goal.put_set_line-o-requires
 put_set_line-o-requires c =
     let a = c.args in
-    omega (arith, c.requires, c.if-o-gt-BUFFER_SIZE.false, part_length a.cols.now _ _ (col-within c.before.before.before.before.before.before), part_length a.vars.now _ _ (var-within c.before.before.before.before.before.before), col-within c.before.before.before.before.before.before, var-within c.before.before.before.before.before.before)
+    omega (arith, c.requires, c.if-o-gt-BUFFER_SIZE.false, part_length a.cols.now _ _ (col-within (goal.at.put_set_line-o-requires c).In-Next-var), part_length a.vars.now _ _ (var-within (goal.at.put_set_line-o-requires c).In-Next-var), col-within (goal.at.put_set_line-o-requires c).In-Next-var, var-within (goal.at.put_set_line-o-requires c).In-Next-var)
 
 pub has_item-requires : goal.has_item-requires
 has_item-requires c =
@@ -139,11 +132,11 @@ has_item-requires c =
 
 pub put_break-o-requires : goal.put_break-o-requires
 put_break-o-requires c =
-    omega (arith, c.requires, c.if-o-gt-BUFFER_SIZE.false, line-bound c.before.before.before.before.before)
+    omega (arith, c.requires, c.if-o-gt-BUFFER_SIZE.false, line-bound (goal.at.put_break-o-requires c).After-put_set_line-o)
 
 pub loop-o-smaller : goal.loop-o-smaller
 loop-o-smaller c =
-    let h = col-item c.before.before.before.before.before.before.before.before.before.before.before.before.before.before.before.before.before.before in
+    let h = col-item (goal.at.loop-o-smaller c).In-Next in
     let a = c.args in
     omega (arith, h.behind, h.beyond, h.inside, marked_length a.cols.now a.colsmap.now)
 
@@ -156,10 +149,10 @@ loop-o-preserved c =
     let t = marked a.cols.now a.colsmap.now in
     let u = marked a.vars.now a.varsmap.now in
     let s = shared a.with.now a.from.now a.indent.now a.k a.tail in
-    let h = col-item c.before.before.before.before.before.before.before.before.before.before.before.before.before.before.before.before.before.before in
+    let h = col-item (goal.at.loop-o-preserved c).In-Next in
     let i = c.in-Next.given.0 in
     let j = c.in-Next-var.given.0 in
-    let g = var-item c.before.before.before.before.before.before.before.before.before.before.before.before.before.before in (
+    let g = var-item (goal.at.loop-o-preserved c).In-Next-var in (
       q.auto.out ∙ (p.auto.out ∙ l.invariant.0),
       left_more _ _ p.new.out _ p.result q.new.out _ _ _ q.result
           (left_more _ _ l.out _ l.o p.new.out _ _ _ p.result l.invariant.1 (lines_turn s t u l.at l.to _ _ _ _ _ _ h g)
@@ -168,5 +161,5 @@ loop-o-preserved c =
           p.ensures))
           refl
           (stored_same p.new.out q.new.out p.result q.result _ _ (ap (break_text a.indent.now) c.has_item.ensures) q.ensures),
-      omega (arith, c.requires, c.if-o-gt-BUFFER_SIZE.false, line-bound c.before.before.before.before.before.before.before.before, q.ensures.count, break_length a.indent.now c.has_item.result),
+      omega (arith, c.requires, c.if-o-gt-BUFFER_SIZE.false, line-bound (goal.at.loop-o-preserved c).After-put_set_line-o, q.ensures.count, break_length a.indent.now c.has_item.result),
     )

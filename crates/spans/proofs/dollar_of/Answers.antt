@@ -14,15 +14,10 @@ use Rattle.spec.proofs.AheadLaws.{rest_of}
 use Rattle.spec.proofs.SpanLaws.{seek_rest, seek_stands}
 use Rattle.classes.proofs.PrefixLaws.{prefix_past}
 use Rattle.spans.proofs.dollar_of.Goals as goal
-use Rattle.spans.proofs.dollar_of.Lts
-use Rattle.spans.proofs.dollar_of.Tie
-use Rattle.spans.proofs.dollar_of.Reads
-
-abbrev At-after-seek-k : Type 0
-At-after-seek-k = Lts.After-seek Tie.the-claims Reads.Pre Reads.Post Tie.handed_clauses
+use Rattle.spans.proofs.dollar_of.Goals.{After-seek-k}
 
 -- the literal ends within the text
-ends : (c : At-after-seek-k) → c.args.n + c.seek-k.result ≤ length c.args.rest.now
+ends : (c : goal.After-seek-k) → c.args.n + c.seek-k.result ≤ length c.args.rest.now
 ends c =
     let s = c.args in
     let e : c.seek-k.result ≡ seek_len (take s.n s.rest.now) (take (length s.rest.now - s.n) (drop s.n s.rest.now)) = c.seek-k.ensures in
@@ -36,13 +31,13 @@ seek-k-requires c =
     omega (arith, length-take-le c.args.n c.args.rest.now c.requires.n_in_bounds)
 
 pub overflow_add-result : goal.overflow_add-result
-overflow_add-result c = omega (arith, ends c.before.before)
+overflow_add-result c = omega (arith, ends (goal.at.overflow_add-result c).After-seek-k)
 
 pub overflow_add-result-then-k-body : goal.overflow_add-result-then-k-body
-overflow_add-result-then-k-body c = omega (arith, ends c.before.before)
+overflow_add-result-then-k-body c = omega (arith, ends (goal.at.overflow_add-result-then-k-body c).After-seek-k)
 
 pub overflow_add-result-else-k-body : goal.overflow_add-result-else-k-body
-overflow_add-result-else-k-body c = omega (arith, ends c.before.before)
+overflow_add-result-else-k-body c = omega (arith, ends (goal.at.overflow_add-result-else-k-body c).After-seek-k)
 
 pub returns-then-k-body : goal.returns-then-k-body
 unfolding dollar_of

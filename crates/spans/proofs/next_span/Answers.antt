@@ -1,7 +1,6 @@
 -- `spans::next_span` meets its contract, with a law for each return: a byte that opens nothing, a `$`, a line comment, a
 -- block comment, the two quotes, or live text. Each takes the tests that failed before it. Assumes nothing.
 use native.Mathlib.Omega.{arith}
-use borrow.Author.Tests.{not-true}
 use mathlib.Core.Path.{◌≡◌, sym, ◌∙◌}
 use Prim.Native.Nat.{◌-◌, ◌<◌}
 use lib.ListN.{length, take, drop, length-drop}
@@ -10,24 +9,16 @@ use Rattle.spec.proofs.AheadLaws.{rest_of}
 use Rattle.spec.proofs.SpanLaws.{line_le, pair_two, at_line, at_block, at_single, at_double, at_code}
 use Rattle.spans.proofs.OpenerLaws.{at_plain, at_sign}
 use Rattle.spans.proofs.next_span.Goals as goal
-use Rattle.spans.proofs.next_span.Lts
-use Rattle.spans.proofs.next_span.Tie
-use Rattle.spans.proofs.next_span.Reads
-
-abbrev At-then-is_pair : Type 0
-At-then-is_pair = Lts.Then3 Tie.the-claims Reads.Pre Reads.Post
-
-abbrev At-after-line_len : Type 0
-At-after-line_len = Lts.After-line_len Tie.the-claims Reads.Pre Reads.Post
+use Rattle.spans.proofs.next_span.Goals.{Then-is_pair, After-line_len}
 
 -- behind `--` stand two bytes
-two : (c : At-then-is_pair) →
+two : (c : goal.Then-is_pair) →
     1 < length c.args.rest.now
 two c =
     pair_two c.args.rest.now 45 44 c.byte_at-c.result (rw (← c.byte_at-d.ensures) (sym c.is_pair.ensures ∙ c.if-is_pair.true))
 
 -- the comment's length
-behind : (c : At-after-line_len) →
+behind : (c : goal.After-line_len) →
     c.line_len.result ≡ line_len (drop 2 c.args.rest.now)
 behind c =
     let xs = c.args.rest.now in
@@ -35,25 +26,25 @@ behind c =
     rw rest_of at h
 
 pub returns-then-not-opens_span : goal.returns-then-not-opens_span
-returns-then-not-opens_span c = sym (at_plain c.args.rest.now _ c.byte_at-c.ensures (sym c.opens_span.ensures ∙ not-true _ c.if-not-opens_span.true))
+returns-then-not-opens_span c = sym (at_plain c.args.rest.now _ c.byte_at-c.ensures (sym c.opens_span.ensures ∙ c.if-not-opens_span.true)
 
 pub returns-then-c-eq36 : goal.returns-then-c-eq36
 returns-then-c-eq36 c =
     c.dollar_quoted.ensures ∙ sym (at_sign c.args.rest.now _ c.byte_at-c.ensures c.if-c-eq36.true)
 
 pub slice_bounds-line_len-count : goal.slice_bounds-line_len-count
-slice_bounds-line_len-count c = two c.before
+slice_bounds-line_len-count c = two c
 
 pub slice_bounds-line_len-start : goal.slice_bounds-line_len-start
-slice_bounds-line_len-start c = two c.before
+slice_bounds-line_len-start c = two c
 
 pub overflow_add-result : goal.overflow_add-result
 overflow_add-result c =
-    omega (arith, behind c.before, line_le (drop 2 c.args.rest.now), length-drop 2 c.args.rest.now)
+    omega (arith, behind c, line_le (drop 2 c.args.rest.now), length-drop 2 c.args.rest.now)
 
 pub returns-then-is_pair : goal.returns-then-is_pair
 returns-then-is_pair c =
-    rw (at_line c.args.rest.now _ _ c.byte_at-c.ensures c.byte_at-d.ensures (sym c.is_pair.ensures ∙ c.if-is_pair.true), behind c.before)
+    rw (at_line c.args.rest.now _ _ c.byte_at-c.ensures c.byte_at-d.ensures (sym c.is_pair.ensures ∙ c.if-is_pair.true), behind c)
 
 pub returns-then-is_pair-2 : goal.returns-then-is_pair-2
 returns-then-is_pair-2 c =

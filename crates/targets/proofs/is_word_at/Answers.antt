@@ -9,38 +9,30 @@ use Rattle.spec.specs.Bytes.{upper, is_word, prefix_by}
 use Rattle.spec.proofs.AheadLaws.{rest_of}
 use borrow.Author.Rules.{rules}
 use Rattle.targets.proofs.is_word_at.Goals as goal
-use Rattle.targets.proofs.is_word_at.Lts
-use Rattle.targets.proofs.is_word_at.Tie
-use Rattle.targets.proofs.is_word_at.Reads
-
-abbrev At-start : Type 0
-At-start = Lts.Start Tie.the-claims Reads.Pre Reads.Post Tie.handed_clauses
-
-abbrev At-after-starts_ignoring_case : Type 0
-At-after-starts_ignoring_case = Lts.After-starts_ignoring_case Tie.the-claims Reads.Pre Reads.Post Tie.handed_clauses
+use Rattle.targets.proofs.is_word_at.Goals.{Start, After-starts_ignoring_case}
 
 -- the entry's word has five bytes
-five : (c : At-start) → length c.args.e.word ≡ 5
+five : (c : goal.Start) → length c.args.e.word ≡ 5
 five c = search rules
 
 -- the comparison is with all of the rest of the statement
-compared : (c : At-after-starts_ignoring_case) → c.starts_ignoring_case.result ≡ prefix_by upper (take c.args.e.len c.args.e.word) (drop c.args.i c.args.statement.now)
+compared : (c : goal.After-starts_ignoring_case) → c.starts_ignoring_case.result ≡ prefix_by upper (take c.args.e.len c.args.e.word) (drop c.args.i c.args.statement.now)
 compared c =
     let a = c.args in
     let h : c.starts_ignoring_case.result ≡ prefix_by upper (take a.e.len a.e.word) (take (length a.statement.now - a.i) (drop a.i a.statement.now)) = c.starts_ignoring_case.ensures in
     rw rest_of at h
 
 pub slice_bounds-word-end : goal.slice_bounds-word-end
-slice_bounds-word-end c = omega (arith, five c.before.before.before.before)
+slice_bounds-word-end c = omega (arith, five (goal.at.slice_bounds-word-end c).Start)
 
 pub slice_bounds-starts_ignoring_case-end-2 : goal.slice_bounds-starts_ignoring_case-end-2
-slice_bounds-starts_ignoring_case-end-2 c = sym (length-take-le c.args.e.len c.args.e.word (omega (arith, five c.before.before.before.before.before)))
+slice_bounds-starts_ignoring_case-end-2 c = sym (length-take-le c.args.e.len c.args.e.word (omega (arith, five (goal.at.slice_bounds-starts_ignoring_case-end-2 c).Start)))
 
 pub returns-then-is_word_byte : goal.returns-then-is_word_byte
-returns-then-is_word_byte c = simp (sym (compared c.before.before.before.before.before) ∙ c.if-starts_ignoring_case.true, sym (ap is_word c.byte_at.ensures) ∙ sym c.is_word_byte.ensures ∙ c.if-is_word_byte.true)
+returns-then-is_word_byte c = simp (sym (compared (goal.at.returns-then-is_word_byte c).After-starts_ignoring_case) ∙ c.if-starts_ignoring_case.true, sym (ap is_word c.byte_at.ensures) ∙ sym c.is_word_byte.ensures ∙ c.if-is_word_byte.true)
 
 pub returns-else-is_word_byte : goal.returns-else-is_word_byte
-returns-else-is_word_byte c = simp (sym (compared c.before.before.before.before.before) ∙ c.if-starts_ignoring_case.true, sym (ap is_word c.byte_at.ensures) ∙ sym c.is_word_byte.ensures ∙ c.if-is_word_byte.false)
+returns-else-is_word_byte c = simp (sym (compared (goal.at.returns-else-is_word_byte c).After-starts_ignoring_case) ∙ c.if-starts_ignoring_case.true, sym (ap is_word c.byte_at.ensures) ∙ sym c.is_word_byte.ensures ∙ c.if-is_word_byte.false)
 
 pub returns-else-starts_ignoring_case : goal.returns-else-starts_ignoring_case
-returns-else-starts_ignoring_case c = simp (sym (compared c.before.before) ∙ c.if-starts_ignoring_case.false)
+returns-else-starts_ignoring_case c = simp (sym (compared (goal.at.returns-else-starts_ignoring_case c).After-starts_ignoring_case) ∙ c.if-starts_ignoring_case.false)

@@ -13,15 +13,10 @@ use Rattle.targets.specs.Words.{target_met}
 use Rattle.targets.proofs.TargetNameLaws.{tells_first, tells_next}
 use Rattle.targets.proofs.MarkingLaws.{cases_le, walk_end, walk_step}
 use Rattle.targets.proofs.marked_target.Goals as goal
-use Rattle.targets.proofs.marked_target.Lts
-use Rattle.targets.proofs.marked_target.Tie
-use Rattle.targets.proofs.marked_target.Reads
-
-abbrev At-after-target_behind-found : Type 0
-At-after-target_behind-found = Lts.After-target_behind Tie.the-claims Reads.Pre Reads.Post goal.the-invariant-loop-i goal.the-decreases-loop-i
+use Rattle.targets.proofs.marked_target.Goals.{After-target_behind-found}
 
 -- what stands behind what is met
-behind : (c : At-after-target_behind-found) → Tells (marked c.args.statement.now c.args.map.now) (target_met c.marking_at-met.result c.loop-i.cases (drop c.loop-i.i (marked c.args.statement.now c.args.map.now))) c.target_behind-found.result
+behind : (c : goal.After-target_behind-found) → Tells (marked c.args.statement.now c.args.map.now) (target_met c.marking_at-met.result c.loop-i.cases (drop c.loop-i.i (marked c.args.statement.now c.args.map.now))) c.target_behind-found.result
 behind c = c.target_behind-found.ensures _ (marked_bytes c.args.statement.now c.args.map.now)
 
 pub loop-i-init : goal.loop-i-init
@@ -35,7 +30,7 @@ returns-then-is_target c =
     let a = c.args in
     let l = c.loop-i in
     rw (l.invariant.2 ∙ walk_step a.statement.now a.map.now l.cases l.before l.i (omega arith) _ c.marking_at-met.ensures.value)
-    (tells_first _ _ _ _ (sym c.is_target.ensures ∙ c.if-is_target.true) (behind c.before.before.before))
+    (tells_first _ _ _ _ (sym c.is_target.ensures ∙ c.if-is_target.true) (behind (goal.at.returns-then-is_target c).After-target_behind-found))
 
 pub loop-i-preserved : goal.loop-i-preserved
 loop-i-preserved c =
@@ -45,7 +40,7 @@ loop-i-preserved c =
       omega (arith, c.cases_behind-cases.ensures, cases_le c.marking_at-met.result l.cases),
       l.invariant.2
           ∙ (walk_step a.statement.now a.map.now l.cases l.before l.i (omega arith) _ c.marking_at-met.ensures.value
-          ∙ (tells_next _ _ _ _ (sym c.is_target.ensures ∙ c.if-is_target.false) (behind c.before.before.before.before.before)
+          ∙ (tells_next _ _ _ _ (sym c.is_target.ensures ∙ c.if-is_target.false) (behind (goal.at.loop-i-preserved c).After-target_behind-found)
           ∙ ap (λ (k : ℕ). marked_target k (get_or a.statement.now l.i 0) (drop (l.i + 1) (marked a.statement.now a.map.now))) (sym c.cases_behind-cases.ensures))),
     )
 

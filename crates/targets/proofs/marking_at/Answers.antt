@@ -14,34 +14,23 @@ use Rattle.targets.specs.Words.{entries, blank}
 use Rattle.targets.specs.declared.Marking.{Marking}
 use Rattle.targets.proofs.MarkingLaws.{entry_long, entry_size, is_entry_at, met_dead, met_inside, met_other, met_none, met_hit, met_miss}
 use Rattle.targets.proofs.marking_at.Goals as goal
-use Rattle.targets.proofs.marking_at.Lts
-use Rattle.targets.proofs.marking_at.Tie
-use Rattle.targets.proofs.marking_at.Reads
-
-abbrev At-else-is_word_byte : Type 0
-At-else-is_word_byte = Lts.Else2 Tie.the-claims Reads.Pre Reads.Post goal.the-invariant-loop-k goal.the-decreases-loop-k Tie.handed_clauses
-
-abbrev At-then-not-is_word_byte : Type 0
-At-then-not-is_word_byte = Lts.Then3 Tie.the-claims Reads.Pre Reads.Post goal.the-invariant-loop-k goal.the-decreases-loop-k Tie.handed_clauses
-
-abbrev At-after-is_word_at : Type 0
-At-after-is_word_at = Lts.After-is_word_at Tie.the-claims Reads.Pre Reads.Post goal.the-invariant-loop-k goal.the-decreases-loop-k Tie.handed_clauses
+use Rattle.targets.proofs.marking_at.Goals.{Else-is_word_byte, Then-not-is_word_byte, After-is_word_at}
 
 -- what is known where the table is read: the byte at i is live, and no word byte stands before it
-is_live : (c : At-else-is_word_byte) → get_or c.args.map.now c.args.i 0 ≡ 0
+is_live : (c : goal.Else-is_word_byte) → get_or c.args.map.now c.args.i 0 ≡ 0
 is_live c = sym c.byte_at.ensures ∙ c.if-byte_at-ne0.false
 
-is-edge : (c : At-else-is_word_byte) → is_word c.args.before ≡ false
+is-edge : (c : goal.Else-is_word_byte) → is_word c.args.before ≡ false
 is-edge c = sym c.is_word_byte.ensures ∙ c.if-is_word_byte.false
 
 -- the byte at i is no word byte
-other : (c : At-then-not-is_word_byte) →
+other : (c : goal.Then-not-is_word_byte) →
     let a = c.args in
     is_word (get_or a.statement.now a.i 0) ≡ false
 other c = sym c.is_word_byte-2.ensures ∙ not-true _ c.if-not-is_word_byte.true
 
 -- what the test of the k-th word tells
-tested : (c : At-after-is_word_at) →
+tested : (c : goal.After-is_word_at) →
     c.is_word_at.result ≡ is_entry_at c.args.statement.now c.args.i c.loop-k.k
 tested c =
     let a = c.args in
@@ -57,7 +46,7 @@ returns-then-is_word_byte c = record { value = sym (met_inside c.args.statement.
 pub returns-then-not-is_word_byte : goal.returns-then-not-is_word_byte
 returns-then-not-is_word_byte c =
     let a = c.args in
-    record { value = sym (met_other a.statement.now a.map.now a.before a.i (omega arith) (is_live c.before.before.before.before) (is-edge c.before.before.before.before) (other c.before)); result_in_bounds = omega arith }
+    record { value = sym (met_other a.statement.now a.map.now a.before a.i (omega arith) (is_live (goal.at.returns-then-not-is_word_byte c).Else-is_word_byte) (is-edge (goal.at.returns-then-not-is_word_byte c).Else-is_word_byte) (other c)); result_in_bounds = omega arith }
 
 pub loop-k-init : goal.loop-k-init
 loop-k-init c = (omega arith, refl)
@@ -69,17 +58,17 @@ pub returns-then-is_word_at : goal.returns-then-is_word_at
 returns-then-is_word_at c =
     let a = c.args in
     let k = c.loop-k.k in
-    let q : is_entry_at a.statement.now a.i k ≡ true = sym (tested c.before.before) ∙ c.if-is_word_at.true in
+    let q : is_entry_at a.statement.now a.i k ≡ true = sym (tested (goal.at.returns-then-is_word_at c).After-is_word_at) ∙ c.if-is_word_at.true in
     let p = prefix_by_len upper _ (drop a.i a.statement.now) (and_left (prefix_by upper (take (get_or entries k blank).len (get_or entries k blank).word) (drop a.i a.statement.now)) _ q) in
-    let m = c.marking_of-e.ensures in record { value = rw m (sym (c.loop-k.invariant.1 ∙ met_hit a.statement.now a.map.now a.before a.i (omega arith) (is_live c.before.before.before.before.before.before.before.before.before) (is-edge c.before.before.before.before.before.before.before.before.before) k (omega arith) q)); result_in_bounds = omega (arith, entry_size k (omega arith), length-drop a.i a.statement.now, ap (λ (e : Marking). e.len) m) }
+    let m = c.marking_of-e.ensures in record { value = rw m (sym (c.loop-k.invariant.1 ∙ met_hit a.statement.now a.map.now a.before a.i (omega arith) (is_live (goal.at.returns-then-is_word_at c).Else-is_word_byte) (is-edge (goal.at.returns-then-is_word_at c).Else-is_word_byte) k (omega arith) q)); result_in_bounds = omega (arith, entry_size k (omega arith), length-drop a.i a.statement.now, ap (λ (e : Marking). e.len) m) }
 
 pub loop-k-preserved : goal.loop-k-preserved
 loop-k-preserved c =
     let a = c.args in
     let k = c.loop-k.k in
-    (omega arith, c.loop-k.invariant.1 ∙ met_miss a.statement.now a.map.now a.before a.i (omega arith) (is_live c.before.before.before.before.before.before.before.before.before) (is-edge c.before.before.before.before.before.before.before.before.before) k (omega arith) (sym (tested c.before.before) ∙ c.if-is_word_at.false))
+    (omega arith, c.loop-k.invariant.1 ∙ met_miss a.statement.now a.map.now a.before a.i (omega arith) (is_live (goal.at.loop-k-preserved c).Else-is_word_byte) (is-edge (goal.at.loop-k-preserved c).Else-is_word_byte) k (omega arith) (sym (tested (goal.at.loop-k-preserved c).After-is_word_at) ∙ c.if-is_word_at.false))
 
 pub returns : goal.returns
 returns c =
     let a = c.args in
-    record { value = sym (c.loop-k.invariant.1 ∙ met_none a.statement.now a.map.now a.before a.i (omega arith) (is_live c.before.before.before.before.before.before) (is-edge c.before.before.before.before.before.before) c.loop-k.k (omega arith)); result_in_bounds = omega arith }
+    record { value = sym (c.loop-k.invariant.1 ∙ met_none a.statement.now a.map.now a.before a.i (omega arith) (is_live (goal.at.returns c).Else-is_word_byte) (is-edge (goal.at.returns c).Else-is_word_byte) c.loop-k.k (omega arith)); result_in_bounds = omega arith }

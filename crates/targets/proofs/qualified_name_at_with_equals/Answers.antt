@@ -8,15 +8,10 @@ use lib.ListN.{length}
 use mathlib.Core.Path.{sym, ◌∙◌}
 use Rattle.spec.proofs.SpanLaws.{seen}
 use Rattle.targets.proofs.qualified_name_at_with_equals.Goals as goal
-use Rattle.targets.proofs.qualified_name_at_with_equals.Lts
-use Rattle.targets.proofs.qualified_name_at_with_equals.Tie
-use Rattle.targets.proofs.qualified_name_at_with_equals.Reads
-
-abbrev At-after-run_end-name_end : Type 0
-At-after-run_end-name_end = Lts.After-run_end3 Tie.the-claims Reads.Pre Reads.Post
+use Rattle.targets.proofs.qualified_name_at_with_equals.Goals.{After-run_end-name_end}
 
 -- the name ends within the statement
-name-within : (c : At-after-run_end-name_end) →
+name-within : (c : goal.After-run_end-name_end) →
     c.run_end-name_end.result ≤ length c.args.statement.now
 name-within c =
     let xs = c.args.statement.now in
@@ -40,13 +35,13 @@ returns-then-name_start-name_end c =
 
 pub lone_equals-requires : goal.lone_equals-requires
 lone_equals-requires c =
-    c.run_end.ensures.upper_bound (name-within c.before.before.before)
+    c.run_end.ensures.upper_bound (name-within (goal.at.lone_equals-requires c).After-run_end-name_end)
 
 pub returns-then-lone_equals : goal.returns-then-lone_equals
 returns-then-lone_equals c =
     λ t e. record {
       target = equals_found _ t e _ _ _ c.run_end-start.ensures.value c.run_end-dot.ensures.value c.if-start-dot.false (sym c.byte_at.ensures ∙ c.if-byte_at-ne46.false) _ c.run_end-name_end.ensures.value c.if-name_start-name_end.false _ c.run_end.ensures.value ∙ simp (sym (c.lone_equals.ensures t e) ∙ c.if-lone_equals.true);
-      inside = (omega (arith, c.run_end-dot.ensures.value), omega (arith, c.run_end-dot.ensures.value, c.run_end-name_end.ensures.value, name-within c.before.before.before.before.before, same_length _ t e));
+      inside = (omega (arith, c.run_end-dot.ensures.value), omega (arith, c.run_end-dot.ensures.value, c.run_end-name_end.ensures.value, name-within (goal.at.returns-then-lone_equals c).After-run_end-name_end, same_length _ t e));
     }
 
 pub returns-else-lone_equals : goal.returns-else-lone_equals

@@ -18,31 +18,22 @@ use Rattle.targets.specs.Tells.{Tells}
 use Rattle.targets.proofs.TargetNameLaws.{tells_first, tells_next}
 use Rattle.targets.proofs.WalrusLaws.{assign_none, assign_at}
 use Rattle.targets.proofs.qualified_walrus_target.Goals as goal
-use Rattle.targets.proofs.qualified_walrus_target.Lts
-use Rattle.targets.proofs.qualified_walrus_target.Tie
-use Rattle.targets.proofs.qualified_walrus_target.Reads
-
-abbrev At-after-find_str_in-found : Type 0
-At-after-find_str_in-found = Lts.After-find_str_in Tie.the-claims Reads.Pre Reads.Post goal.the-invariant-loop-at goal.the-decreases-loop-at
-
-abbrev At-in-At : Type 0
-At-in-At = Lts.After-known_told Tie.the-claims Reads.Pre Reads.Post goal.the-invariant-loop-at goal.the-decreases-loop-at
-
-abbrev At-after-qualified_name_before-before : Type 0
-At-after-qualified_name_before-before = Lts.After-qualified_name_before Tie.the-claims Reads.Pre Reads.Post goal.the-invariant-loop-at goal.the-decreases-loop-at
+use Rattle.targets.proofs.qualified_walrus_target.Goals.{After-find_str_in-found, In-At, After-qualified_name_before-before}
 
 -- what the search for `:=` gives
-sought : (c : At-after-find_str_in-found) → c.find_str_in-found.result ≡ first assign_here c.loop-at.from (marked c.args.statement.now c.args.map.now)
+sought : (c : goal.After-find_str_in-found) → c.find_str_in-found.result ≡ first assign_here c.loop-at.from (marked c.args.statement.now c.args.map.now)
 unfolding assign_here
 sought c = c.find_str_in-found.ensures ∙ nonempty_word (ascii ":=") _ (omega arith)
 
 -- it stands at the place found
-found_at : (c : At-in-At) →
+found_at : (c : goal.In-At) →
     first assign_here c.loop-at.from (marked c.args.statement.now c.args.map.now) ≡ At c.in-At.at
-found_at c = sym (sought c.before.before.before) ∙ c.in-At.is
+found_at c =
+    let sought : c.find_str_in-found.result ≡ first assign_here c.loop-at.from (marked c.args.statement.now c.args.map.now) = c.find_str_in-found.ensures ∙ nonempty_word (ascii ":=") _ (omega arith) in
+    sym sought ∙ c.in-At.is
 
 -- and within the statement
-found_within : (c : At-in-At) →
+found_within : (c : goal.In-At) →
     (c.loop-at.from ≤ c.in-At.at) × (c.in-At.at < length c.args.statement.now)
 found_within c =
     let a = c.args in
@@ -50,7 +41,7 @@ found_within c =
     (w.0, omega (arith, w.1, marked_length a.statement.now a.map.now))
 
 -- what stands before it
-before : (c : At-after-qualified_name_before-before) →
+before : (c : goal.After-qualified_name_before-before) →
     Tells (marked c.args.statement.now c.args.map.now) (target_before (reverse (take c.in-At.at (marked c.args.statement.now c.args.map.now)))) c.qualified_name_before-before.result
 before c =
     c.qualified_name_before-before.ensures _ (marked_bytes c.args.statement.now c.args.map.now)
@@ -62,28 +53,28 @@ pub returns-in_default : goal.returns-in_default
 returns-in_default c =
     let a = c.args in
     record {
-      target = c.loop-at.invariant ∙ assign_none (marked a.statement.now a.map.now) c.loop-at.from (sym (sought c.before.before.before) ∙ c.in_default.is);
+      target = c.loop-at.invariant ∙ assign_none (marked a.statement.now a.map.now) c.loop-at.from (sym (sought (goal.at.returns-in_default c).After-find_str_in-found) ∙ c.in_default.is);
       inside = tt;
     }
 
 pub qualified_name_before-before-requires : goal.qualified_name_before-before-requires
-qualified_name_before-before-requires c = omega (arith, (found_within c.before).1)
+qualified_name_before-before-requires c = omega (arith, (found_within c).1)
 
 pub returns-then-is_target : goal.returns-then-is_target
 returns-then-is_target c =
     let a = c.args in
-    rw (c.loop-at.invariant ∙ assign_at (marked a.statement.now a.map.now) c.loop-at.from _ (found_at c.before.before.before.before))
-    (tells_first _ _ _ _ (sym c.is_target.ensures ∙ c.if-is_target.true) (before c.before.before.before))
+    rw (c.loop-at.invariant ∙ assign_at (marked a.statement.now a.map.now) c.loop-at.from _ (found_at (goal.at.returns-then-is_target c).In-At))
+    (tells_first _ _ _ _ (sym c.is_target.ensures ∙ c.if-is_target.true) (before (goal.at.returns-then-is_target c).After-qualified_name_before-before))
 
 pub overflow_add-from : goal.overflow_add-from
-overflow_add-from c = omega (arith, (found_within c.before.before.before.before).1)
+overflow_add-from c = omega (arith, (found_within (goal.at.overflow_add-from c).In-At).1)
 
 pub loop-at-smaller : goal.loop-at-smaller
-loop-at-smaller c = let w = found_within c.before.before.before.before in omega arith
+loop-at-smaller c = let w = found_within (goal.at.loop-at-smaller c).In-At in omega arith
 
 pub loop-at-preserved : goal.loop-at-preserved
 loop-at-preserved c =
     let a = c.args in
     c.loop-at.invariant
-    ∙ (assign_at (marked a.statement.now a.map.now) c.loop-at.from _ (found_at c.before.before.before.before)
-    ∙ tells_next _ _ _ _ (sym c.is_target.ensures ∙ c.if-is_target.false) (before c.before.before.before))
+    ∙ (assign_at (marked a.statement.now a.map.now) c.loop-at.from _ (found_at (goal.at.loop-at-preserved c).In-At)
+    ∙ tells_next _ _ _ _ (sym c.is_target.ensures ∙ c.if-is_target.false) (before (goal.at.loop-at-preserved c).After-qualified_name_before-before))
