@@ -26,7 +26,7 @@ behind c =
     rw rest_of at h
 
 pub returns-then-not-opens_span : goal.returns-then-not-opens_span
-returns-then-not-opens_span c = sym (at_plain c.args.rest.now _ c.byte_at-c.ensures (sym c.opens_span.ensures ∙ c.if-not-opens_span.true)
+returns-then-not-opens_span c = sym (at_plain c.args.rest.now _ c.byte_at-c.ensures (sym c.opens_span.ensures ∙ c.if-not-opens_span.true))
 
 pub returns-then-c-eq36 : goal.returns-then-c-eq36
 returns-then-c-eq36 c =

@@ -5,15 +5,15 @@ use Rattle.stored_list.proofs.fault.inject_number.Goals as goal
 pub returns-then-fault-own : goal.returns-then-fault-own
 returns-then-fault-own c =
     let s = c.args in
-    fault_not s.own_val s.fault s.buffer.now c.if-fault-own.true
+    fault_not s.own s.fault s.buffer.now c.if-fault-own.true
 
 pub returns-then-buffer-place : goal.returns-then-buffer-place
 returns-then-buffer-place c =
     let s = c.args in
-    fault_out s.own_val s.fault s.buffer.now c.if-fault-own.false c.if-buffer-place.true
+    fault_out s.own s.fault s.buffer.now c.if-fault-own.false c.if-buffer-place.true
 
 pub returns : goal.returns
 returns c =
     let s = c.args in
-    fault_at s.own_val s.fault s.buffer.now c.if-fault-own.false c.other_number.result
+    fault_at s.own s.fault s.buffer.now c.if-fault-own.false c.other_number.result
     c.other_number.ensures
