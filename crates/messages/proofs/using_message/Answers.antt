@@ -38,7 +38,7 @@ message-named c =
         let a = c.run_end-a.result in
         let h : c.starts_ignoring_case.result ≡ prefix_by upper (ascii "MESSAGE") (take (length xs - a) (drop a xs)) = c.starts_ignoring_case.ensures in
         rw rest_of at h in
-    sym named ∙ not-false _ c.if-not-starts_ignoring_case.false
+    sym named ∙ c.if-not-starts_ignoring_case.false
 
 -- the content, where a quote stands behind `=`
 abbrev content-of : tie.Else3 → List ℕ
@@ -88,7 +88,7 @@ judged c w t e =
             let a = c.run_end-a.result in
             let h : c.starts_ignoring_case.result ≡ prefix_by upper (ascii "MESSAGE") (take (length xs - a) (drop a xs)) = c.starts_ignoring_case.ensures in
             rw rest_of at h in
-        sym named ∙ not-false _ c.if-not-starts_ignoring_case.false in
+        sym named ∙ c.if-not-starts_ignoring_case.false in
     rw c.run_end.ensures.value
     (at_quote w t c.args.content.now e _ _ _ _
     c.run_end-a.ensures.value c.run_end-b.ensures.value c.run_end-from.ensures.value found message-named

@@ -9,10 +9,10 @@ use Rattle.raise.proofs.transform_raise_statements.Given as goal
 
 abbrev pub invariant-loop-at : goal.invariant-loop-at
 invariant-loop-at l =
-    (from ≤ length l.text)
-    × (l.from ≤ 5 * from)
-    × (length l.n ≡ length l.initial.out)
-    × Turn l.initial.out 0 (raise (action_of l.actions) (marked l.text l.map)) l.n l.from (left_at (action_of l.actions) (marked l.text l.map) from)
+    (l.from ≤ length l.text)
+    × (l.n ≤ 5 * l.from)
+    × (length l.out ≡ length l.initial.out)
+    × Turn l.initial.out 0 (raise (action_of l.actions) (marked l.text l.map)) l.out l.n (left_at (action_of l.actions) (marked l.text l.map) l.from)
 
 abbrev pub decreases-loop-at : goal.decreases-loop-at
-decreases-loop-at l = length l.text - from
+decreases-loop-at l = length l.text - l.from

@@ -6,7 +6,7 @@ use Rattle.spec.specs.Search.{first, handler_here, is_found}
 use Rattle.scanner.proofs.has_handler_in.Given as goal
 
 abbrev pub invariant-loop-at : goal.invariant-loop-at
-invariant-loop-at l = is_found (first handler_here 0 (marked l.text l.map)) ≡ is_found (first handler_here from (marked l.text l.map))
+invariant-loop-at l = is_found (first handler_here 0 (marked l.text l.map)) ≡ is_found (first handler_here l.from (marked l.text l.map))
 
 abbrev pub decreases-loop-at : goal.decreases-loop-at
-decreases-loop-at l = length l.text - from
+decreases-loop-at l = length l.text - l.from

@@ -27,7 +27,7 @@ is-edge c = sym c.is_word_byte.ensures ∙ c.if-is_word_byte.false
 other : (c : goal.Then-not-is_word_byte) →
     let a = c.args in
     is_word (get_or a.statement.now a.i 0) ≡ false
-other c = sym c.is_word_byte-2.ensures ∙ not-true _ c.if-not-is_word_byte.true
+other c = sym c.is_word_byte-2.ensures ∙ c.if-not-is_word_byte.true
 
 -- what the test of the k-th word tells
 tested : (c : goal.After-is_word_at) →

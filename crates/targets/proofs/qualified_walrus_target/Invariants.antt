@@ -8,7 +8,7 @@ use Rattle.targets.proofs.WalrusLaws.{assign_from}
 use Rattle.targets.proofs.qualified_walrus_target.Given as goal
 
 abbrev pub invariant-loop-at : goal.invariant-loop-at
-invariant-loop-at l = assign_target [] (marked l.statement l.map) ≡ assign_from (marked l.statement l.map) from
+invariant-loop-at l = assign_target [] (marked l.statement l.map) ≡ assign_from (marked l.statement l.map) l.from
 
 abbrev pub decreases-loop-at : goal.decreases-loop-at
-decreases-loop-at l = length l.statement - from
+decreases-loop-at l = length l.statement - l.from
