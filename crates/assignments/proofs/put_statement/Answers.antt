@@ -32,7 +32,8 @@ unfolding bytes
 returns-then-text-eq0 c =
     let a = c.args in
     let e : marked a.text.now a.map.now ≡ [] = empty_marked a.text.now a.map.now c.if-text-eq0.true in
-    rw (e, statement_nil) (ap Done (omega arith), refl)
+    let all = rw (e, statement_nil) (ap Done (omega arith), refl) in
+    record { value = all.0; leaves_from = all.1 }
 
 pub put_qualified-requires : goal.put_qualified-requires
 put_qualified-requires c =
@@ -51,7 +52,8 @@ returns-in-At c =
     let nl : length (take g.1.1.1.0 (drop g.1.1.0 xs)) ≡ g.1.1.1.0 = length-take-le g.1.1.1.0 (drop g.1.1.0 xs) (omega (arith, length-drop g.1.1.0 xs)) in
     let tl : length (take g.1.0 (drop g.0 xs) ++ (46 ∷ take g.1.1.1.0 (drop g.1.1.0 xs))) ≡ g.1.0 + 1 + g.1.1.1.0 =
     omega (arith, length-append (take g.1.0 (drop g.0 xs)) (46 ∷ take g.1.1.1.0 (drop g.1.1.0 xs))) in
-    rw (told_qualified xs a.map.now _ _ _ _ t) (rw (tl, ql) c.put_qualified.ensures.value, rw tl c.put_qualified.ensures.out_after)
+    let all = rw (told_qualified xs a.map.now _ _ _ _ t) (rw (tl, ql) c.put_qualified.ensures.value, rw tl c.put_qualified.ensures.out_after) in
+    record { value = all.0; leaves_from = all.1 }
 
 pub returns-in-Nothing : goal.returns-in-Nothing
 returns-in-Nothing c =
@@ -59,5 +61,6 @@ returns-in-Nothing c =
     let m = marked a.text.now a.map.now in
     let h : Tells m (statement_target m) c.qualified_assignment_target-target.result = c.qualified_assignment_target-target.ensures in
     let w = c.rewrite_assignment.ensures in
-    rw (told_none a.text.now a.map.now (rw c.in-Nothing.is at h))
-    (ap Done (w.counted ∙ ap (λ (k : ℕ). a.n + k) (bytes_length (assignment m))), w.stored)
+    let all = rw (told_none a.text.now a.map.now (rw c.in-Nothing.is at h))
+    (ap Done (w.counted ∙ ap (λ (k : ℕ). a.n + k) (bytes_length (assignment m))), w.stored) in
+    record { value = all.0; leaves_from = all.1 }

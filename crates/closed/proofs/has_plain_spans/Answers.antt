@@ -35,7 +35,9 @@ pub overflow_sub-next : goal.overflow_sub-next
 overflow_sub-next c = omega (arith, (turn (goal.at.overflow_sub-next c).In-Taken).beyond)
 
 pub is_plain_span-requires : goal.is_plain_span-requires
-is_plain_span-requires c = step_part _ _ _ _ (turn (goal.at.is_plain_span-requires c).In-Taken)
+is_plain_span-requires c =
+    let part = step_part _ _ _ _ (turn (goal.at.is_plain_span-requires c).In-Taken) in
+    record { n_value = part.0; n_in_bounds = part.1 }
 
 pub loop-next-smaller : goal.loop-next-smaller
 loop-next-smaller c = omega (arith, (turn (goal.at.loop-next-smaller c).In-Taken).within, (turn (goal.at.loop-next-smaller c).In-Taken).beyond)

@@ -3,13 +3,13 @@
 use native.Mathlib.Omega.{arith}
 use borrow.Author.Rules.{rules}
 use mathlib.Core.Path.{◌≡◌, refl, sym, ◌∙◌}
-use mathlib.Core.Logic.{⊎_elim}
 use Prim.Native.Nat.{◌+◌, ◌-◌}
 use Rattle.declared_parts.proofs.DeclaredNameLaws.{before_step, before_other, before_end}
 use Rattle.declared_parts.proofs.comes_before.Goals as goal
+use Rattle.declared_parts.proofs.comes_before.Goals.{then-x-y, else-x-y, then-i-n+else-x-i-3, else-i-n}
 
 pub loop-i-init : goal.loop-i-init
-loop-i-init c = ⊎_elim (λ w. search rules) (λ w. search rules) c.if-x-y.branch
+loop-i-init c = elim c.if-x-y.branch [ then-x-y w ↦ search rules | else-x-y w ↦ search rules ]
 
 pub returns-then-x-i : goal.returns-then-x-i
 returns-then-x-i c =
@@ -48,10 +48,11 @@ returns c =
     let n = c.if-x-y.n in
     let l = c.loop-i in
     let ended = before_end a.x.now a.y.now n l.invariant.3 in
-    ⊎_elim
-    (λ w.
-    let i : l.i + 1 ≡ n = omega (arith, w.0.taken) in
-    sym (l.invariant.4 ∙ (before_step a.x.now a.y.now l.i (omega (arith, w.0.taken)) (omega (arith, w.0.taken)) w.3.left ∙ rw i ended)))
-    (λ w.
-    let i : l.i ≡ n = omega (arith, w.left) in
-    sym (l.invariant.4 ∙ rw i ended)) c.if-i-n.branch
+    elim c.if-i-n.branch [
+      | then-i-n+else-x-i-3 w ↦
+          let i : l.i + 1 ≡ n = omega arith in
+          sym (l.invariant.4 ∙ (before_step a.x.now a.y.now l.i (omega arith) (omega arith) w.if-x-i-3.false ∙ rw i ended))
+      | else-i-n w ↦
+          let i : l.i ≡ n = omega arith in
+          sym (l.invariant.4 ∙ rw i ended)
+    ]

@@ -33,24 +33,30 @@ lone c =
 
 pub returns-then-not-starts_key : goal.returns-then-not-starts_key
 returns-then-not-starts_key c =
-    key_other _ c.args.map.now _ c.requires (sym c.starts_key.ensures ∙ c.if-not-starts_key.true
+    let all = key_other _ c.args.map.now _ c.requires (sym c.starts_key.ensures ∙ c.if-not-starts_key.true) in
+    record { value = all.0; result_in_bounds = all.1 }
 
 pub returns-then-byte_at-ne0 : goal.returns-then-byte_at-ne0
 returns-then-byte_at-ne0 c =
-    key_quoted _ _ _ c.requires _ c.byte_at.ensures c.if-byte_at-ne0.true
+    let all = key_quoted _ _ _ c.requires _ c.byte_at.ensures c.if-byte_at-ne0.true in
+    record { value = all.0; result_in_bounds = all.1 }
 
 pub returns-then-starts_with : goal.returns-then-starts_with
 returns-then-starts_with c =
-    key_assign _ _ _ c.requires _ c.byte_at.ensures c.if-byte_at-ne0.false (sym (assigned (goal.at.returns-then-starts_with c).After-starts_with) ∙ c.if-starts_with.true)
+    let all = key_assign _ _ _ c.requires _ c.byte_at.ensures c.if-byte_at-ne0.false (sym (assigned (goal.at.returns-then-starts_with c).After-starts_with) ∙ c.if-starts_with.true) in
+    record { value = all.0; result_in_bounds = all.1 }
 
 pub returns-then-is_lone : goal.returns-then-is_lone
 returns-then-is_lone c =
-    key_equals _ _ _ c.requires _ c.byte_at.ensures c.if-byte_at-ne0.false (sym (lone (goal.at.returns-then-is_lone c).After-is_lone) ∙ c.if-is_lone.true)
+    let all = key_equals _ _ _ c.requires _ c.byte_at.ensures c.if-byte_at-ne0.false (sym (lone (goal.at.returns-then-is_lone c).After-is_lone) ∙ c.if-is_lone.true) in
+    record { value = all.0; result_in_bounds = all.1 }
 
 pub returns-then-keyword_at : goal.returns-then-keyword_at
 returns-then-keyword_at c =
-    key_word _ _ _ c.requires _ c.byte_at.ensures c.if-byte_at-ne0.false (sym c.keyword_at.ensures ∙ c.if-keyword_at.true)
+    let all = key_word _ _ _ c.requires _ c.byte_at.ensures c.if-byte_at-ne0.false (sym c.keyword_at.ensures ∙ c.if-keyword_at.true) in
+    record { value = all.0; result_in_bounds = all.1 }
 
 pub returns : goal.returns
 returns c =
-    key_none _ _ _ c.requires _ c.byte_at.ensures c.if-byte_at-ne0.false (sym (assigned (goal.at.returns c).After-starts_with) ∙ c.if-starts_with.false) (sym (lone (goal.at.returns c).After-is_lone) ∙ c.if-is_lone.false) (sym c.keyword_at.ensures ∙ c.if-keyword_at.false)
+    let all = key_none _ _ _ c.requires _ c.byte_at.ensures c.if-byte_at-ne0.false (sym (assigned (goal.at.returns c).After-starts_with) ∙ c.if-starts_with.false) (sym (lone (goal.at.returns c).After-is_lone) ∙ c.if-is_lone.false) (sym c.keyword_at.ensures ∙ c.if-keyword_at.false) in
+    record { value = all.0; result_in_bounds = all.1 }

@@ -22,11 +22,13 @@ returns-else-n-eq0 c =
     let a = c.args in
     let t = marked a.text.now a.map.now in
     let cut = cut_behind t c.loop-i.i c.loop-i.invariant.0 _ c.default_key-n.ensures.value c.if-n-eq0.false (omega (arith, marked_length a.text.now a.map.now)) in
-    cut_tells a.text.now a.map.now _ cut
+    let all = cut_tells a.text.now a.map.now _ cut in
+    record { value = all.0; head_le_rest = all.1 }
 
 pub returns : goal.returns
 returns c =
     let a = c.args in
     let t = marked a.text.now a.map.now in
     let cut = cut_none t c.loop-i.i c.loop-i.invariant.0 (omega (arith, c.loop-i.invariant.1, marked_length a.text.now a.map.now)) in
-    cut_tells a.text.now a.map.now _ cut
+    let all = cut_tells a.text.now a.map.now _ cut in
+    record { value = all.0; head_le_rest = all.1 }

@@ -34,27 +34,27 @@ type-inside c =
     let xs = c.args.text.now in
     let h : c.read_type-kind.result.to ≤ length (part a b xs) = c.read_type-kind.ensures.from_le_to.1 in
     let low = c.run_end_between-name_end.ensures.lower_bound.1 in
-    let within : b ≤ length xs = omega (arith, inside, c.find_default-cut.ensures.head_le_rest.0, c.trim_end-end.ensures.lower_bound.1, c.requires.1) in
+    let within : b ≤ length xs = omega (arith, inside, c.find_default-cut.ensures.head_le_rest.0, c.trim_end-end.ensures.lower_bound.1, c.requires.to_in_bounds) in
     omega (arith, h, between_length xs a b low within, low)
 
 pub run_end_between-value-requires : goal.run_end_between-value-requires
 run_end_between-value-requires c =
-    record { from_le_to = inside (goal.at.run_end_between-value-requires c).After-find_default-cut; to_in_bounds = omega (arith, c.trim_end-end.ensures.lower_bound.1, c.requires.1) }
+    record { from_le_to = inside (goal.at.run_end_between-value-requires c).After-find_default-cut; to_in_bounds = omega (arith, c.trim_end-end.ensures.lower_bound.1, c.requires.to_in_bounds) }
 
 pub trim_end-value_end-requires : goal.trim_end-value_end-requires
 trim_end-value_end-requires c =
-    record { from_le_to = c.run_end_between-value.ensures.lower_bound.1; to_in_bounds = omega (arith, c.trim_end-end.ensures.lower_bound.1, c.requires.1) }
+    record { from_le_to = c.run_end_between-value.ensures.lower_bound.1; to_in_bounds = omega (arith, c.trim_end-end.ensures.lower_bound.1, c.requires.to_in_bounds) }
 
 pub overflow_add-result : goal.overflow_add-result
 overflow_add-result c =
-    omega (arith, type-inside (goal.at.overflow_add-result c).After-read_type-kind, c.read_type-kind.ensures.from_le_to.0, inside (goal.at.overflow_add-result c).After-find_default-cut, c.find_default-cut.ensures.head_le_rest.0, c.trim_end-end.ensures.lower_bound.1, c.requires.1)
+    omega (arith, type-inside (goal.at.overflow_add-result c).After-read_type-kind, c.read_type-kind.ensures.from_le_to.0, inside (goal.at.overflow_add-result c).After-find_default-cut, c.find_default-cut.ensures.head_le_rest.0, c.trim_end-end.ensures.lower_bound.1, c.requires.to_in_bounds)
 
 pub returns : goal.returns
 returns c =
     let a = c.args in
     let f = inside (goal.at.returns c).After-find_default-cut in
     let f₁ = c.trim_end-end.ensures.lower_bound.1 in
-    let f₂ = c.requires.1 in
+    let f₂ = c.requires.to_in_bounds in
     let f₃ = c.run_end_between-name.ensures.lower_bound in
     let f₄ = c.run_end_between-name_end.ensures.lower_bound in
     let f₅ = c.read_type-kind.ensures.from_le_to in
@@ -65,21 +65,21 @@ returns c =
     let q : n + (e - n) ≡ e = omega arith in
     let k = type-inside (goal.at.returns c).After-read_type-kind in
     let g = c.find_default-cut.ensures.head_le_rest.0 in record { map_value = part_read a.text.now a.map.now a.from a.to c.run_end_between-start.result c.trim_end-end.result c.find_default-cut.result c.read_type-kind.result _ record {
-        c.before.before.before.before.before.before.before.before.before.before.before.before.before.before.before = c.run_end_between-start.ensures.value;
-        c.before.before.before.before.before.before.before.before.before.before.before.before.before.before = c.trim_end-end.ensures.value;
+        starts = c.run_end_between-start.ensures.value;
+        ends = c.trim_end-end.ensures.value;
         inside = omega arith;
         within = omega arith;
         ordered = omega arith;
         name = c.run_end_between-name.ensures.value;
         name_end = q ∙ c.run_end_between-name_end.ensures.value;
         name_inside = omega arith;
-        c.before.before.before.before.before.before = rw q c.read_type-kind.ensures.value;
+        typed = rw q c.read_type-kind.ensures.value;
         kind = rw q refl;
         kind_len = refl;
         constant = refl;
         not_null = refl;
         present = refl;
-        c.before.before.before.before = c.run_end_between-value.ensures.value;
+        value = c.run_end_between-value.ensures.value;
         value_end = omega arith;
         value_inside = omega arith;
       } c.find_default-cut.ensures.value; within = record {
@@ -88,7 +88,7 @@ returns c =
         kind = omega arith;
         kind_len = omega arith;
         present = c.find_default-cut.ensures.head_le_rest.2;
-        c.before.before.before.before = omega arith;
+        value = omega arith;
         value_len = omega arith;
         constant = f₅.2;
         not_null = f₅.3;

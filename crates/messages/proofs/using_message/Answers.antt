@@ -40,48 +40,36 @@ message-named c =
         rw rest_of at h in
     sym named ∙ c.if-not-starts_ignoring_case.false
 
--- the content, where a quote stands behind `=`
-abbrev content-of : tie.Else3 → List ℕ
-content-of c =
-    let equals = c.before.before.before in
-    let test = equals.before.before.before in
-    let first = test.before.before.before.before in
-    first.before.before.args.content.now
-
--- the quote's place
-abbrev quote-of : tie.Else3 → ℕ
-quote-of c = c.before.before.run-end3.result
-
 -- it lies within the content
-quoted-in : (c : goal.Else-byte_at-ne39) → quote-of c < length (content-of c)
-quoted-in c = seen (content-of c) (quote-of c) 38 (sym c.byte_at-2.ensures ∙ c.if-byte_at-ne39.false)
+quoted-in : (c : goal.Else-byte_at-ne39) → c.run_end-from.result < length c.args.content.now
+quoted-in c = seen c.args.content.now c.run_end-from.result 38 (sym c.byte_at-2.ensures ∙ c.if-byte_at-ne39.false)
 
 -- the message that was found
 found : (c : goal.After-extract_first_string_literal-message)
-    → c.extract_first_string_literal-message.result.now ≡ message_in (drop (quote-of c.before.before) (content-of c.before.before))
+    → c.extract_first_string_literal-message.result.now ≡ message_in (drop c.run_end-from.result c.args.content.now)
 found c =
-    let xs = content-of c.before.before in
-    let from = quote-of c.before.before in
+    let xs = c.args.content.now in
+    let from = c.run_end-from.result in
     let ys = drop from xs in
     c.extract_first_string_literal-message.ensures (lives ys) (bytes_lives ys ∙ sym (rest_of xs from)) ∙ message_is (lives ys) ys (bytes_lives ys)
 
 -- it ends within the content
 found_in : (c : goal.After-extract_first_string_literal-message)
-    → quote-of c.before.before + length c.extract_first_string_literal-message.result.now ≤ length (content-of c.before.before)
+    → c.run_end-from.result + length c.extract_first_string_literal-message.result.now ≤ length c.args.content.now
 found_in c =
-    let quoted-in : quote-of c < length (content-of c) = seen (content-of c) (quote-of c) 38 (sym c.byte_at-2.ensures ∙ c.if-byte_at-ne39.false) in
-    let xs = content-of c.before.before in
-    let from = quote-of c.before.before in
+    let quoted-in : c.run_end-from.result < length c.args.content.now = seen c.args.content.now c.run_end-from.result 38 (sym c.byte_at-2.ensures ∙ c.if-byte_at-ne39.false) in
+    let xs = c.args.content.now in
+    let from = c.run_end-from.result in
     omega (arith, ap length (found c), message_le (drop from xs), length-drop from xs, quoted-in)
 
 -- what it comes to
-judged : (c : goal.After-run_end) (w : RaiseType) (t : List Marked) → bytes t ≡ content-of c.before.before.before
-    → let xs = content-of c.before.before.before in
+judged : (c : goal.After-run_end) (w : RaiseType) (t : List Marked) → bytes t ≡ c.args.content.now
+    → let xs = c.args.content.now in
     forget (fate_text (using_fate w t (drop 5 t)))
     ≡ cond (leb (length xs) c.run_end.result) (accepted (raising w c.extract_first_string_literal-message.result.now)) (refused (using_clause xs))
 judged c w t e =
-    let found : c.extract_first_string_literal-message.result.now ≡ message_in (drop (quote-of c.before.before) (content-of c.before.before)) = let xs = content-of c.before.before in
-        let from = quote-of c.before.before in
+    let found : c.extract_first_string_literal-message.result.now ≡ message_in (drop c.run_end-from.result c.args.content.now) = let xs = c.args.content.now in
+        let from = c.run_end-from.result in
         let ys = drop from xs in
         c.extract_first_string_literal-message.ensures (lives ys) (bytes_lives ys ∙ sym (rest_of xs from)) ∙ message_is (lives ys) ys (bytes_lives ys) in
     let message-named : prefix_by upper (ascii "MESSAGE") (drop c.run_end-a.result c.args.content.now) ≡ true = let named : c.starts_ignoring_case.result ≡ prefix_by upper (ascii "MESSAGE") (drop c.run_end-a.result c.args.content.now) = let xs = c.args.content.now in
@@ -103,7 +91,7 @@ slice_bounds-starts_ignoring_case-start c = c.run_end-a.ensures.upper_bound (ome
 pub returns-then-not-starts_ignoring_case : goal.returns-then-not-starts_ignoring_case
 returns-then-not-starts_ignoring_case c =
     let xs = c.args.content.now in
-    ((λ w t e. no_message w t xs e _ _ _ _ c.run_end-a.ensures.value refl refl refl (sym (named (goal.at.returns-then-not-starts_ignoring_case c).After-starts_ignoring_case) ∙ c.if-not-starts_ignoring_case.true), omega arith)
+    record { t_value = λ w t e. no_message w t xs e _ _ _ _ c.run_end-a.ensures.value refl refl refl (sym (named (goal.at.returns-then-not-starts_ignoring_case c).After-starts_ignoring_case) ∙ c.if-not-starts_ignoring_case.true); result_in_bounds = omega arith }
 
 pub overflow_add-a : goal.overflow_add-a
 overflow_add-a c =

@@ -89,7 +89,9 @@ slice_bounds-varsmap-end c =
     omega (arith, places (goal.at.slice_bounds-varsmap-end c).After-greater-d, c.requires.text_in_bounds)
 
 pub pairs_up-requires : goal.pairs_up-requires
-pairs_up-requires c = mapped c
+pairs_up-requires c =
+    let all = mapped c in
+    record { cols_in_bounds = all.0; vars_in_bounds = all.1 }
 
 pub put_pairs-requires : goal.put_pairs-requires
 put_pairs-requires c =

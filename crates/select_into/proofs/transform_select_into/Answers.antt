@@ -49,7 +49,8 @@ returns-then-n-gt-BUFFER_SIZE c =
     let a = c.args in
     let l = c.loop-n in
     let vs = bytes (select_into (marked a.text.now a.map.now)) in
-    puts_front a.out.now vs l.out 65537 (puts_over a.out.now l.out vs 0 (l.invariant.3.beyond c.if-n-gt-BUFFER_SIZE.true))
+    let all = puts_front a.out.now vs l.out 65537 (puts_over a.out.now l.out vs 0 (l.invariant.3.beyond c.if-n-gt-BUFFER_SIZE.true)) in
+    record { value = all.0; out_after = all.1 }
 
 pub slice_bounds-put_text-count : goal.slice_bounds-put_text-count
 slice_bounds-put_text-count c = omega (arith, c.loop-n.invariant.0)
@@ -74,9 +75,10 @@ returns-in_default c =
     let l = c.loop-n in
     let p = c.put_text in
     let e = selects_last a.text.now a.map.now l.from (sym c.find_byte_in-found.ensures ∙ c.in_default.is) in
-    puts_front a.out.now _ p.new.out p.result
+    let all = puts_front a.out.now _ p.new.out p.result
     (left_puts a.out.now _ l.out p.new.out 0 l.n p.result _ (l.invariant.3.within (omega (arith, c.if-n-gt-BUFFER_SIZE.false)))
-    (puts_same l.out _ _ p.new.out l.n p.result (rest_of a.text.now l.from ∙ sym e) p.ensures))
+    (puts_same l.out _ _ p.new.out l.n p.result (rest_of a.text.now l.from ∙ sym e) p.ensures)) in
+    record { value = all.0; out_after = all.1 }
 
 pub overflow_add-end : goal.overflow_add-end
 overflow_add-end c = omega (arith, within c)

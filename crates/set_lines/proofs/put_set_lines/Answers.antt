@@ -1,7 +1,8 @@
 -- `set_lines::put_set_lines` meets its contract. The loop's invariant `Left` says that what is stored and the lines of
--- the columns from `at` on and the variables from `to` on make up all lines. `col-item` and `var-item` say which parts
--- were given, `line-bound` how far a line reaches. Assumes nothing.
+-- the columns from `at` on and the variables from `to` on make up all lines. `col_item` and `var_item` say which parts
+-- were given, `line_bound` how far a line reaches. Assumes nothing.
 use native.Mathlib.Omega.{arith}
+use mathlib.Core.List.{List}
 use mathlib.Core.Path.{refl, ap, ◌∙◌}
 use Prim.Native.Nat.{◌+◌, ◌-◌, ◌≤◌}
 use lib.ListN.{length, take, drop}
@@ -16,39 +17,34 @@ use Rattle.set_lines.proofs.put_set_lines.Goals as goal
 use Rattle.set_lines.proofs.put_set_lines.Goals.{In-Next, In-Next-var, After-put_set_line-o}
 
 -- the column that was given, and the variable
-col-item : (c : goal.In-Next) →
+col_item : (c : goal.In-Next) →
     Listed (marked c.args.cols.now c.args.colsmap.now) c.loop-o.at c.in-Next.start c.in-Next.len c.in-Next.next
-col-item c = item_part _ _ _ c.next_item-col.ensures _ _ _ c.in-Next.is
+col_item c = item_part _ _ _ c.next_item-col.ensures _ _ _ c.in-Next.is
 
-var-item : (c : goal.In-Next-var) →
+var_item : (c : goal.In-Next-var) →
     Listed (marked c.args.vars.now c.args.varsmap.now) c.loop-o.to c.in-Next-var.first c.in-Next-var.count c.in-Next-var.then
-var-item c = item_part _ _ _ c.next_item-var.ensures _ _ _ c.in-Next-var.is
+var_item c = item_part _ _ _ c.next_item-var.ensures _ _ _ c.in-Next-var.is
 
 -- they stand within their lists
-col-within : (c : goal.In-Next-var) →
-    c.in-Next.start + c.in-Next.len ≤ length c.args.cols.now
-col-within c =
-    let col-item : Listed (marked c.args.cols.now c.args.colsmap.now) c.loop-o.at c.in-Next.start c.in-Next.len c.in-Next.next = item_part _ _ _ c.next_item-col.ensures _ _ _ c.in-Next.is in
-    omega (arith, col-item.inside, marked_length c.args.cols.now c.args.colsmap.now)
+within : (xs ms : List ℕ) (at start n next : ℕ) → Listed (marked xs ms) at start n next → start + n ≤ length xs
+within xs ms at start n next h = omega (arith, h.inside, marked_length xs ms)
 
-var-within : (c : goal.In-Next-var) →
-    c.in-Next-var.first + c.in-Next-var.count ≤ length c.args.vars.now
-var-within c =
-    omega (arith, (var-item c).inside, marked_length c.args.vars.now c.args.varsmap.now)
+col_within : (c : goal.In-Next-var) → c.in-Next.start + c.in-Next.len ≤ length c.args.cols.now
+col_within c = within c.args.cols.now c.args.colsmap.now _ _ _ _ (item_part _ _ _ c.next_item-col.ensures _ _ _ c.in-Next.is)
+
+var_within : (c : goal.In-Next-var) → c.in-Next-var.first + c.in-Next-var.count ≤ length c.args.vars.now
+var_within c = within c.args.vars.now c.args.varsmap.now _ _ _ _ (var_item c)
 
 -- how far a line reaches
-line-bound : (c : goal.After-put_set_line-o) →
+line_bound : (c : goal.After-put_set_line-o) →
     c.put_set_line-o.result ≤ c.loop-o.o + length c.args.with.now + length c.args.from.now + length c.args.cols.now + length c.args.vars.now + 32
-line-bound c =
-    let col-within : c.in-Next.start + c.in-Next.len ≤ length c.args.cols.now = let col-item : Listed (marked c.args.cols.now c.args.colsmap.now) c.loop-o.at c.in-Next.start c.in-Next.len c.in-Next.next = item_part _ _ _ c.next_item-col.ensures _ _ _ c.in-Next.is in
-        omega (arith, col-item.inside, marked_length c.args.cols.now c.args.colsmap.now) in
-    let var-within : c.in-Next-var.first + c.in-Next-var.count ≤ length c.args.vars.now = omega (arith, (var-item c).inside, marked_length c.args.vars.now c.args.varsmap.now) in
+line_bound c =
     let a = c.args in
-    let i = c.in-Next.given.0 in
-    let j = c.in-Next-var.given.0 in
-    let col = take (i.0 + i.1.0 - i.0) (drop i.0 a.cols.now) in
-    let var = take (j.0 + j.1.0 - j.0) (drop j.0 a.vars.now) in
-    omega (arith, c.put_set_line-o.ensures.count, line_length a.with.now a.from.now col var c.is_limited-held.result, part_length a.cols.now i.0 i.1.0 col-within, part_length a.vars.now j.0 j.1.0 var-within, col-within, var-within)
+    let col_in = within a.cols.now a.colsmap.now _ _ _ _ (item_part _ _ _ c.next_item-col.ensures _ _ _ c.in-Next.is) in
+    let var_in = within a.vars.now a.varsmap.now _ _ _ _ (item_part _ _ _ c.next_item-var.ensures _ _ _ c.in-Next-var.is) in
+    let col = take (c.in-Next.start + c.in-Next.len - c.in-Next.start) (drop c.in-Next.start a.cols.now) in
+    let var = take (c.in-Next-var.first + c.in-Next-var.count - c.in-Next-var.first) (drop c.in-Next-var.first a.vars.now) in
+    omega (arith, c.put_set_line-o.ensures.count, line_length a.with.now a.from.now col var c.is_limited-held.result, part_length a.cols.now c.in-Next.start c.in-Next.len col_in, part_length a.vars.now c.in-Next-var.first c.in-Next-var.count var_in, col_in, var_in)
 
 pub loop-o-init : goal.loop-o-init
 loop-o-init c = (refl, record { stores = refl; counts = refl }, omega arith)
@@ -85,46 +81,46 @@ returns-in_default-var c =
     let t = marked a.cols.now a.colsmap.now in
     let u = marked a.vars.now a.varsmap.now in
     left_done _ _ l.out _ l.o _ l.invariant.1
-    (lines_short (shared a.with.now a.from.now a.indent.now a.k a.tail) t u l.at l.to _ _ _ (col-item (goal.at.returns-in_default-var c).In-Next) (item_over u l.to _ c.next_item-var.ensures c.in_default-var.is))
+    (lines_short (shared a.with.now a.from.now a.indent.now a.k a.tail) t u l.at l.to _ _ _ (col_item (goal.at.returns-in_default-var c).In-Next) (item_over u l.to _ c.next_item-var.ensures c.in_default-var.is))
     (omega (arith, c.if-o-gt-BUFFER_SIZE.false))
 
 pub overflow_add-end : goal.overflow_add-end
-overflow_add-end c = omega (arith, col-within c)
+overflow_add-end c = omega (arith, col_within c)
 
 pub overflow_add-last : goal.overflow_add-last
-overflow_add-last c = omega (arith, var-within c)
+overflow_add-last c = omega (arith, var_within c)
 
 pub slice_bounds-is_limited-count : goal.slice_bounds-is_limited-count
 slice_bounds-is_limited-count c = omega arith
 
 pub slice_bounds-is_limited-start : goal.slice_bounds-is_limited-start
-slice_bounds-is_limited-start c = omega (arith, col-within c)
+slice_bounds-is_limited-start c = omega (arith, col_within c)
 
 pub slice_bounds-is_limited-end : goal.slice_bounds-is_limited-end
-slice_bounds-is_limited-end c = omega (arith, col-within c)
+slice_bounds-is_limited-end c = omega (arith, col_within c)
 
 pub slice_bounds-put_set_line-count : goal.slice_bounds-put_set_line-count
 slice_bounds-put_set_line-count c = omega arith
 
 pub slice_bounds-put_set_line-start : goal.slice_bounds-put_set_line-start
-slice_bounds-put_set_line-start c = omega (arith, col-within (goal.at.slice_bounds-put_set_line-start c).In-Next-var)
+slice_bounds-put_set_line-start c = omega (arith, col_within (goal.at.slice_bounds-put_set_line-start c).In-Next-var)
 
 pub slice_bounds-put_set_line-end : goal.slice_bounds-put_set_line-end
-slice_bounds-put_set_line-end c = omega (arith, col-within (goal.at.slice_bounds-put_set_line-end c).In-Next-var)
+slice_bounds-put_set_line-end c = omega (arith, col_within (goal.at.slice_bounds-put_set_line-end c).In-Next-var)
 
 pub slice_bounds-put_set_line-count-in-loop-o : goal.slice_bounds-put_set_line-count-in-loop-o
 slice_bounds-put_set_line-count-in-loop-o c = omega arith
 
 pub slice_bounds-put_set_line-start-in-loop-o : goal.slice_bounds-put_set_line-start-in-loop-o
-slice_bounds-put_set_line-start-in-loop-o c = omega (arith, var-within (goal.at.slice_bounds-put_set_line-start-in-loop-o c).In-Next-var)
+slice_bounds-put_set_line-start-in-loop-o c = omega (arith, var_within (goal.at.slice_bounds-put_set_line-start-in-loop-o c).In-Next-var)
 
 pub slice_bounds-put_set_line-end-in-loop-o : goal.slice_bounds-put_set_line-end-in-loop-o
-slice_bounds-put_set_line-end-in-loop-o c = omega (arith, var-within (goal.at.slice_bounds-put_set_line-end-in-loop-o c).In-Next-var)
+slice_bounds-put_set_line-end-in-loop-o c = omega (arith, var_within (goal.at.slice_bounds-put_set_line-end-in-loop-o c).In-Next-var)
 
 pub put_set_line-o-requires : goal.put_set_line-o-requires
 put_set_line-o-requires c =
     let a = c.args in
-    omega (arith, c.requires, c.if-o-gt-BUFFER_SIZE.false, part_length a.cols.now _ _ (col-within (goal.at.put_set_line-o-requires c).In-Next-var), part_length a.vars.now _ _ (var-within (goal.at.put_set_line-o-requires c).In-Next-var), col-within (goal.at.put_set_line-o-requires c).In-Next-var, var-within (goal.at.put_set_line-o-requires c).In-Next-var)
+    omega (arith, c.requires, c.if-o-gt-BUFFER_SIZE.false, part_length a.cols.now _ _ (col_within (goal.at.put_set_line-o-requires c).In-Next-var), part_length a.vars.now _ _ (var_within (goal.at.put_set_line-o-requires c).In-Next-var), col_within (goal.at.put_set_line-o-requires c).In-Next-var, var_within (goal.at.put_set_line-o-requires c).In-Next-var)
 
 pub has_item-requires : goal.has_item-requires
 has_item-requires c =
@@ -132,11 +128,11 @@ has_item-requires c =
 
 pub put_break-o-requires : goal.put_break-o-requires
 put_break-o-requires c =
-    omega (arith, c.requires, c.if-o-gt-BUFFER_SIZE.false, line-bound (goal.at.put_break-o-requires c).After-put_set_line-o)
+    omega (arith, c.requires, c.if-o-gt-BUFFER_SIZE.false, line_bound (goal.at.put_break-o-requires c).After-put_set_line-o)
 
 pub loop-o-smaller : goal.loop-o-smaller
 loop-o-smaller c =
-    let h = col-item (goal.at.loop-o-smaller c).In-Next in
+    let h = col_item (goal.at.loop-o-smaller c).In-Next in
     let a = c.args in
     omega (arith, h.behind, h.beyond, h.inside, marked_length a.cols.now a.colsmap.now)
 
@@ -149,17 +145,15 @@ loop-o-preserved c =
     let t = marked a.cols.now a.colsmap.now in
     let u = marked a.vars.now a.varsmap.now in
     let s = shared a.with.now a.from.now a.indent.now a.k a.tail in
-    let h = col-item (goal.at.loop-o-preserved c).In-Next in
-    let i = c.in-Next.given.0 in
-    let j = c.in-Next-var.given.0 in
-    let g = var-item (goal.at.loop-o-preserved c).In-Next-var in (
+    let h = col_item (goal.at.loop-o-preserved c).In-Next in
+    let g = var_item (goal.at.loop-o-preserved c).In-Next-var in (
       q.auto.out ∙ (p.auto.out ∙ l.invariant.0),
       left_more _ _ p.new.out _ p.result q.new.out _ _ _ q.result
           (left_more _ _ l.out _ l.o p.new.out _ _ _ p.result l.invariant.1 (lines_turn s t u l.at l.to _ _ _ _ _ _ h g)
           (stored_same l.out p.new.out l.o p.result _ _
-          (line_same a.with.now a.from.now a.indent.now a.k a.tail _ a.cols.now a.colsmap.now a.vars.now a.varsmap.now i.0 i.1.0 j.0 j.1.0 c.is_limited-held.ensures)
+          (line_same a.with.now a.from.now a.indent.now a.k a.tail _ a.cols.now a.colsmap.now a.vars.now a.varsmap.now c.in-Next.start c.in-Next.len c.in-Next-var.first c.in-Next-var.count c.is_limited-held.ensures)
           p.ensures))
           refl
           (stored_same p.new.out q.new.out p.result q.result _ _ (ap (break_text a.indent.now) c.has_item.ensures) q.ensures),
-      omega (arith, c.requires, c.if-o-gt-BUFFER_SIZE.false, line-bound (goal.at.loop-o-preserved c).After-put_set_line-o, q.ensures.count, break_length a.indent.now c.has_item.result),
+      omega (arith, c.requires, c.if-o-gt-BUFFER_SIZE.false, line_bound (goal.at.loop-o-preserved c).After-put_set_line-o, q.ensures.count, break_length a.indent.now c.has_item.result),
     )

@@ -28,6 +28,7 @@ sought c = c.find_str_in-found.ensures ∙ nonempty_word (ascii ":=") _ (omega a
 -- it stands at the place found
 found_at : (c : goal.In-At) →
     first assign_here c.loop-at.from (marked c.args.statement.now c.args.map.now) ≡ At c.in-At.at
+unfolding assign_here
 found_at c =
     let sought : c.find_str_in-found.result ≡ first assign_here c.loop-at.from (marked c.args.statement.now c.args.map.now) = c.find_str_in-found.ensures ∙ nonempty_word (ascii ":=") _ (omega arith) in
     sym sought ∙ c.in-At.is
