@@ -32,8 +32,7 @@ unfolding bytes
 returns-then-text-eq0 c =
     let a = c.args in
     let e : marked a.text.now a.map.now ≡ [] = empty_marked a.text.now a.map.now c.if-text-eq0.true in
-    let all = rw (e, statement_nil) (ap Done (omega arith), refl) in
-    record { value = all.0; leaves_from = all.1 }
+    rw (e, statement_nil) record { value = ap Done (omega arith); leaves_from = refl }
 
 pub put_qualified-requires : goal.put_qualified-requires
 put_qualified-requires c =
@@ -44,16 +43,15 @@ pub returns-in-At : goal.returns-in-At
 returns-in-At c =
     let a = c.args in
     let xs = a.text.now in
-    let g = c.in-At.given.0 in
+    let g = c.in-At in
     let t = told (goal.at.returns-in-At c).In-At in
     let i = t.inside in
     let n = marked_length xs a.map.now in
-    let ql : length (take g.1.0 (drop g.0 xs)) ≡ g.1.0 = length-take-le g.1.0 (drop g.0 xs) (omega (arith, length-drop g.0 xs)) in
-    let nl : length (take g.1.1.1.0 (drop g.1.1.0 xs)) ≡ g.1.1.1.0 = length-take-le g.1.1.1.0 (drop g.1.1.0 xs) (omega (arith, length-drop g.1.1.0 xs)) in
-    let tl : length (take g.1.0 (drop g.0 xs) ++ (46 ∷ take g.1.1.1.0 (drop g.1.1.0 xs))) ≡ g.1.0 + 1 + g.1.1.1.0 =
-    omega (arith, length-append (take g.1.0 (drop g.0 xs)) (46 ∷ take g.1.1.1.0 (drop g.1.1.0 xs))) in
-    let all = rw (told_qualified xs a.map.now _ _ _ _ t) (rw (tl, ql) c.put_qualified.ensures.value, rw tl c.put_qualified.ensures.out_after) in
-    record { value = all.0; leaves_from = all.1 }
+    let ql : length (take g.qualifier_len (drop g.qualifier_start xs)) ≡ g.qualifier_len = length-take-le g.qualifier_len (drop g.qualifier_start xs) (omega (arith, length-drop g.qualifier_start xs)) in
+    let nl : length (take g.name_len (drop g.name_start xs)) ≡ g.name_len = length-take-le g.name_len (drop g.name_start xs) (omega (arith, length-drop g.name_start xs)) in
+    let tl : length (take g.qualifier_len (drop g.qualifier_start xs) ++ (46 ∷ take g.name_len (drop g.name_start xs))) ≡ g.qualifier_len + 1 + g.name_len =
+    omega (arith, length-append (take g.qualifier_len (drop g.qualifier_start xs)) (46 ∷ take g.name_len (drop g.name_start xs))) in
+    rw (told_qualified xs a.map.now _ _ _ _ t) record { value = rw (tl, ql) c.put_qualified.ensures.value; leaves_from = rw tl c.put_qualified.ensures.out_after }
 
 pub returns-in-Nothing : goal.returns-in-Nothing
 returns-in-Nothing c =
@@ -61,6 +59,5 @@ returns-in-Nothing c =
     let m = marked a.text.now a.map.now in
     let h : Tells m (statement_target m) c.qualified_assignment_target-target.result = c.qualified_assignment_target-target.ensures in
     let w = c.rewrite_assignment.ensures in
-    let all = rw (told_none a.text.now a.map.now (rw c.in-Nothing.is at h))
-    (ap Done (w.counted ∙ ap (λ (k : ℕ). a.n + k) (bytes_length (assignment m))), w.stored) in
-    record { value = all.0; leaves_from = all.1 }
+    rw (told_none a.text.now a.map.now (rw c.in-Nothing.is at h))
+    record { value = ap Done (w.counted ∙ ap (λ (k : ℕ). a.n + k) (bytes_length (assignment m))); leaves_from = w.stored }

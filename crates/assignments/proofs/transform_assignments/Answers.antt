@@ -4,7 +4,7 @@
 use native.Mathlib.Omega.{arith}
 use mathlib.Core.Path.{◌≡◌, refl, sym, ◌∙◌}
 use mathlib.Core.List.{List, [], ◌∷◌}
-use Prim.Native.Nat.{◌+◌, ◌-◌, ◌≤◌, ◌<◌}
+use Prim.Native.Nat.{ℕ, ◌+◌, ◌-◌, ◌≤◌, ◌<◌}
 use lib.ListN.{length, take, drop, length-drop}
 use lib.Seq.{length-take-le}
 use Rattle.spec.specs.Map.{Marked, marked, live}
@@ -36,53 +36,40 @@ within c =
     (w.0, omega (arith, w.1, marked_length a.text.now a.map.now))
 
 -- a part from the last `;` to the next one
-abbrev partTo : (c : goal.In-At) {A : Type 0} → List A → List A
-partTo c l = take (c.in-At.end - c.loop-end.from) (drop c.loop-end.from l)
+abbrev part_to : (from end : ℕ) {A : Type 0} → List A → List A
+part_to from end l = take (end - from) (drop from l)
 
 -- the statement beside its map, and its length
-abbrev piece_of : (c : goal.In-At) → List Marked
-piece_of c =
-    partTo c (marked c.args.text.now c.args.map.now)
+abbrev piece : (from end : ℕ) (xs ms : List ℕ) → List Marked
+piece from end xs ms = part_to from end (marked xs ms)
 
-part-long : (c : goal.In-At) →
-    length (partTo c c.args.text.now) ≡ c.in-At.end - c.loop-end.from
-part-long c =
-    let w = within c in
-    length-take-le _ (drop c.loop-end.from c.args.text.now) (omega (arith, length-drop c.loop-end.from c.args.text.now))
-
-piece-long : (c : goal.In-At) → length (piece_of c) ≡ c.in-At.end - c.loop-end.from
-piece-long c =
-    let w = within c in
-    let t = marked c.args.text.now c.args.map.now in
-    length-take-le _ (drop c.loop-end.from t) (omega (arith, length-drop c.loop-end.from t, marked_length c.args.text.now c.args.map.now))
-
-piece-same : (c : goal.In-At) →
-    marked (partTo c c.args.text.now) (partTo c c.args.map.now) ≡ piece_of c
-piece-same c =
-    marked_part c.loop-end.from (c.in-At.end - c.loop-end.from) c.args.text.now c.args.map.now
+part_long : (from end : ℕ) {A : Type 0} (l : List A) → from ≤ end → end ≤ length l → length (part_to from end l) ≡ end - from
+part_long from end l a b = length-take-le _ (drop from l) (omega (arith, length-drop from l))
 
 -- what is made of it, and what is left
 answered : (c : goal.After-put_statement-pass) →
-    c.put_statement-pass.result ≡ answer_from c.loop-end.n (outcome (piece_of @INLINE@))
+    c.put_statement-pass.result ≡ answer_from c.loop-end.n (outcome (piece c.loop-end.from c.in-At.end c.args.text.now c.args.map.now))
 answered c =
-    let partTo : {A : Type 0} → List A → List A = take (c.in-At.end - c.loop-end.from) (drop c.loop-end.from l) in
-    let piece-same : marked (partTo c c.args.text.now) (partTo c c.args.map.now) ≡ piece_of c = marked_part c.loop-end.from (c.in-At.end - c.loop-end.from) c.args.text.now c.args.map.now in
-    let h : c.put_statement-pass.result ≡ answer_from c.loop-end.n (outcome (marked (partTo c.args.text.now) (partTo c.args.map.now))) = c.put_statement-pass.ensures.value in
-    rw piece-same at h
+    let a = c.args in
+    let from = c.loop-end.from in
+    let end = c.in-At.end in
+    let h : c.put_statement-pass.result ≡ answer_from c.loop-end.n (outcome (marked (part_to from end a.text.now) (part_to from end a.map.now))) = c.put_statement-pass.ensures.value in
+    rw (marked_part from (end - from) a.text.now a.map.now) at h
 
 left_in : (c : goal.After-put_statement-pass) →
-    LeavesFrom c.loop-end.n (outcome (piece_of @INLINE@)) c.loop-end.out c.put_statement-pass.new.out
+    LeavesFrom c.loop-end.n (outcome (piece c.loop-end.from c.in-At.end c.args.text.now c.args.map.now)) c.loop-end.out c.put_statement-pass.new.out
 left_in c =
-    let partTo : {A : Type 0} → List A → List A = take (c.in-At.end - c.loop-end.from) (drop c.loop-end.from l) in
-    let piece-same : marked (partTo c c.args.text.now) (partTo c c.args.map.now) ≡ piece_of c = marked_part c.loop-end.from (c.in-At.end - c.loop-end.from) c.args.text.now c.args.map.now in
-    let h : LeavesFrom c.loop-end.n (outcome (marked (partTo c.args.text.now) (partTo c.args.map.now))) c.loop-end.out c.put_statement-pass.new.out = c.put_statement-pass.ensures.leaves_from in
-    rw piece-same at h
+    let a = c.args in
+    let from = c.loop-end.from in
+    let end = c.in-At.end in
+    let h : LeavesFrom c.loop-end.n (outcome (marked (part_to from end a.text.now) (part_to from end a.map.now))) c.loop-end.out c.put_statement-pass.new.out = c.put_statement-pass.ensures.leaves_from in
+    rw (marked_part from (end - from) a.text.now a.map.now) at h
 
 turn_in : (c : goal.In-At)
     → let a = c.args in
     let t = marked a.text.now a.map.now in
     Turn a.out.now 0 (assignments t) c.loop-end.out c.loop-end.n
-    (outcome (piece_of c) ⊕ (accepted (live 59 ∷ []) ⊕ left_from t (c.in-At.end + 1)))
+    (outcome (piece c.loop-end.from c.in-At.end a.text.now a.map.now) ⊕ (accepted (live 59 ∷ []) ⊕ left_from t (c.in-At.end + 1)))
 turn_in c =
     let a = c.args in
     let t = marked a.text.now a.map.now in
@@ -91,22 +78,22 @@ turn_in c =
 
 -- where it is text, its end
 done_at : (c : goal.In-Done) →
-    Done c.in-Done.m ≡ answer_from c.loop-end.n (outcome (piece_of @INLINE@))
+    Done c.in-Done.m ≡ answer_from c.loop-end.n (outcome (piece c.loop-end.from c.in-At.end c.args.text.now c.args.map.now))
 done_at c =
-    let answered : c.put_statement-pass.result ≡ answer_from c.loop-end.n (outcome (piece_of @INLINE@)) = let partTo : {A : Type 0} → List A → List A = take (c.in-At.end - c.loop-end.from) (drop c.loop-end.from l) in
-        let piece-same : marked (partTo c c.args.text.now) (partTo c c.args.map.now) ≡ piece_of c = marked_part c.loop-end.from (c.in-At.end - c.loop-end.from) c.args.text.now c.args.map.now in
-        let h : c.put_statement-pass.result ≡ answer_from c.loop-end.n (outcome (marked (partTo c.args.text.now) (partTo c.args.map.now))) = c.put_statement-pass.ensures.value in
-        rw piece-same at h in
-    sym c.in-Done.is ∙ answered
+    let a = c.args in
+    let from = c.loop-end.from in
+    let end = c.in-At.end in
+    let h : c.put_statement-pass.result ≡ answer_from c.loop-end.n (outcome (marked (part_to from end a.text.now) (part_to from end a.map.now))) = c.put_statement-pass.ensures.value in
+    sym c.in-Done.is ∙ (rw (marked_part from (end - from) a.text.now a.map.now) at h)
 
-end-within : (c : goal.In-Done) →
+end_within : (c : goal.In-Done) → c.loop-end.from ≤ c.in-At.end → c.in-At.end < length c.args.text.now →
     c.in-Done.m ≤ c.loop-end.n + (c.in-At.end - c.loop-end.from) + 7
-end-within c =
-    let piece_of : List Marked = partTo c (marked c.args.text.now c.args.map.now) in
-    let piece-long : length (piece_of c) ≡ c.in-At.end - c.loop-end.from = let w = within c in
-        let t = marked c.args.text.now c.args.map.now in
-        length-take-le _ (drop c.loop-end.from t) (omega (arith, length-drop c.loop-end.from t, marked_length c.args.text.now c.args.map.now)) in
-    omega (arith, statement_long piece_of c.loop-end.n _ (done_at c), piece-long)
+end_within c low high =
+    let a = c.args in
+    let from = c.loop-end.from in
+    let end = c.in-At.end in
+    let long = part_long from end (marked a.text.now a.map.now) low (omega (arith, marked_length a.text.now a.map.now)) in
+    omega (arith, statement_long (piece from end a.text.now a.map.now) c.loop-end.n _ (done_at c), long)
 
 pub loop-end-init : goal.loop-end-init
 loop-end-init c = (omega arith, refl, omega arith, turn_start _ _)
@@ -144,7 +131,7 @@ pub slice_bounds-put_statement-end-in-loop-end-2 : goal.slice_bounds-put_stateme
 slice_bounds-put_statement-end-in-loop-end-2 c = let w = within (goal.at.slice_bounds-put_statement-end-in-loop-end-2 c).In-At in omega arith
 
 pub put_statement-pass-requires : goal.put_statement-pass-requires
-put_statement-pass-requires c = let w = within (goal.at.put_statement-pass-requires c).In-At in let k = part-long (goal.at.put_statement-pass-requires c).In-At in record { text_bound = omega arith; text_in_bounds = omega arith }
+put_statement-pass-requires c = let w = within (goal.at.put_statement-pass-requires c).In-At in let k = part_long c.loop-end.from c.in-At.end c.args.text.now w.0 (omega arith) in record { text_bound = omega arith; text_in_bounds = omega arith }
 
 pub returns-in_default-pass : goal.returns-in_default-pass
 returns-in_default-pass c =
@@ -154,7 +141,7 @@ returns-in_default-pass c =
 
 pub put-n-requires : goal.put-n-requires
 put-n-requires c =
-    let w = within (goal.at.put-n-requires c).In-At in omega (arith, end-within (goal.at.put-n-requires c).In-Done)
+    let w = within (goal.at.put-n-requires c).In-At in omega (arith, end_within (goal.at.put-n-requires c).In-Done w.0 w.1)
 
 pub overflow_add-from : goal.overflow_add-from
 overflow_add-from c =
@@ -169,6 +156,6 @@ loop-end-preserved c =
     let w = within (goal.at.loop-end-preserved c).In-At in (
       omega arith,
       c.put-n.auto.out ∙ (c.put_statement-pass.auto.out ∙ c.loop-end.invariant.1),
-      omega (arith, end-within (goal.at.loop-end-preserved c).In-Done, c.put-n.ensures.value),
+      omega (arith, end_within (goal.at.loop-end-preserved c).In-Done w.0 w.1, c.put-n.ensures.value),
       statement_turn _ _ _ _ _ _ _ _ _ _ (turn_in (goal.at.loop-end-preserved c).In-At) (done_at (goal.at.loop-end-preserved c).In-Done) (left_in (goal.at.loop-end-preserved c).After-put_statement-pass) c.put-n.ensures.value c.put-n.ensures.out_after,
     )

@@ -15,5 +15,4 @@ pub returns : goal.returns
 returns c =
     let s = c.args in
     let m = front_map s.text.now c.map_text.new.map s.map.now c.map_text.ensures in
-    let all = rw (← m) c.transform_elsif.ensures in
-    record { value = all.0; out_after = all.1 }
+    rw (← m) c.transform_elsif.ensures

@@ -24,12 +24,10 @@ unfolding function_answer function_output function_text function_records work_ex
 returns-in_default c =
     let e = c.all_lent-enough.ensures in
     let p = sym c.check_texts-check.ensures ∙ c.in_default.is in
-    let all = rw (← e, p) c.run_function_table.ensures in
-    record { value = all.0; output_after = all.1.0; work_after = all.1.1.0; spare_after = all.1.1.1.0; declared_after = all.1.1.1.1.0; records_after = all.1.1.1.1.1 }
+    rw (← e, p) c.run_function_table.ensures
 
 pub returns : goal.returns
 unfolding function_answer function_output function_text function_records work_exit function_check are_lent buffer_size text_limit record_numbers record_width record_limit
 returns c = let e = c.all_lent-enough.ensures in
     let p = sym c.check_texts-check.ensures ∙ c.in-Refused.is in
-    let all = rw (← e, p) (refl, (refl, (refl, (refl, (refl, refl))))) in
-    record { value = all.0; output_after = all.1.0; work_after = all.1.1.0; spare_after = all.1.1.1.0; declared_after = all.1.1.1.1.0; records_after = all.1.1.1.1.1 }
+    rw (← e, p) (refl, (refl, (refl, (refl, (refl, refl)))))

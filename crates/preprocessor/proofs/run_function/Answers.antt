@@ -32,8 +32,7 @@ returns-in_default c =
     let w : drop s.size c.map_text.new.map ≡ drop s.size s.work.now = ap (drop s.size) m ∙ kept_drop (map_of xs) s.work.now s.size (omega (arith, map_length xs, p.0, p.1.1.0)) in
     let d = ap (drop s.size) (texts_same xs s.work.now _ m s.actions q s.declared.now _ s.records.now _ e.1) in
     let n = subst (λ (k : ℕ). drop k c.parse_declarations-parsed.new.records ≡ drop k s.records.now) (sym p.1.0) e.1.behind in
-    let all = rw (refused_is xs s.work.now _ m s.actions q) (f.0, (f.1.0, (f.1.1.0 ∙ zeroed_same s.size [] _ s.work.now w, (f.1.1.1.0, (f.1.1.1.1.0 ∙ zeroed_same s.size [] _ s.declared.now d, f.1.1.1.1.1 ∙ zeroed_same s.numbers [] _ s.records.now n))))) in
-    record { value = all.0; output_after = all.1.0; work_after = all.1.1.0; spare_after = all.1.1.1.0; declared_after = all.1.1.1.1.0; records_after = all.1.1.1.1.1 }
+    rw (refused_is xs s.work.now _ m s.actions q) (f.0, (f.1.0, (f.1.1.0 ∙ zeroed_same s.size [] _ s.work.now w, (f.1.1.1.0, (f.1.1.1.1.0 ∙ zeroed_same s.size [] _ s.declared.now d, f.1.1.1.1.1 ∙ zeroed_same s.numbers [] _ s.records.now n)))))
 
 pub run_body-r-requires : goal.run_body-r-requires
 run_body-r-requires c =

@@ -4,5 +4,4 @@ use Rattle.preprocessor.proofs.transform_body.Goals as goal
 pub returns : goal.returns
 returns c =
     let e = c.transform_body_by_table.ensures in
-    let all = rw c.no_table.ensures at e in
-    record { value = all.0; output_after = all.1.0; work_after = all.1.1.0; spare_after = all.1.1.1 }
+    rw c.no_table.ensures at e

@@ -22,12 +22,10 @@ unfolding body_answer body_output work_exit body_check are_lent buffer_size text
 returns-in_default c =
     let e = c.are_lent-enough.ensures in
     let p = sym c.check_texts-check.ensures ∙ c.in_default.is in
-    let all = rw (← e, p) c.run_table.ensures in
-    record { value = all.0; output_after = all.1.0; work_after = all.1.1.0; spare_after = all.1.1.1 }
+    rw (← e, p) c.run_table.ensures
 
 pub returns : goal.returns
 unfolding body_answer body_output work_exit body_check are_lent buffer_size text_limit
 returns c = let e = c.are_lent-enough.ensures in
     let p = sym c.check_texts-check.ensures ∙ c.in-Refused.is in
-    let all = rw (← e, p) (refl, (refl, (refl, refl))) in
-    record { value = all.0; output_after = all.1.0; work_after = all.1.1.0; spare_after = all.1.1.1 }
+    rw (← e, p) (refl, (refl, (refl, refl)))
