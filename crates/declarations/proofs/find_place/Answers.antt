@@ -20,7 +20,8 @@ pub loop-name-init : goal.loop-name-init
 loop-name-init c = (c.requires.in_chain, c.requires.k_value)
 
 pub number-next-requires : goal.number-next-requires
-number-next-requires c = (omega (arith, c.loop-name.invariant.0.within), search rules)
+number-next-requires c =
+    record { k_bound = omega (arith, c.loop-name.invariant.0.within); j_bound = search rules; in_bounds = search rules }
 
 pub returns-then-next-eq0 : goal.returns-then-next-eq0
 returns-then-next-eq0 c =

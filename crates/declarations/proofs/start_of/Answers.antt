@@ -12,7 +12,7 @@ pub returns-then-count-k : goal.returns-then-count-k
 returns-then-count-k c = record { in_chain = record { within = omega arith; later = λ z. absurd (z refl) }; k_value = refl }
 
 pub name_of-last-requires : goal.name_of-last-requires
-name_of-last-requires c = let p = c.requires in record { k_bound = omega (arith, p.0, c.if-count-k.false); in_bounds = p.1.1 }
+name_of-last-requires c = let p = c.requires in record { k_bound = omega (arith, p.count_bound, c.if-count-k.false); in_bounds = p.in_bounds }
 
 pub returns-then-comes_before : goal.returns-then-comes_before
 returns-then-comes_before c =

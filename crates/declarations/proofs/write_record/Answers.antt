@@ -11,43 +11,32 @@ use Rattle.spec.proofs.Choice.{cond_le}
 use Rattle.spec.specs.Declarations.{packed_record}
 use Rattle.declared_records.specs.Held.{record_in}
 use Rattle.declarations.proofs.WriteLaws.{Ordered, ordered, numbers}
+use Rattle.declarations.specs.declared.Ends.{Ends}
 use Rattle.declarations.proofs.write_record.Goals as goal
-use Rattle.declarations.proofs.write_record.Goals.{After-put_texts-ends, Start}
-
--- where the function starts, seen from behind the texts
-abbrev start : tie.After-put-texts → tie.Start
-start c =
-    let at-not-null = c.before.before.before.before.before in
-    let at_constant = at-not-null.before.before in
-    at_constant.before.before.before.before.before.before
+use Rattle.declarations.proofs.write_record.Goals.{After-put_texts-ends}
 
 -- the ends in their order, the last within the bound
-ends : (c : goal.After-put_texts-ends) →
-    let a = (start c).args in
-    Ordered a.text.now a.records.now a.k a.n c.put_texts-ends.result
+ends : (c : goal.After-put_texts-ends) → Ordered c.args.text.now c.args.records.now c.args.k c.args.n c.put_texts-ends.result
 ends c =
-    let a = (start c).args in
+    let a = c.args in
     ordered a.text.now a.records.now a.k a.n c.put_texts-ends.result c.put_texts-ends.ensures.value
 
-small : (c : goal.Start) → c.args.n + length (packed_record (record_in c.args.text.now c.args.records.now c.args.k)) ≤ 65536
-small c = c.requires.k_bound_2
+-- where the texts start and each end, within the bound
+record Small (from : ℕ) (e : Ends) : Type 0 where
+  name : e.name ≤ 65536
+  kind : e.kind ≤ 65536
+  value : e.value ≤ 65536
+  start : from ≤ 65536
 
--- each end within the bound
-record Small (c : tie.After-put-texts) : Type 0 where
-  name : c.put-texts.result.name ≤ 65536
-  kind : c.put-texts.result.kind ≤ 65536
-  value : c.put-texts.result.value ≤ 65536
-  from : (start c).args.n ≤ 65536
-
-within : (c : goal.After-put_texts-ends) → Small c
+within : (c : goal.After-put_texts-ends) → Small c.args.n c.put_texts-ends.result
 within c =
     let o = ends c in
-    let s = small (start c) in
+    let s : c.args.n + length (packed_record (record_in c.args.text.now c.args.records.now c.args.k)) ≤ 65536 = c.requires.k_bound_2 in
     record {
       name = omega (arith, s, o.second, o.third, o.last);
       kind = omega (arith, s, o.third, o.last);
       value = omega (arith, s, o.last);
-      from = omega (arith, s);
+      start = omega (arith, s);
     }
 
 pub overflow_sub-name_len : goal.overflow_sub-name_len
@@ -62,7 +51,7 @@ overflow_sub-value_len c =
 
 pub overflow_cast-n : goal.overflow_cast-n
 overflow_cast-n c =
-    omega (arith, (within (goal.at.overflow_cast-n c).After-put_texts-ends).from)
+    omega (arith, (within (goal.at.overflow_cast-n c).After-put_texts-ends).start)
 
 pub overflow_cast-name_len : goal.overflow_cast-name_len
 overflow_cast-name_len c =
@@ -93,12 +82,11 @@ overflow_cast-value_len c =
 
 pub put_numbers-requires : goal.put_numbers-requires
 put_numbers-requires c =
-    let p = (start c.before.before.before.before.before.before.before.before.before.before).requires in
-    record { k_bound = p.0; in_bounds = p.1.1.0 }
+    record { k_bound = c.requires.k_bound; in_bounds = c.requires.in_bounds }
 
 pub returns : goal.returns
 returns c =
-    let a = (start c.before.before.before.before.before.before.before.before.before.before.before.before.before).args in
+    let a = c.args in
     let e = c.put_texts-ends.result in
     let n =
     numbers a.text.now a.records.now a.k a.n c.number-present.result c.if_present-flag.result

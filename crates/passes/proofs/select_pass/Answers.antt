@@ -18,7 +18,7 @@ pub transform_select_into-requires : goal.transform_select_into-requires
 transform_select_into-requires c =
     let p = c.requires in
     let n = length-take-le (length c.args.text.now) c.map_quotes.new.map (omega (arith, c.map_quotes.auto.map)) in
-    record { text_len_bound = p.0; text_in_bounds = omega (arith, n) }
+    record { text_len_bound = p.text_len_bound; text_in_bounds = omega (arith, n) }
 
 pub returns : goal.returns
 unfolding select_pass

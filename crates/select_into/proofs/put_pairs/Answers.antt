@@ -16,18 +16,10 @@ use Rattle.set_lines.proofs.PutLaws.{all_stored, stored_puts, puts_same}
 use Rattle.select_into.proofs.put_pairs.Goals as goal
 use Rattle.select_into.proofs.put_pairs.Goals.{After-from_len}
 
--- earlier steps
-abbrev at-start : tie.After-put-all → tie.Start
-at-start c = let known = c.before.before.before in known.before.before.before.before.before.before
-
-abbrev at-put : tie.After-from-len → tie.After-put-all
-at-put c = let limit = c.before.before.before.before in limit.before.before.before.before
-
 -- the FROM part ends within the text
-inside : (c : goal.After-from_len) → let start = at-start (at-put c) in start.args.f + c.from_len.result ≤ length start.args.text.now
+inside : (c : goal.After-from_len) → c.args.f + c.from_len.result ≤ length c.args.text.now
 inside c =
-    let start = at-start (at-put c) in
-    from_within start.args.text.now start.args.f _ c.from_len.ensures start.pre.1.1.1.1.1
+    from_within c.args.text.now c.args.f _ c.from_len.ensures c.requires.f_in_bounds
 
 pub slice_bounds-put_all-end : goal.slice_bounds-put_all-end
 slice_bounds-put_all-end c =
@@ -41,7 +33,7 @@ pub limit_after-k-requires : goal.limit_after-k-requires
 limit_after-k-requires c = omega (arith, c.limit_after.ensures.upper_bound)
 
 pub overflow_add-end : goal.overflow_add-end
-overflow_add-end c = let start = at-start (at-put c.before) in omega (arith, start.pre, inside c)
+overflow_add-end c = omega (arith, c.requires, inside c)
 
 pub slice_bounds-from-start : goal.slice_bounds-from-start
 slice_bounds-from-start c = omega (arith, inside c)
@@ -53,7 +45,7 @@ pub slice_bounds-trimmed-end : goal.slice_bounds-trimmed-end
 slice_bounds-trimmed-end c = sym (length-take-le _ _ (omega arith))
 
 pub run_start-requires-2 : goal.run_start-requires-2
-run_start-requires-2 c = let start = at-start (at-put c.before.before.before.before.before) in omega (arith, start.pre)
+run_start-requires-2 c = omega (arith, c.requires)
 
 pub slice_bounds-indent-count : goal.slice_bounds-indent-count
 slice_bounds-indent-count c = omega (arith, c.run_start-2.ensures.upper_bound)
@@ -62,20 +54,18 @@ pub slice_bounds-indent-start : goal.slice_bounds-indent-start
 slice_bounds-indent-start c = omega (arith, c.run_start-2.ensures.upper_bound)
 
 pub slice_bounds-indent-end : goal.slice_bounds-indent-end
-slice_bounds-indent-end c = let start = at-start (at-put c.before.before.before.before.before.before) in omega (arith, start.pre)
+slice_bounds-indent-end c = omega (arith, c.requires)
 
 pub put_set_lines-requires : goal.put_set_lines-requires
 put_set_lines-requires c =
-    let put = at-put c.before.before.before.before.before.before.before.before in
-    let start = at-start put in
-    let a = start.args in
+    let a = c.args in
     let xs = a.text.now in
     let l = c.from_len.result in
     let from = take (a.f + l - a.f) (drop a.f xs) in
-    let i = c.run_start-2.result in record { cols_in_bounds = start.pre.0; vars_in_bounds = start.pre.1.0; indent_bound = omega (
+    let i = c.run_start-2.result in record { cols_in_bounds = c.requires.cols_in_bounds; vars_in_bounds = c.requires.vars_in_bounds; indent_bound = omega (
             arith,
-            start.pre.1.1.0,
-            put.put_all_lem.ensures.0,
+            c.requires.text_bound,
+            c.put_all-o.ensures.value,
             part_short a.front 0 xs,
             part_short (a.s - a.front) a.front xs,
             part_short c.run_start.result 0 from,
@@ -86,16 +76,15 @@ put_set_lines-requires c =
 pub returns : goal.returns
 unfolding pairs_text
 returns c =
-    let put = at-put c.before.before.before.before.before.before.before.before.before.before.before in
-    let a = (at-start put).args in
-    let p = put.put_all_lem in
+    let a = c.args in
+    let p = c.put_all-o in
     let q = c.put_set_lines in
     let t = listed (marked a.cols.now a.colsmap.now) in
     let u = listed (marked a.vars.now a.varsmap.now) in
     let front = take a.front a.text.now in
-    stored_puts a.out.now p.last.0 a.n p.result q.new.out q.result front _
-    (all_stored a.out.now p.last.0 a.n p.result front p.ensures.0 p.ensures.1)
-    (puts_same p.last.0 _ _ q.new.out p.result q.result
+    stored_puts a.out.now p.new.out a.n p.result q.new.out q.result front _
+    (all_stored a.out.now p.new.out a.n p.result front p.ensures.value p.ensures.out_after)
+    (puts_same p.new.out _ _ q.new.out p.result q.result
     (ap (λ (s : Shared). lines_text s t u)
     (shared_same a.text.now a.front a.s a.f c.from_len.result c.run_start.result c.run_start-2.result
     c.limit_after.result c.limit_after-k.result c.limit_after-tail.result
