@@ -77,8 +77,7 @@ fn put_called(answer: &mut [u32; 4], r: Rewritten)
 }
 
 // `regions` of crate `searches`; the fourth number is 0.
-#[unsafe(no_mangle)]
-pub extern "C" fn plpgsql_regions(text: &[u8], map: &mut [u8], answer: &mut [u32; 4])
+pub fn plpgsql_regions(text: &[u8], map: &mut [u8], answer: &mut [u32; 4])
     ensures map_after { map.new ≡ map_exit text.now map.old [] }
     ensures answer_after { answer.new ≡ four_filled (regions_answer text.now map.old) }
 {
@@ -87,8 +86,7 @@ pub extern "C" fn plpgsql_regions(text: &[u8], map: &mut [u8], answer: &mut [u32
 }
 
 // `find_keyword`.
-#[unsafe(no_mangle)]
-pub extern "C" fn plpgsql_find_keyword(
+pub fn plpgsql_find_keyword(
     text: &[u8],
     map: &mut [u8],
     keyword: &[u8],
@@ -103,8 +101,7 @@ pub extern "C" fn plpgsql_find_keyword(
 }
 
 // `find_in_code`.
-#[unsafe(no_mangle)]
-pub extern "C" fn plpgsql_find_in_code(text: &[u8], map: &mut [u8], byte: u8, answer: &mut [u32; 4])
+pub fn plpgsql_find_in_code(text: &[u8], map: &mut [u8], byte: u8, answer: &mut [u32; 4])
     ensures map_after { map.new ≡ map_exit text.now map.old [] }
     ensures answer_after { answer.new ≡ four_found (byte_answer text.now map.old byte) }
 {
@@ -113,13 +110,7 @@ pub extern "C" fn plpgsql_find_in_code(text: &[u8], map: &mut [u8], byte: u8, an
 }
 
 // `find_str_in_code`.
-#[unsafe(no_mangle)]
-pub extern "C" fn plpgsql_find_str_in_code(
-    text: &[u8],
-    map: &mut [u8],
-    needle: &[u8],
-    answer: &mut [u32; 4],
-)
+pub fn plpgsql_find_str_in_code(text: &[u8], map: &mut [u8], needle: &[u8], answer: &mut [u32; 4])
     ensures map_after { map.new ≡ map_exit text.now map.old needle.now }
     ensures answer_after { answer.new ≡ four_found (needle_answer text.now map.old needle.now) }
 {
@@ -137,13 +128,7 @@ fn put_word(answer: &mut [u32; 4], three: [u32; 3], len: usize)
 }
 
 // `next_word_in_code`: place and length stand for the part that it hands back.
-#[unsafe(no_mangle)]
-pub extern "C" fn plpgsql_next_word_in_code(
-    text: &[u8],
-    map: &mut [u8],
-    from: usize,
-    answer: &mut [u32; 4],
-)
+pub fn plpgsql_next_word_in_code(text: &[u8], map: &mut [u8], from: usize, answer: &mut [u32; 4])
     ensures map_after { map.new ≡ map_exit text.now map.old [] }
     ensures answer_after { answer.new ≡ four (search_numbers (word_answer text.now map.old from)) (length (word_part text.now map.old from)) }
 {
@@ -153,8 +138,7 @@ pub extern "C" fn plpgsql_next_word_in_code(
 }
 
 // `split_in_code`; the fourth number counts the pieces.
-#[unsafe(no_mangle)]
-pub extern "C" fn plpgsql_split_in_code(
+pub fn plpgsql_split_in_code(
     text: &[u8],
     map: &mut [u8],
     starts: &mut [u32],
@@ -170,8 +154,7 @@ pub extern "C" fn plpgsql_split_in_code(
 }
 
 // `requoted_length`; the fourth number is that length.
-#[unsafe(no_mangle)]
-pub extern "C" fn plpgsql_requoted_length(text: &[u8], answer: &mut [u32; 4])
+pub fn plpgsql_requoted_length(text: &[u8], answer: &mut [u32; 4])
     ensures { answer.new ≡ four_filled (requoted_length_answer text.now) }
 {
     let f = searches::requoted_length(text);
@@ -179,12 +162,7 @@ pub extern "C" fn plpgsql_requoted_length(text: &[u8], answer: &mut [u32; 4])
 }
 
 // `requote_dollar_literals`; the fourth number is the length of the result.
-#[unsafe(no_mangle)]
-pub extern "C" fn plpgsql_requote_dollar_literals(
-    text: &[u8],
-    output: &mut [u8],
-    answer: &mut [u32; 4],
-)
+pub fn plpgsql_requote_dollar_literals(text: &[u8], output: &mut [u8], answer: &mut [u32; 4])
     ensures output_after { output.new ≡ requote_exit text.now output.old }
     ensures answer_after { answer.new ≡ four_filled (requote_answer text.now output.old) }
 {
@@ -193,8 +171,7 @@ pub extern "C" fn plpgsql_requote_dollar_literals(
 }
 
 // `has_unterminated_dollar_quote`.
-#[unsafe(no_mangle)]
-pub extern "C" fn plpgsql_has_unterminated_dollar_quote(text: &[u8], answer: &mut [u32; 4])
+pub fn plpgsql_has_unterminated_dollar_quote(text: &[u8], answer: &mut [u32; 4])
     ensures { answer.new ≡ four_found (unterminated_answer text.now) }
 {
     let s = searches::has_unterminated_dollar_quote(text);
@@ -202,8 +179,7 @@ pub extern "C" fn plpgsql_has_unterminated_dollar_quote(text: &[u8], answer: &mu
 }
 
 // `has_exception_handler`.
-#[unsafe(no_mangle)]
-pub extern "C" fn plpgsql_has_exception_handler(text: &[u8], map: &mut [u8], answer: &mut [u32; 4])
+pub fn plpgsql_has_exception_handler(text: &[u8], map: &mut [u8], answer: &mut [u32; 4])
     ensures map_after { map.new ≡ map_exit text.now map.old [] }
     ensures answer_after { answer.new ≡ four_found (handler_answer text.now map.old) }
 {
@@ -212,8 +188,7 @@ pub extern "C" fn plpgsql_has_exception_handler(text: &[u8], map: &mut [u8], ans
 }
 
 // The body call.
-#[unsafe(no_mangle)]
-pub extern "C" fn plpgsql_transform_body(
+pub fn plpgsql_transform_body(
     text: &[u8],
     output: &mut [u8],
     work: &mut [u8],
@@ -230,8 +205,7 @@ pub extern "C" fn plpgsql_transform_body(
 }
 
 // The body call with the actions of a table.
-#[unsafe(no_mangle)]
-pub extern "C" fn plpgsql_transform_body_by_levels(
+pub fn plpgsql_transform_body_by_levels(
     text: &[u8],
     table: &[u8],
     output: &mut [u8],
@@ -249,8 +223,7 @@ pub extern "C" fn plpgsql_transform_body_by_levels(
 }
 
 // The function call.
-#[unsafe(no_mangle)]
-pub extern "C" fn plpgsql_preprocess(
+pub fn plpgsql_preprocess(
     text: &[u8],
     output: &mut [u8],
     work: &mut [u8],
@@ -271,8 +244,7 @@ pub extern "C" fn plpgsql_preprocess(
 }
 
 // The function call with the actions of a table.
-#[unsafe(no_mangle)]
-pub extern "C" fn plpgsql_preprocess_by_levels(
+pub fn plpgsql_preprocess_by_levels(
     text: &[u8],
     table: &[u8],
     output: &mut [u8],
@@ -294,8 +266,7 @@ pub extern "C" fn plpgsql_preprocess_by_levels(
 }
 
 // `is_closed`: whether a body may be rewritten apart from what stands behind it.
-#[unsafe(no_mangle)]
-pub extern "C" fn plpgsql_is_closed(text: &[u8], map: &mut [u8], answer: &mut [u32; 4])
+pub fn plpgsql_is_closed(text: &[u8], map: &mut [u8], answer: &mut [u32; 4])
     ensures map_after { map.new ≡ map_exit text.now map.old [] }
     ensures answer_after { answer.new ≡ four_found (closed_answer text.now map.old) }
 {

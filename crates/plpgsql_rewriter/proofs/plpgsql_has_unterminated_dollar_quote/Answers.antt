@@ -4,8 +4,5 @@ use mathlib.Core.Path.{ap, ◌∙◌}
 use Rattle.plpgsql_rewriter.specs.Four.{four_found}
 use Rattle.plpgsql_rewriter.proofs.plpgsql_has_unterminated_dollar_quote.Goals as goal
 
-}
-use Rattle.plpgsql_rewriter.proofs.plpgsql_has_unterminated_dollar_quote.Tie as tie
-
 pub returns : goal.returns
 returns c = c.put_found.ensures ∙ ap four_found c.has_unterminated_dollar_quote-s.ensures

@@ -7,4 +7,4 @@ use Rattle.plpgsql_rewriter.proofs.plpgsql_preprocess_by_levels.Goals as goal
 pub returns : goal.returns
 returns c =
     let e = c.preprocess_by_levels-r.ensures in
-    record { output_after = e.1.0; work_after = e.1.1.0; spare_after = e.1.1.1.0; declared_after = e.1.1.1.1.0; records_after = e.1.1.1.1.1; answer_after = c.put_called.ensures ∙ ap four_called e.0 }
+    record { output_after = e.output_after; work_after = e.work_after; spare_after = e.spare_after; declared_after = e.declared_after; records_after = e.records_after; answer_after = c.put_called.ensures ∙ ap four_called e.value }

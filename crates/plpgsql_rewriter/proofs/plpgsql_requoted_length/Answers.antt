@@ -4,8 +4,5 @@ use mathlib.Core.Path.{ap, ◌∙◌}
 use Rattle.plpgsql_rewriter.specs.Four.{four_filled}
 use Rattle.plpgsql_rewriter.proofs.plpgsql_requoted_length.Goals as goal
 
-}
-use Rattle.plpgsql_rewriter.proofs.plpgsql_requoted_length.Tie as tie
-
 pub returns : goal.returns
 returns c = c.put_filled.ensures ∙ ap four_filled c.requoted_length-f.ensures
