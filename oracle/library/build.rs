@@ -1,4 +1,4 @@
-//! Links the static library that `rt staticlib plpgsql_rewriter` makes in the repository's root.
+//! Links the static library that `tools/staticlib` makes in the repository's root.
 
 use std::path::PathBuf;
 
@@ -9,10 +9,7 @@ fn main() {
     let folder = root.join("target/staticlib");
     let archive = folder.join(ARCHIVE);
     if !archive.is_file() {
-        eprintln!(
-            "oracle: {} is missing; make it with: rt staticlib plpgsql_rewriter",
-            archive.display()
-        );
+        eprintln!("oracle: {} is missing; make it with: tools/staticlib", archive.display());
         std::process::exit(1);
     }
     println!("cargo:rerun-if-changed={}", archive.display());

@@ -1,6 +1,6 @@
-// The C interface. A slice is a pointer and a length. Each function's last parameter takes four numbers: for a search its
-// number, the found flag, the place, and the length of what was found or written; for a call its number, the place, the
-// output length and the number of records.
+// The functions of the C interface, for Rattle crates; crate `plpgsql_rewriter_c` exports them to C. Each function's last
+// parameter takes four numbers: for a search its number, the found flag, the place, and the length of what was found or
+// written; for a call its number, the place, the output length and the number of records.
 #![tactic(auto)]
 
 ghost use Rattle.std.specs.Prelude.{◌≡◌, [], ◌∷◌, length, get_or};

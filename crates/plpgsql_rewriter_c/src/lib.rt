@@ -1,5 +1,5 @@
 // The functions of include/plpgsql_rewriter.h, for C: the static library is made of this crate. Each calls the function of its
-// name in crate `plpgsql_rewriter` and meets the same clauses. A slice is a pointer and a length.
+// name in crate `plpgsql_rewriter` and meets the same clauses. A slice is a pointer and a length in C.
 #![tactic(auto)]
 
 ghost use Rattle.std.specs.Prelude.{◌≡◌, [], length};
