@@ -26,5 +26,5 @@ returns c =
     let xs = c.args.text.now in
     let m = front_map xs c.map_text.new.map c.args.map.now c.map_text.ensures in
     let e = rw m at c.transform_assignments.ensures in
-    let g = limited_gives (assignments (marked_text xs)) c.transform_assignments.result c.args.out.now c.transform_assignments.new.out e.0 e.1 c.requires.out_len in
+    let g = limited_gives (assignments (marked_text xs)) c.transform_assignments.result c.args.out.now c.transform_assignments.new.out e.value e.leaves c.requires.out_len in
     rw c.limit.ensures g

@@ -26,5 +26,5 @@ returns c =
     let xs = c.args.text.now in
     let m = front_map xs c.map_text.new.map c.args.map.now c.map_text.ensures in
     let e = rw m at c.transform_raise_statements.ensures in
-    let g = limited_gives (raise (action_of c.args.actions) (marked_text xs)) c.transform_raise_statements.result c.args.out.now c.transform_raise_statements.new.out e.0 e.1 c.requires.out_len in
+    let g = limited_gives (raise (action_of c.args.actions) (marked_text xs)) c.transform_raise_statements.result c.args.out.now c.transform_raise_statements.new.out e.value e.leaves c.requires.out_len in
     rw c.limit.ensures g

@@ -26,5 +26,5 @@ returns c =
     let xs = c.args.text.now in
     let m = front_quotes xs c.map_quotes.new.map c.args.map.now c.map_quotes.ensures in
     let e = rw m at c.transform_select_into.ensures in
-    let g = counted_gives (bytes (select_into (quote_walk 0 xs))) c.args.out.now c.transform_select_into.new.out c.transform_select_into.result e.0 e.1 c.requires.out_len in
+    let g = counted_gives (bytes (select_into (quote_walk 0 xs))) c.args.out.now c.transform_select_into.new.out c.transform_select_into.result e.value e.out_after c.requires.out_len in
     rw c.limit.ensures g
