@@ -30,4 +30,4 @@ pub returns : goal.returns
 unfolding function_answer function_output function_text function_records work_exit function_check are_lent buffer_size text_limit record_numbers record_width record_limit
 returns c = let e = c.all_lent-enough.ensures in
     let p = sym c.check_texts-check.ensures ∙ c.in-Refused.is in
-    rw (← e, p) (refl, (refl, (refl, (refl, (refl, refl)))))
+    rw (← e, p) record { value = refl; output_after = refl; work_after = refl; spare_after = refl; declared_after = refl; records_after = refl }

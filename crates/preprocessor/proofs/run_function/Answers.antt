@@ -18,7 +18,7 @@ pub refuse_function-requires : goal.refuse_function-requires
 refuse_function-requires c =
     let p = c.requires in
     let h = c.parse_declarations-parsed.auto in
-    record { size_in_bounds = p.size_in_bounds; size_in_bounds_2 = omega (arith, p.size_in_bounds_2, c.map_text.auto.map); size_in_bounds_3 = p.size_in_bounds_3; size_in_bounds_4 = omega (arith, p.size_in_bounds_4, h.1.1.0); numbers_in_bounds = omega (arith, p.numbers_in_bounds, h.1.1.1.0) }
+    record { size_in_bounds = p.size_in_bounds; size_in_bounds_2 = omega (arith, p.size_in_bounds_2, c.map_text.auto.map); size_in_bounds_3 = p.size_in_bounds_3; size_in_bounds_4 = omega (arith, p.size_in_bounds_4, h.declared); numbers_in_bounds = omega (arith, p.numbers_in_bounds, h.records) }
 
 pub returns-in_default : goal.returns-in_default
 returns-in_default c =
@@ -27,12 +27,19 @@ returns-in_default c =
     let xs = s.text.now in
     let m = c.map_text.ensures in
     let e = c.parse_declarations-parsed.ensures in
-    let q = sym e.0 ∙ c.in_default.is in
+    let q = sym e.value ∙ c.in_default.is in
     let f = c.refuse_function.ensures in
     let w : drop s.size c.map_text.new.map ≡ drop s.size s.work.now = ap (drop s.size) m ∙ kept_drop (map_of xs) s.work.now s.size (omega (arith, map_length xs, p.size_value, p.text_len_bound)) in
-    let d = ap (drop s.size) (texts_same xs s.work.now _ m s.actions q s.declared.now _ s.records.now _ e.1) in
-    let n = subst (λ (k : ℕ). drop k c.parse_declarations-parsed.new.records ≡ drop k s.records.now) (sym p.numbers_value) e.1.behind in
-    rw (refused_is xs s.work.now _ m s.actions q) (f.0, (f.1.0, (f.1.1.0 ∙ zeroed_same s.size [] _ s.work.now w, (f.1.1.1.0, (f.1.1.1.1.0 ∙ zeroed_same s.size [] _ s.declared.now d, f.1.1.1.1.1 ∙ zeroed_same s.numbers [] _ s.records.now n)))))
+    let d = ap (drop s.size) (texts_same xs s.work.now _ m s.actions q s.declared.now _ s.records.now _ e.holds) in
+    let n = subst (λ (k : ℕ). drop k c.parse_declarations-parsed.new.records ≡ drop k s.records.now) (sym p.numbers_value) e.holds.behind in
+    rw (refused_is xs s.work.now _ m s.actions q) record {
+      value = f.value;
+      output_after = f.output_after;
+      work_after = f.work_after ∙ zeroed_same s.size [] _ s.work.now w;
+      spare_after = f.spare_after;
+      declared_after = f.declared_after ∙ zeroed_same s.size [] _ s.declared.now d;
+      records_after = f.records_after ∙ zeroed_same s.numbers [] _ s.records.now n;
+    }
 
 pub run_body-r-requires : goal.run_body-r-requires
 run_body-r-requires c =
@@ -65,11 +72,11 @@ returns c =
     let at = c.body_start-start.result in
     let b = c.body_start-start.ensures.text_value in
     let e = c.parse_declarations-parsed.ensures in
-    let q = sym e.0 ∙ c.in-Count.is in
+    let q = sym e.value ∙ c.in-Count.is in
     let f = c.run_body-r.ensures in
     let w : drop s.size c.map_text.new.map ≡ drop s.size s.work.now = ap (drop s.size) m ∙ kept_drop (map_of xs) s.work.now s.size (omega (arith, map_length xs, p.size_value, p.text_len_bound)) in
     let v : take (length xs - at) (drop at xs) ≡ drop at xs = take_all (length xs - at) (drop at xs) (omega (arith, length-drop at xs)) in
-    let f₀ = f.0 ∙ ap (λ (ys : List ℕ). (body_result ys s.actions).answer) v in
+    let f₀ = f.value ∙ ap (λ (ys : List ℕ). (body_result ys s.actions).answer) v in
     let r = c.run_body-r.result in
     let d' = c.parse_declarations-parsed.new.declared in
     let rs' = c.parse_declarations-parsed.new.records in
@@ -77,16 +84,16 @@ returns c =
     let k = c.if_accepted-k.ensures in
     let small = texts_small xs s.work.now _ m s.actions at _ _ b q p.text_len_bound in
     let count = numbers_small xs s.work.now _ m s.actions at _ _ b q in
-    let texts = texts_are xs s.work.now _ m s.actions at _ _ b q r f₀ s.declared.now d' s.records.now rs' e.1 in
-    let numbers = numbers_are xs s.work.now _ m s.actions at _ _ b q r f₀ s.declared.now d' s.records.now rs' e.1 in
-    let d = subst (λ (i : ℕ). drop i d' ≡ drop i s.declared.now) (sym p.size_value) (texts_kept xs s.work.now _ m s.actions at _ _ b q r f₀ s.declared.now d' s.records.now rs' e.1 p.text_len_bound) in
-    let h = subst (λ (i : ℕ). drop i rs' ≡ drop i s.records.now) (sym p.numbers_value) e.1.behind in
-    let l = c.parse_declarations-parsed.auto in record { value = c.with_records.ensures ∙ answer_is xs s.work.now _ m s.actions at _ _ b q r f₀; output_after = f.1.0 ∙ ap (λ (ys : List ℕ). zeroed_to s.size ys s.output.now) (ap (λ (ys : List ℕ). (body_result ys s.actions).output) v ∙ output_is xs s.work.now _ m s.actions at _ _ b q); work_after = f.1.1.0 ∙ zeroed_same s.size [] _ s.work.now w; spare_after = f.1.1.1; declared_after = c.fill.ensures
-                  ∙ zeros_behind s.size c.if_accepted-n.result s.declared.now d' _ (omega (arith, p.size_in_bounds_4, l.1.1.0))
+    let texts = texts_are xs s.work.now _ m s.actions at _ _ b q r f₀ s.declared.now d' s.records.now rs' e.holds in
+    let numbers = numbers_are xs s.work.now _ m s.actions at _ _ b q r f₀ s.declared.now d' s.records.now rs' e.holds in
+    let d = subst (λ (i : ℕ). drop i d' ≡ drop i s.declared.now) (sym p.size_value) (texts_kept xs s.work.now _ m s.actions at _ _ b q r f₀ s.declared.now d' s.records.now rs' e.holds p.text_len_bound) in
+    let h = subst (λ (i : ℕ). drop i rs' ≡ drop i s.records.now) (sym p.numbers_value) e.holds.behind in
+    let l = c.parse_declarations-parsed.auto in record { value = c.with_records.ensures ∙ answer_is xs s.work.now _ m s.actions at _ _ b q r f₀; output_after = f.output_after ∙ ap (λ (ys : List ℕ). zeroed_to s.size ys s.output.now) (ap (λ (ys : List ℕ). (body_result ys s.actions).output) v ∙ output_is xs s.work.now _ m s.actions at _ _ b q); work_after = f.work_after ∙ zeroed_same s.size [] _ s.work.now w; spare_after = f.spare_after; declared_after = c.fill.ensures
+                  ∙ zeros_behind s.size c.if_accepted-n.result s.declared.now d' _ (omega (arith, p.size_in_bounds_4, l.declared))
                   (omega (arith, n, at_most r _ 65536 small, p.size_value))
                   d
                   (ap (λ (i : ℕ). take i d') n ∙ texts); records_after = c.clear.ensures
-                  ∙ zeros_behind s.numbers c.if_accepted-k.result s.records.now rs' _ (omega (arith, p.numbers_in_bounds, l.1.1.1.0))
+                  ∙ zeros_behind s.numbers c.if_accepted-k.result s.records.now rs' _ (omega (arith, p.numbers_in_bounds, l.records))
                   (omega (arith, k, at_most r _ 5130 count, p.numbers_value))
                   h
                   (ap (λ (i : ℕ). take i rs') k ∙ numbers) }

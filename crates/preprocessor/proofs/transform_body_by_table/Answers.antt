@@ -28,4 +28,4 @@ pub returns : goal.returns
 unfolding body_answer body_output work_exit body_check are_lent buffer_size text_limit
 returns c = let e = c.are_lent-enough.ensures in
     let p = sym c.check_texts-check.ensures ∙ c.in-Refused.is in
-    rw (← e, p) (refl, (refl, (refl, refl)))
+    rw (← e, p) record { value = refl; output_after = refl; work_after = refl; spare_after = refl }
