@@ -17,7 +17,7 @@ use Rattle.spec.specs.Bytes.{within, is_digit, is_ident, is_quote, is_pair}
 use Rattle.spec.specs.Spans.{escapes, quote_len, quoted_len, tag_len, opens_dollar, single, double, code, kind_at, span_of, span_at, span_len}
 use Rattle.spec.specs.Map.{Marked, live, quoted, byte, mark, marked, marked_text, map_of, bytes, span_flag}
 use Rattle.spec.specs.SelectInto.{quote_after, quote_walk}
-use Rattle.joining.proofs.Bools.{clash, no, and_no, at, other, another, quotes}
+use Rattle.joining.proofs.Bools.{clash, no, and_no, other, another, quotes}
 use Rattle.joining.proofs.Reading.{Reads, leaves}
 
 -- ---- a marked text, span by span

@@ -8,7 +8,7 @@ use Rattle.spec.proofs.ByteSets.{sign_not_w, gap_w, w_not_ident}
 use Rattle.spec.proofs.Choice.{by, or_left, or_right, and_left, and_right}
 use Rattle.spec.specs.Bytes.{ascii, within, is_digit, is_lower, is_upper, is_ident, is_quote, is_w}
 use Rattle.spec.specs.Map.{Marked, live, quoted, byte, lives}
-use Rattle.joining.proofs.Bools.{clash, at, other, no_quote, white_no_quote}
+use Rattle.joining.proofs.Bools.{clash, other, no_quote, white_no_quote}
 use Rattle.joining.proofs.Reading.{leaves, Takes, Reading, reads_all, put_in}
 use Rattle.joining.proofs.WellFormed.{Open, clear, dash, slash, sign, tag, in_single, in_double, live_ok, quoted_ok, well_ok, live_next, quoted_next, well_next, is_out, Well, next_ident, live_quote, live_in, live_out}
 

@@ -1,3 +1,2 @@
 // Demand 3: theorems only, about the definitions of crate `spec`.
 #![tactic(auto)]
-

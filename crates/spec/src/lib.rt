@@ -1,7 +1,6 @@
 // The types that the definitions of document 01 and of the requests name. The definitions themselves stand in specs/.
 #![tactic(auto)]
 
-
 // A dollar literal: its length, where its inside starts and how long that is, and whether it is closed.
 #[derive(Clone, Copy)]
 pub struct DollarQuoted {

@@ -14,7 +14,7 @@ use Rattle.targets.specs.Tells.{Tells}
 use Rattle.targets.specs.declared.TargetFound.TheVariants as target
 use Rattle.assignments.proofs.RestLaws.{told_qualified, told_none, empty_marked}
 use mathlib.Core.Path.{◌≡◌, refl, ap, ◌∙◌}
-use Prim.Native.Nat.{ℕ, ◌+◌, ◌-◌}
+use Prim.Native.Nat.{ℕ, ◌+◌}
 use borrow.Author.Rules.{rules}
 use Rattle.assignments.proofs.put_statement.Goals as goal
 use Rattle.assignments.proofs.put_statement.Goals.{In-At}
@@ -37,7 +37,11 @@ returns-then-text-eq0 c =
 pub put_qualified-requires : goal.put_qualified-requires
 put_qualified-requires c =
     let t = told (goal.at.put_qualified-requires c).In-At in
-    record { b_value = t.inside.0; m_in_bounds = omega (arith, t.inside.1, marked_length c.args.text.now c.args.map.now); statement_in_bounds = search rules }
+    record {
+      b_value = t.inside.0;
+      m_in_bounds = omega (arith, t.inside.1, marked_length c.args.text.now c.args.map.now);
+      statement_in_bounds = search rules;
+    }
 
 pub returns-in-At : goal.returns-in-At
 returns-in-At c =
@@ -51,7 +55,10 @@ returns-in-At c =
     let nl : length (take g.name_len (drop g.name_start xs)) ≡ g.name_len = length-take-le g.name_len (drop g.name_start xs) (omega (arith, length-drop g.name_start xs)) in
     let tl : length (take g.qualifier_len (drop g.qualifier_start xs) ++ (46 ∷ take g.name_len (drop g.name_start xs))) ≡ g.qualifier_len + 1 + g.name_len =
     omega (arith, length-append (take g.qualifier_len (drop g.qualifier_start xs)) (46 ∷ take g.name_len (drop g.name_start xs))) in
-    rw (told_qualified xs a.map.now _ _ _ _ t) record { value = rw (tl, ql) c.put_qualified.ensures.value; leaves_from = rw tl c.put_qualified.ensures.out_after }
+    rw (told_qualified xs a.map.now _ _ _ _ t) record {
+      value = rw (tl, ql) c.put_qualified.ensures.value;
+      leaves_from = rw tl c.put_qualified.ensures.out_after;
+    }
 
 pub returns-in-Nothing : goal.returns-in-Nothing
 returns-in-Nothing c =
@@ -60,4 +67,7 @@ returns-in-Nothing c =
     let h : Tells m (statement_target m) c.qualified_assignment_target-target.result = c.qualified_assignment_target-target.ensures in
     let w = c.rewrite_assignment.ensures in
     rw (told_none a.text.now a.map.now (rw c.in-Nothing.is at h))
-    record { value = ap Done (w.counted ∙ ap (λ (k : ℕ). a.n + k) (bytes_length (assignment m))); leaves_from = w.stored }
+    record {
+      value = ap Done (w.counted ∙ ap (λ (k : ℕ). a.n + k) (bytes_length (assignment m)));
+      leaves_from = w.stored;
+    }

@@ -2,7 +2,6 @@
 -- `:=` found (`sought`): what `put_assignment` writes, or the statement's own bytes. Assumes nothing.
 use native.Mathlib.Omega.{arith}
 use mathlib.Core.Path.{◌≡◌, sym, ◌∙◌}
-use Prim.Native.Nat.{◌-◌}
 use Rattle.spec.specs.Bytes.{ascii}
 use Rattle.spec.specs.Map.{marked}
 use Rattle.spec.specs.Search.{first}
@@ -23,7 +22,10 @@ pub put_assignment-requires : goal.put_assignment-requires
 put_assignment-requires c =
     let a = c.args in
     let i = assign_inside (marked a.statement.now a.map.now) _ (sym (sought (goal.at.put_assignment-requires c).After-find_str_in-found) ∙ c.in-At.is) in
-    record { at_in_bounds = omega (arith, marked_length a.statement.now a.map.now); statement_bound = search rules }
+    record {
+      at_in_bounds = omega (arith, marked_length a.statement.now a.map.now);
+      statement_bound = search rules;
+    }
 
 pub returns-in-At : goal.returns-in-At
 unfolding assignment

@@ -113,31 +113,44 @@ returns-in_default c =
     record { value = rw last at p ∙ sym (turn_answer s); leaves = turn_leaves s _ (rw last at q) }
 
 pub slice_bounds-put_statement-count-in-loop-end : goal.slice_bounds-put_statement-count-in-loop-end
-slice_bounds-put_statement-count-in-loop-end c = let w = within (goal.at.slice_bounds-put_statement-count-in-loop-end c).In-At in omega arith
+slice_bounds-put_statement-count-in-loop-end c =
+    let w = within (goal.at.slice_bounds-put_statement-count-in-loop-end c).In-At in omega arith
 
 pub slice_bounds-put_statement-start-in-loop-end : goal.slice_bounds-put_statement-start-in-loop-end
-slice_bounds-put_statement-start-in-loop-end c = let w = within (goal.at.slice_bounds-put_statement-start-in-loop-end c).In-At in omega arith
+slice_bounds-put_statement-start-in-loop-end c =
+    let w = within (goal.at.slice_bounds-put_statement-start-in-loop-end c).In-At in omega arith
 
 pub slice_bounds-put_statement-end-in-loop-end : goal.slice_bounds-put_statement-end-in-loop-end
-slice_bounds-put_statement-end-in-loop-end c = let w = within (goal.at.slice_bounds-put_statement-end-in-loop-end c).In-At in omega arith
+slice_bounds-put_statement-end-in-loop-end c =
+    let w = within (goal.at.slice_bounds-put_statement-end-in-loop-end c).In-At in omega arith
 
 pub slice_bounds-put_statement-count-in-loop-end-2 : goal.slice_bounds-put_statement-count-in-loop-end-2
-slice_bounds-put_statement-count-in-loop-end-2 c = let w = within (goal.at.slice_bounds-put_statement-count-in-loop-end-2 c).In-At in omega arith
+slice_bounds-put_statement-count-in-loop-end-2 c =
+    let w = within (goal.at.slice_bounds-put_statement-count-in-loop-end-2 c).In-At in omega arith
 
 pub slice_bounds-put_statement-start-in-loop-end-2 : goal.slice_bounds-put_statement-start-in-loop-end-2
-slice_bounds-put_statement-start-in-loop-end-2 c = let w = within (goal.at.slice_bounds-put_statement-start-in-loop-end-2 c).In-At in omega arith
+slice_bounds-put_statement-start-in-loop-end-2 c =
+    let w = within (goal.at.slice_bounds-put_statement-start-in-loop-end-2 c).In-At in omega arith
 
 pub slice_bounds-put_statement-end-in-loop-end-2 : goal.slice_bounds-put_statement-end-in-loop-end-2
-slice_bounds-put_statement-end-in-loop-end-2 c = let w = within (goal.at.slice_bounds-put_statement-end-in-loop-end-2 c).In-At in omega arith
+slice_bounds-put_statement-end-in-loop-end-2 c =
+    let w = within (goal.at.slice_bounds-put_statement-end-in-loop-end-2 c).In-At in omega arith
 
 pub put_statement-pass-requires : goal.put_statement-pass-requires
-put_statement-pass-requires c = let w = within (goal.at.put_statement-pass-requires c).In-At in let k = part_long c.loop-end.from c.in-At.end c.args.text.now w.0 (omega arith) in record { text_bound = omega arith; text_in_bounds = omega arith }
+put_statement-pass-requires c =
+    let w = within (goal.at.put_statement-pass-requires c).In-At in let k = part_long c.loop-end.from c.in-At.end c.args.text.now w.0 (omega arith) in record {
+      text_bound = omega arith;
+      text_in_bounds = omega arith;
+    }
 
 pub returns-in_default-pass : goal.returns-in_default-pass
 returns-in_default-pass c =
     let refused = sym (answered (goal.at.returns-in_default-pass c).After-put_statement-pass) ∙ c.in_default-pass.is in
     let r = turn_refused _ _ _ _ _ _ _ _ (turn_in (goal.at.returns-in_default-pass c).In-At) refused in
-    record { value = answered (goal.at.returns-in_default-pass c).After-put_statement-pass ∙ sym (turn_answer r); leaves = turn_leaves r _ (left_in (goal.at.returns-in_default-pass c).After-put_statement-pass) }
+    record {
+      value = answered (goal.at.returns-in_default-pass c).After-put_statement-pass ∙ sym (turn_answer r);
+      leaves = turn_leaves r _ (left_in (goal.at.returns-in_default-pass c).After-put_statement-pass);
+    }
 
 pub put-n-requires : goal.put-n-requires
 put-n-requires c =

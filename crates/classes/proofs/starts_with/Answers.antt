@@ -2,7 +2,6 @@
 -- from i on is one of the text from i on: a law for an equal byte, one for another byte, and one for either end.
 -- Assumes nothing.
 use mathlib.Core.Path.{sym, ◌∙◌}
-use Prim.Native.Nat.{◌-◌}
 use native.Mathlib.Omega.{arith}
 use Rattle.classes.proofs.PrefixLaws.{prefix_at, prefix_off, prefix_past, prefix_all}
 use Rattle.classes.proofs.starts_with.Goals as goal

@@ -2,7 +2,6 @@
 -- exactly if those from i on are, where `before` is the byte before i. Assumes nothing.
 use native.Mathlib.Omega.{arith}
 use mathlib.Core.Path.{refl, sym, ◌∙◌}
-use Prim.Native.Nat.{◌-◌}
 use Rattle.closed.proofs.ClosedLaws.{raises_unfollowed, raises_step, raises_end}
 use Rattle.closed.proofs.has_followed_raises.Goals as goal
 

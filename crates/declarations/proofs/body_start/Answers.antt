@@ -19,11 +19,18 @@ word c = c.find_keyword_in-begin.ensures
 
 pub returns-in_default : goal.returns-in_default
 unfolding body_from
-returns-in_default c = record { text_value = rw (sym (word (goal.at.returns-in_default c).After-find_keyword_in-begin) ∙ c.in_default.is) refl; upper_bound = omega arith }
+returns-in_default c =
+    record {
+      text_value = rw (sym (word (goal.at.returns-in_default c).After-find_keyword_in-begin) ∙ c.in_default.is) refl;
+      upper_bound = omega arith;
+    }
 
 pub returns : goal.returns
 unfolding body_from
 returns c =
     let a = c.args in
     let e = sym (word (goal.at.returns c).After-find_keyword_in-begin) ∙ c.in-At.is in
-    record { text_value = rw e refl; upper_bound = omega (arith, (first_within (keyword_here (ascii "BEGIN")) (marked a.text.now a.map.now) 0 c.in-At.b e).1, marked_length a.text.now a.map.now) }
+    record {
+      text_value = rw e refl;
+      upper_bound = omega (arith, (first_within (keyword_here (ascii "BEGIN")) (marked a.text.now a.map.now) 0 c.in-At.b e).1, marked_length a.text.now a.map.now);
+    }

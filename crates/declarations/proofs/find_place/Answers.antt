@@ -4,7 +4,6 @@
 use native.Mathlib.Omega.{arith}
 use borrow.Author.Rules.{rules}
 use mathlib.Core.Path.{◌≡◌, refl, sym, ◌∙◌}
-use mathlib.Core.Bool.{true}
 use Rattle.spec.specs.Bytes.{is_before}
 use Rattle.declarations.specs.Chain.{name_in}
 use Rattle.declarations.proofs.InsertLaws.{behind_other, walk_within, walk_ends, walk_stops, walk_held, walk_fewer}
@@ -21,7 +20,11 @@ loop-name-init c = (c.requires.in_chain, c.requires.k_value)
 
 pub number-next-requires : goal.number-next-requires
 number-next-requires c =
-    record { k_bound = omega (arith, c.loop-name.invariant.0.within); j_bound = search rules; in_bounds = search rules }
+    record {
+      k_bound = omega (arith, c.loop-name.invariant.0.within);
+      j_bound = search rules;
+      in_bounds = search rules;
+    }
 
 pub returns-then-next-eq0 : goal.returns-then-next-eq0
 returns-then-next-eq0 c =
@@ -31,7 +34,10 @@ returns-then-next-eq0 c =
 pub name_of-there-requires : goal.name_of-there-requires
 name_of-there-requires c =
     let a = c.args in
-    record { k_bound = omega (arith, walk_within (name_in a.text.now a.records.now) a.records.now a.count a.k c.loop-name.p c.number-next.result c.requires.chained c.loop-name.invariant.0 c.loop-name.invariant.1 c.number-next.ensures.value); in_bounds = search rules }
+    record {
+      k_bound = omega (arith, walk_within (name_in a.text.now a.records.now) a.records.now a.count a.k c.loop-name.p c.number-next.result c.requires.chained c.loop-name.invariant.0 c.loop-name.invariant.1 c.number-next.ensures.value);
+      in_bounds = search rules;
+    }
 
 pub loop-name-smaller : goal.loop-name-smaller
 loop-name-smaller c =

@@ -12,20 +12,20 @@ use Rattle.declarations.proofs.find_section.Goals as goal
 use Rattle.declarations.proofs.find_section.Goals.{After-find_keyword_in-declare, After-find_keyword_in-begin}
 
 -- what the searches found
-declare-word : (c : goal.After-find_keyword_in-declare) → c.find_keyword_in-declare.result ≡ first (keyword_here (ascii "DECLARE")) 0 (marked c.args.text.now c.args.map.now)
+declare_word : (c : goal.After-find_keyword_in-declare) → c.find_keyword_in-declare.result ≡ first (keyword_here (ascii "DECLARE")) 0 (marked c.args.text.now c.args.map.now)
 unfolding is_empty
-declare-word c = c.find_keyword_in-declare.ensures
+declare_word c = c.find_keyword_in-declare.ensures
 
-begin-word : (c : goal.After-find_keyword_in-begin) → c.find_keyword_in-begin.result ≡ first (keyword_here (ascii "BEGIN")) 0 (marked c.args.text.now c.args.map.now)
+begin_word : (c : goal.After-find_keyword_in-begin) → c.find_keyword_in-begin.result ≡ first (keyword_here (ascii "BEGIN")) 0 (marked c.args.text.now c.args.map.now)
 unfolding is_empty
-begin-word c = c.find_keyword_in-begin.ensures
+begin_word c = c.find_keyword_in-begin.ensures
 
 pub section_at-requires : goal.section_at-requires
 section_at-requires c =
     let a = c.args in
-    omega (arith, declare_end_lem (marked a.text.now a.map.now) _ (declare-word (goal.at.section_at-requires c).After-find_keyword_in-declare), marked_length a.text.now a.map.now)
+    omega (arith, declare_end_lem (marked a.text.now a.map.now) _ (declare_word (goal.at.section_at-requires c).After-find_keyword_in-declare), marked_length a.text.now a.map.now)
 
 pub returns : goal.returns
 returns c =
     let a = c.args in
-    rw c.section_at.ensures (section_in (marked a.text.now a.map.now) _ _ (declare-word (goal.at.returns c).After-find_keyword_in-declare) (begin-word (goal.at.returns c).After-find_keyword_in-begin))
+    rw c.section_at.ensures (section_in (marked a.text.now a.map.now) _ _ (declare_word (goal.at.returns c).After-find_keyword_in-declare) (begin_word (goal.at.returns c).After-find_keyword_in-begin))

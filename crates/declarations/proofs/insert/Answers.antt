@@ -9,7 +9,14 @@ use Rattle.declarations.proofs.insert.Goals as goal
 pub find_place-p-requires : goal.find_place-p-requires
 find_place-p-requires c =
     let p = c.requires in
-    record { count_bound = p.count_bound; k_le_count = p.k_le_count; in_bounds = p.in_bounds; chained = p.chained; in_chain = c.start_of-from.ensures.in_chain; k_value = c.start_of-from.ensures.k_value }
+    record {
+      count_bound = p.count_bound;
+      k_le_count = p.k_le_count;
+      in_bounds = p.in_bounds;
+      chained = p.chained;
+      in_chain = c.start_of-from.ensures.in_chain;
+      k_value = c.start_of-from.ensures.k_value;
+    }
 
 pub bounds-records-p-2 : goal.bounds-records-p-2
 bounds-records-p-2 c =

@@ -17,7 +17,14 @@ insert-requires c =
     let a = c.args in
     let l = c.loop-k in
     let h = linked_head a.text.now a.records.now a.count l.k 0 l.records l.invariant.2 in
-    record { count_bound = omega arith; le_k = omega arith; k_le_count = omega arith; in_bounds = omega (arith, l.invariant.1, length-set a.records.now 0 0); different = linked_different a.text.now a.records.now a.count l.k l.records h c.requires.different; chained = linked_chained a.text.now a.records.now a.count l.k l.records h }
+    record {
+      count_bound = omega arith;
+      le_k = omega arith;
+      k_le_count = omega arith;
+      in_bounds = omega (arith, l.invariant.1, length-set a.records.now 0 0);
+      different = linked_different a.text.now a.records.now a.count l.k l.records h c.requires.different;
+      chained = linked_chained a.text.now a.records.now a.count l.k l.records h;
+    }
 
 pub loop-k-preserved : goal.loop-k-preserved
 loop-k-preserved c =

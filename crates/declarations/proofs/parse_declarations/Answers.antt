@@ -35,8 +35,16 @@ parse_section-requires c =
     let i = inside (goal.at.parse_section-requires c).After-find_section-s in
     let l : length (part s.from s.to a.text.now) ≡ s.to - s.from = between_length a.text.now s.from s.to c.find_section-s.ensures.ordered i in
     let m : length (part s.from s.to a.map.now) ≡ s.to - s.from = between_length a.map.now s.from s.to c.find_section-s.ensures.ordered (omega (arith, i)) in
-    record { text_len_bound = omega (arith, l, i); text_in_bounds = omega (arith, l, m); in_bounds = omega arith; in_bounds_2 = omega arith }
+    record {
+      text_len_bound = omega (arith, l, i);
+      text_in_bounds = omega (arith, l, m);
+      in_bounds = omega arith;
+      in_bounds_2 = omega arith;
+    }
 
 pub returns : goal.returns
 returns c =
-    record { value = rw (sym (same (goal.at.returns c).After-find_section-s)) c.parse_section.ensures.value; holds = rw (sym (same (goal.at.returns c).After-find_section-s)) c.parse_section.ensures.holds }
+    record {
+      value = rw (sym (same (goal.at.returns c).After-find_section-s)) c.parse_section.ensures.value;
+      holds = rw (sym (same (goal.at.returns c).After-find_section-s)) c.parse_section.ensures.holds;
+    }

@@ -3,7 +3,7 @@
 -- Assumes nothing.
 use native.Mathlib.Omega.{arith}
 use mathlib.Core.Path.{ap, ◌∙◌}
-use Prim.Native.Nat.{◌-◌, ◌≤◌}
+use Prim.Native.Nat.{◌≤◌}
 use lib.ListN.{length}
 use Rattle.spec.specs.Map.{marked}
 use Rattle.spec.specs.Declarations.{packed}
@@ -17,14 +17,21 @@ pub returns-then-count-gt-RECORD_LIMIT : goal.returns-then-count-gt-RECORD_LIMIT
 returns-then-count-gt-RECORD_LIMIT c =
     let a = c.args in
     let t = marked a.text.now a.map.now in
-    record { value = parsed_over a.text.now t _ _ c.gather-count.ensures.gathered c.if-count-gt-RECORD_LIMIT.true; holds = over_holds a.text.now t _ a.records.now a.declared.now _ c.gather-count.ensures.gathered c.if-count-gt-RECORD_LIMIT.true c.gather-count.ensures.records_unchanged }
+    record {
+      value = parsed_over a.text.now t _ _ c.gather-count.ensures.gathered c.if-count-gt-RECORD_LIMIT.true;
+      holds = over_holds a.text.now t _ a.records.now a.declared.now _ c.gather-count.ensures.gathered c.if-count-gt-RECORD_LIMIT.true c.gather-count.ensures.records_unchanged;
+    }
 
 pub link-requires : goal.link-requires
 link-requires c =
     let a = c.args in
     let g = c.gather-count in
     let low : g.result ≤ 512 = omega arith in
-    record { count_bound = low; in_bounds = search rules; different = gathered_different a.text.now _ g.result (marked a.text.now a.map.now) low g.ensures.gathered }
+    record {
+      count_bound = low;
+      in_bounds = search rules;
+      different = gathered_different a.text.now _ g.result (marked a.text.now a.map.now) low g.ensures.gathered;
+    }
 
 pub write_records-n-requires : goal.write_records-n-requires
 write_records-n-requires c =
@@ -32,7 +39,12 @@ write_records-n-requires c =
     let t = marked a.text.now a.map.now in
     let low : c.gather-count.result ≤ 512 = omega arith in
     let k = kept_all a.text.now t c.gather-count.result low _ _ c.gather-count.ensures.gathered c.link.ensures _ c.put_numbers.ensures in
-    record { count_bound = low; text_len_bound = omega arith; in_bounds = omega (arith, c.put_numbers.auto.records, c.link.auto.records, c.gather-count.auto.records, c.requires.in_bounds_2); count_len_bound = omega (arith, ap (λ ds. length (packed ds)) k, packed_small t, marked_length a.text.now a.map.now, c.requires.text_len_bound) }
+    record {
+      count_bound = low;
+      text_len_bound = omega arith;
+      in_bounds = omega (arith, c.put_numbers.auto.records, c.link.auto.records, c.gather-count.auto.records, c.requires.in_bounds_2);
+      count_len_bound = omega (arith, ap (λ ds. length (packed ds)) k, packed_small t, marked_length a.text.now a.map.now, c.requires.text_len_bound);
+    }
 
 pub returns : goal.returns
 returns c =
@@ -44,4 +56,8 @@ returns c =
     let l = c.link.ensures in
     let e = c.put_numbers.ensures in
     let w = c.write_records-n in
-    let k = kept_all a.text.now t n low _ _ g l _ e in record { value = parsed_count _ n _ (count_length a.text.now t n low _ _ g l) (w.ensures.value ∙ ap (λ ds. length (packed ds)) k) low; holds = packed_all a.text.now t n low _ _ g l _ e a.records.now a.declared.now _ _ c.gather-count.ensures.records_unchanged (omega (arith, marked_length a.text.now a.map.now, c.requires.text_len_bound)) c.requires.in_bounds (omega (arith, c.link.auto.records, c.gather-count.auto.records, c.requires.in_bounds_2)) w.ensures.declared_after w.ensures.records_after }
+    let k = kept_all a.text.now t n low _ _ g l _ e in
+    record {
+      value = parsed_count _ n _ (count_length a.text.now t n low _ _ g l) (w.ensures.value ∙ ap (λ ds. length (packed ds)) k) low;
+      holds = packed_all a.text.now t n low _ _ g l _ e a.records.now a.declared.now _ _ c.gather-count.ensures.records_unchanged (omega (arith, marked_length a.text.now a.map.now, c.requires.text_len_bound)) c.requires.in_bounds (omega (arith, c.link.auto.records, c.gather-count.auto.records, c.requires.in_bounds_2)) w.ensures.declared_after w.ensures.records_after;
+    }

@@ -16,20 +16,20 @@ known : (c : goal.Start) → (c.args.k ≤ 512) × (length c.args.text.now ≤ 6
 known c = (c.requires.k_bound, c.requires.text_len_bound, c.requires.in_bounds, c.requires.n_bound)
 
 -- the texts are not longer than the section
-name-short : (c : goal.After-name_of) → length c.name_of.result.now ≤ 65536
-name-short c =
+name_short : (c : goal.After-name_of) → length c.name_of.result.now ≤ 65536
+name_short c =
     let known : (c.args.k ≤ 512) × (length c.args.text.now ≤ 65536) × (5130 ≤ length c.args.records.now) × (c.args.n ≤ 65536) = (c.requires.k_bound, c.requires.text_len_bound, c.requires.in_bounds, c.requires.n_bound) in
     let k = known in
     omega (arith, k.1, name_le c.args.text.now c.args.records.now c.args.k, ap length c.name_of.ensures)
 
-kind-short : (c : goal.After-piece-kind) → length c.piece-kind.result.now ≤ 65536
-kind-short c =
+kind_short : (c : goal.After-piece-kind) → length c.piece-kind.result.now ≤ 65536
+kind_short c =
     let known : (c.args.k ≤ 512) × (length c.args.text.now ≤ 65536) × (5130 ≤ length c.args.records.now) × (c.args.n ≤ 65536) = (c.requires.k_bound, c.requires.text_len_bound, c.requires.in_bounds, c.requires.n_bound) in
     let k = known in
     omega (arith, k.1, piece_le c.args.text.now c.number.result c.number-2.result, ap length c.piece-kind.ensures)
 
-value-short : (c : goal.After-piece-value) → length c.piece-value.result.now ≤ 65536
-value-short c =
+value_short : (c : goal.After-piece-value) → length c.piece-value.result.now ≤ 65536
+value_short c =
     let known : (c.args.k ≤ 512) × (length c.args.text.now ≤ 65536) × (5130 ≤ length c.args.records.now) × (c.args.n ≤ 65536) = (c.requires.k_bound, c.requires.text_len_bound, c.requires.in_bounds, c.requires.n_bound) in
     let k = known in
     omega (arith, k.1, piece_le c.args.text.now c.number-3.result c.number-4.result, ap length c.piece-value.ensures)
@@ -37,21 +37,22 @@ value-short c =
 pub put_all-name_end-requires : goal.put_all-name_end-requires
 put_all-name_end-requires c =
     let k = known (goal.at.put_all-name_end-requires c).Start in
-    omega (arith, k.3, name-short c)
+    omega (arith, k.3, name_short c)
 
 pub put_spaced-kind_end-requires : goal.put_spaced-kind_end-requires
 put_spaced-kind_end-requires c =
     let k = known (goal.at.put_spaced-kind_end-requires c).Start in
-    omega (arith, k.3, name-short (goal.at.put_spaced-kind_end-requires c).After-name_of, kind-short (goal.at.put_spaced-kind_end-requires c).After-piece-kind, c.put_all-name_end.ensures.value)
+    omega (arith, k.3, name_short (goal.at.put_spaced-kind_end-requires c).After-name_of, kind_short (goal.at.put_spaced-kind_end-requires c).After-piece-kind, c.put_all-name_end.ensures.value)
 
 pub number-requires-5 : goal.number-requires-5
 number-requires-5 c =
-    let k = known (goal.at.number-requires-5 c).Start in record { k_bound = k.0; j_bound = omega arith; in_bounds = k.2 }
+    let k = known (goal.at.number-requires-5 c).Start in
+    record { k_bound = k.0; j_bound = omega arith; in_bounds = k.2 }
 
 pub put_value-end-requires : goal.put_value-end-requires
 put_value-end-requires c =
     let k = known (goal.at.put_value-end-requires c).Start in
-    omega (arith, k.3, name-short (goal.at.put_value-end-requires c).After-name_of, kind-short (goal.at.put_value-end-requires c).After-piece-kind, value-short (goal.at.put_value-end-requires c).After-piece-value, c.put_all-name_end.ensures.value, c.put_spaced-kind_end.ensures.value, spaced_le false c.piece-kind.result.now)
+    omega (arith, k.3, name_short (goal.at.put_value-end-requires c).After-name_of, kind_short (goal.at.put_value-end-requires c).After-piece-kind, value_short (goal.at.put_value-end-requires c).After-piece-value, c.put_all-name_end.ensures.value, c.put_spaced-kind_end.ensures.value, spaced_le false c.piece-kind.result.now)
 
 pub returns : goal.returns
 returns c =

@@ -93,4 +93,8 @@ returns c =
     c.if_present-value_at.result c.mark_of-constant.result c.mark_of-not_null.result e c.number-present.ensures.value
     c.put_texts-ends.ensures.value c.if_present-flag.ensures c.if_present-value_at.ensures
     c.mark_of-constant.ensures c.mark_of-not_null.ensures in
-    record { value = (ends (goal.at.returns c).After-put_texts-ends).last; declared_after = c.put_texts-ends.ensures.declared_after; records_after = c.put_numbers.ensures ∙ ap (λ (l : List ℕ). sets a.records.now (10 * a.k) (get_or a.records.now (10 * a.k) 0 ∷ l)) n }
+    record {
+      value = (ends (goal.at.returns c).After-put_texts-ends).last;
+      declared_after = c.put_texts-ends.ensures.declared_after;
+      records_after = c.put_numbers.ensures ∙ ap (λ (l : List ℕ). sets a.records.now (10 * a.k) (get_or a.records.now (10 * a.k) 0 ∷ l)) n;
+    }

@@ -3,7 +3,6 @@
 -- Assumes nothing.
 use native.Mathlib.Omega.{arith}
 use mathlib.Core.Path.{refl, ◌∙◌}
-use Prim.Native.Nat.{◌-◌}
 use Rattle.declarations.proofs.WriteLaws.{written_none, record_fits, written_one, written_all}
 use Rattle.declarations.proofs.write_records.Goals as goal
 
@@ -15,7 +14,13 @@ write_record-n-requires c =
     let a = c.args in
     let l = c.loop-k in
     let f = record_fits a.text.now a.declared.now a.records.now a.count l.k l.n l.declared l.records (omega arith) l.invariant.4 in
-    record { k_bound = omega arith; text_len_bound = omega arith; in_bounds = omega arith; k_bound_2 = omega (arith, f, c.requires.count_len_bound); le_k = omega arith }
+    record {
+      k_bound = omega arith;
+      text_len_bound = omega arith;
+      in_bounds = omega arith;
+      k_bound_2 = omega (arith, f, c.requires.count_len_bound);
+      le_k = omega arith;
+    }
 
 pub loop-k-preserved : goal.loop-k-preserved
 loop-k-preserved c =

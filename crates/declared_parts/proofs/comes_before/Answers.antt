@@ -3,7 +3,7 @@
 use native.Mathlib.Omega.{arith}
 use borrow.Author.Rules.{rules}
 use mathlib.Core.Path.{◌≡◌, refl, sym, ◌∙◌}
-use Prim.Native.Nat.{◌+◌, ◌-◌}
+use Prim.Native.Nat.{◌+◌}
 use Rattle.declared_parts.proofs.DeclaredNameLaws.{before_step, before_other, before_end}
 use Rattle.declared_parts.proofs.comes_before.Goals as goal
 use Rattle.declared_parts.proofs.comes_before.Goals.{then-x-y, else-x-y, then-i-n+else-x-i-3, else-i-n}

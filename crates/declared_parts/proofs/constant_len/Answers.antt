@@ -17,7 +17,10 @@ returns-then-is_text c =
     let inside = c.run_end-end.ensures.upper_bound (omega arith) in
     let is = sym c.is_text.ensures ∙ c.if-is_text.true in
     let by_place = constant_by xs c.run_end-end.result c.run_end-end.ensures.value in
-    record { value = c.run_end.ensures.value ∙ sym (by_place ∙ rw is refl); upper_bound = c.run_end.ensures.upper_bound inside }
+    record {
+      value = c.run_end.ensures.value ∙ sym (by_place ∙ rw is refl);
+      upper_bound = c.run_end.ensures.upper_bound inside;
+    }
 
 pub returns-else-is_text : goal.returns-else-is_text
 returns-else-is_text c =

@@ -2,7 +2,6 @@
 -- the leftmost from i on; `cut_behind` and `cut_none` give the cut, `cut_tells` that it is within the part. Assumes nothing.
 use native.Mathlib.Omega.{arith}
 use mathlib.Core.Path.{refl, sym, ◌∙◌}
-use Prim.Native.Nat.{◌-◌}
 use Rattle.spec.specs.Map.{marked}
 use Rattle.spec.proofs.MapLaws.{marked_length}
 use Rattle.declared_parts.proofs.DefaultCutLaws.{search_goes_on, cut_behind, cut_none, cut_tells}

@@ -5,4 +5,7 @@ use Rattle.declared_parts.proofs.last_word.Goals as goal
 pub returns : goal.returns
 returns c =
     let xs = c.args.text.now in
-    record { value = last_by xs _ _ c.run_start-end.ensures.value c.run_start-start.ensures.value; from_le_to = (c.run_start-start.ensures.upper_bound, c.run_start-end.ensures.upper_bound) }
+    record {
+      value = last_by xs _ _ c.run_start-end.ensures.value c.run_start-start.ensures.value;
+      from_le_to = (c.run_start-start.ensures.upper_bound, c.run_start-end.ensures.upper_bound);
+    }

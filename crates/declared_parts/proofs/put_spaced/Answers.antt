@@ -5,7 +5,7 @@ use native.Mathlib.Omega.{arith}
 use mathlib.Core.Path.{◌≡◌, refl, sym, ap, ◌∙◌}
 use mathlib.Core.Bool.{Bool, false}
 use mathlib.Core.List.{List}
-use Prim.Native.Nat.{ℕ, ◌-◌, ◌+◌}
+use Prim.Native.Nat.{ℕ, ◌+◌}
 use lib.ListN.{length, drop}
 use lib.Seq.{sets}
 use native.Mathlib.Numerals.{add-one}
@@ -51,4 +51,7 @@ pub returns : goal.returns
 returns c =
     let l = c.loop-j in
     let e = spaced_over c.args.text.now l.j l.gap (omega arith) in
-    record { value = omega (arith, l.invariant.2, ap length e); out_after = sym (l.invariant.3 ∙ ap (λ (r : List ℕ). sets l.out l.o r) e) }
+    record {
+      value = omega (arith, l.invariant.2, ap length e);
+      out_after = sym (l.invariant.3 ∙ ap (λ (r : List ℕ). sets l.out l.o r) e);
+    }

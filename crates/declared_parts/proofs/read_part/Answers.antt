@@ -1,6 +1,6 @@
 -- `declared_parts::read_part` meets its contract. `part_read` proves the reading from what the calls ensure: where the
 -- part, its name, its type and its default begin and end. `inside` says that the cut is within the trimmed part,
--- `type-inside` that the type is within what stands ahead of the cut. Assumes nothing.
+-- `type_inside` that the type is within what stands ahead of the cut. Assumes nothing.
 use native.Mathlib.Omega.{arith}
 use mathlib.Core.Path.{◌≡◌, refl, ◌∙◌}
 use Prim.Native.Nat.{◌≤◌, ◌-◌, ◌+◌}
@@ -21,14 +21,14 @@ inside c =
     omega (arith, h, between_length xs s e c.trim_end-end.ensures.lower_bound.0 (omega arith))
 
 -- the type's words are within what stands ahead of the default
-type-inside : (c : goal.After-read_type-kind) →
+type_inside : (c : goal.After-read_type-kind) →
     c.run_end_between-name_end.result + c.read_type-kind.result.to ≤ c.run_end_between-start.result + c.find_default-cut.result.head
-type-inside c =
+type_inside c =
     let inside : c.run_end_between-start.result + c.find_default-cut.result.rest ≤ c.trim_end-end.result = let xs = c.args.text.now in
-        let s = c.run_end_between-start.result in
-        let e = c.trim_end-end.result in
-        let h : c.find_default-cut.result.rest ≤ length (part s e xs) = c.find_default-cut.ensures.head_le_rest.1 in
-        omega (arith, h, between_length xs s e c.trim_end-end.ensures.lower_bound.0 (omega arith)) in
+    let s = c.run_end_between-start.result in
+    let e = c.trim_end-end.result in
+    let h : c.find_default-cut.result.rest ≤ length (part s e xs) = c.find_default-cut.ensures.head_le_rest.1 in
+    omega (arith, h, between_length xs s e c.trim_end-end.ensures.lower_bound.0 (omega arith)) in
     let a = c.run_end_between-name_end.result in
     let b = c.run_end_between-start.result + c.find_default-cut.result.head in
     let xs = c.args.text.now in
@@ -39,15 +39,21 @@ type-inside c =
 
 pub run_end_between-value-requires : goal.run_end_between-value-requires
 run_end_between-value-requires c =
-    record { from_le_to = inside (goal.at.run_end_between-value-requires c).After-find_default-cut; to_in_bounds = omega (arith, c.trim_end-end.ensures.lower_bound.1, c.requires.to_in_bounds) }
+    record {
+      from_le_to = inside (goal.at.run_end_between-value-requires c).After-find_default-cut;
+      to_in_bounds = omega (arith, c.trim_end-end.ensures.lower_bound.1, c.requires.to_in_bounds);
+    }
 
 pub trim_end-value_end-requires : goal.trim_end-value_end-requires
 trim_end-value_end-requires c =
-    record { from_le_to = c.run_end_between-value.ensures.lower_bound.1; to_in_bounds = omega (arith, c.trim_end-end.ensures.lower_bound.1, c.requires.to_in_bounds) }
+    record {
+      from_le_to = c.run_end_between-value.ensures.lower_bound.1;
+      to_in_bounds = omega (arith, c.trim_end-end.ensures.lower_bound.1, c.requires.to_in_bounds);
+    }
 
 pub overflow_add-result : goal.overflow_add-result
 overflow_add-result c =
-    omega (arith, type-inside (goal.at.overflow_add-result c).After-read_type-kind, c.read_type-kind.ensures.from_le_to.0, inside (goal.at.overflow_add-result c).After-find_default-cut, c.find_default-cut.ensures.head_le_rest.0, c.trim_end-end.ensures.lower_bound.1, c.requires.to_in_bounds)
+    omega (arith, type_inside (goal.at.overflow_add-result c).After-read_type-kind, c.read_type-kind.ensures.from_le_to.0, inside (goal.at.overflow_add-result c).After-find_default-cut, c.find_default-cut.ensures.head_le_rest.0, c.trim_end-end.ensures.lower_bound.1, c.requires.to_in_bounds)
 
 pub returns : goal.returns
 returns c =
@@ -63,8 +69,10 @@ returns c =
     let n = c.run_end_between-name.result in
     let e = c.run_end_between-name_end.result in
     let q : n + (e - n) ≡ e = omega arith in
-    let k = type-inside (goal.at.returns c).After-read_type-kind in
-    let g = c.find_default-cut.ensures.head_le_rest.0 in record { map_value = part_read a.text.now a.map.now a.from a.to c.run_end_between-start.result c.trim_end-end.result c.find_default-cut.result c.read_type-kind.result _ record {
+    let k = type_inside (goal.at.returns c).After-read_type-kind in
+    let g = c.find_default-cut.ensures.head_le_rest.0 in
+    record {
+      map_value = part_read a.text.now a.map.now a.from a.to c.run_end_between-start.result c.trim_end-end.result c.find_default-cut.result c.read_type-kind.result _ record {
         starts = c.run_end_between-start.ensures.value;
         ends = c.trim_end-end.ensures.value;
         inside = omega arith;
@@ -82,7 +90,8 @@ returns c =
         value = c.run_end_between-value.ensures.value;
         value_end = omega arith;
         value_inside = omega arith;
-      } c.find_default-cut.ensures.value; within = record {
+      } c.find_default-cut.ensures.value;
+      within = record {
         name = omega arith;
         name_len = omega arith;
         kind = omega arith;
@@ -92,4 +101,5 @@ returns c =
         value_len = omega arith;
         constant = f₅.2;
         not_null = f₅.3;
-      } }
+      };
+    }

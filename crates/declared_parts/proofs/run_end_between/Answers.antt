@@ -5,7 +5,8 @@ use Rattle.declared_parts.proofs.BetweenLaws.{between_length}
 use Rattle.declared_parts.proofs.run_end_between.Goals as goal
 
 pub overflow_add-result : goal.overflow_add-result
-overflow_add-result c = let a = c.args in omega (arith, c.run_end.ensures.upper_bound (omega arith), between_length a.text.now a.from a.to (omega arith) (omega arith))
+overflow_add-result c =
+    let a = c.args in omega (arith, c.run_end.ensures.upper_bound (omega arith), between_length a.text.now a.from a.to (omega arith) (omega arith))
 
 pub returns : goal.returns
 returns c =

@@ -11,4 +11,7 @@ pub returns : goal.returns
 returns c =
     let a = c.args in
     let n = between_length a.text.now a.from a.to (omega arith) (omega arith) in
-    record { value = omega (arith, (start_whole is_w (part a.from a.to a.text.now) _ c.run_start.ensures.value).0); lower_bound = (omega arith, omega arith) }
+    record {
+      value = omega (arith, (start_whole is_w (part a.from a.to a.text.now) _ c.run_start.ensures.value).0);
+      lower_bound = (omega arith, omega arith);
+    }

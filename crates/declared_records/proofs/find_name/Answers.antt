@@ -2,7 +2,7 @@
 -- is k and its place among those behind the first k. That every record has its name's hash is asked for. Assumes nothing.
 use native.Mathlib.Omega.{arith}
 use mathlib.Core.Path.{sym, ◌∙◌}
-use Prim.Native.Nat.{◌+◌, ◌-◌}
+use Prim.Native.Nat.{◌+◌}
 use Rattle.declared_records.proofs.GatherLaws.{place_start, place_over, place_hit, place_miss}
 use Rattle.declared_records.proofs.find_name.Goals as goal
 
@@ -11,13 +11,21 @@ loop-k-init c = (omega arith, place_start c.args.name.now c.args.text.now c.args
 
 pub is_named-requires : goal.is_named-requires
 is_named-requires c =
-    record { k_bound = omega arith; in_bounds = c.requires.in_bounds; hash_value = c.requires.hash_value; hash_in = c.requires.hashed (c.loop-k.k + 1) (omega arith) (omega arith) }
+    record {
+      k_bound = omega arith;
+      in_bounds = c.requires.in_bounds;
+      hash_value = c.requires.hash_value;
+      hash_in = c.requires.hashed (c.loop-k.k + 1) (omega arith) (omega arith);
+    }
 
 pub returns-then-is_named : goal.returns-then-is_named
 returns-then-is_named c =
     let l = c.loop-k in
     let a = c.args in
-    record { value = omega (arith, l.invariant.1, place_hit a.name.now a.text.now a.records.now l.k a.count (omega arith) (sym c.is_named.ensures ∙ c.if-is_named.true)); upper_bound = omega arith }
+    record {
+      value = omega (arith, l.invariant.1, place_hit a.name.now a.text.now a.records.now l.k a.count (omega arith) (sym c.is_named.ensures ∙ c.if-is_named.true));
+      upper_bound = omega arith;
+    }
 
 pub loop-k-preserved : goal.loop-k-preserved
 loop-k-preserved c =
@@ -29,4 +37,7 @@ pub returns : goal.returns
 returns c =
     let l = c.loop-k in
     let a = c.args in
-    record { value = omega (arith, l.invariant.1, place_over a.name.now a.text.now a.records.now l.k a.count (omega arith)); upper_bound = omega arith }
+    record {
+      value = omega (arith, l.invariant.1, place_over a.name.now a.text.now a.records.now l.k a.count (omega arith));
+      upper_bound = omega arith;
+    }

@@ -3,7 +3,7 @@
 -- behind the records are as they were. Assumes nothing.
 use native.Mathlib.Omega.{arith}
 use mathlib.Core.Path.{refl, sym, ◌∙◌}
-use Prim.Native.Nat.{◌-◌, ◌≤◌, ◌<◌}
+use Prim.Native.Nat.{◌≤◌, ◌<◌}
 use lib.ListN.{length}
 use Rattle.spec.specs.Map.{marked}
 use Rattle.spec.specs.Search.{byte_here}
@@ -27,7 +27,12 @@ loop-end-init c = (omega arith, omega arith, refl, gathered_start c.args.text.no
 
 pub add_part-requires : goal.add_part-requires
 add_part-requires c =
-    record { count_bound = omega arith; in_bounds = omega arith; within = within_more _ 65536 _ (omega arith) c.read_part-last.ensures.within; hashed = c.loop-end.invariant.5 }
+    record {
+      count_bound = omega arith;
+      in_bounds = omega arith;
+      within = within_more _ 65536 _ (omega arith) c.read_part-last.ensures.within;
+      hashed = c.loop-end.invariant.5;
+    }
 
 pub shape_of-records-in_default : goal.shape_of-records-in_default
 shape_of-records-in_default c =
@@ -37,7 +42,10 @@ pub returns-in_default : goal.returns-in_default
 returns-in_default c =
     let a = c.args in
     let l = c.loop-end in
-    record { gathered = gathered_last a.text.now a.map.now l.at l.records l.count c.read_part-last.result _ _ c.add_part.ensures l.invariant.3 (sym c.find_byte_in-found.ensures ∙ c.in_default.is) c.read_part-last.ensures.map_value; records_unchanged = c.add_part.ensures.behind ∙ l.invariant.4 }
+    record {
+      gathered = gathered_last a.text.now a.map.now l.at l.records l.count c.read_part-last.result _ _ c.add_part.ensures l.invariant.3 (sym c.find_byte_in-found.ensures ∙ c.in_default.is) c.read_part-last.ensures.map_value;
+      records_unchanged = c.add_part.ensures.behind ∙ l.invariant.4;
+    }
 
 pub read_part-p-requires : goal.read_part-p-requires
 read_part-p-requires c =
@@ -46,7 +54,12 @@ read_part-p-requires c =
 
 pub add_part-count-requires : goal.add_part-count-requires
 add_part-count-requires c =
-    record { count_bound = omega arith; in_bounds = omega arith; within = within_more _ 65536 _ (omega arith) c.read_part-p.ensures.within; hashed = c.loop-end.invariant.5 }
+    record {
+      count_bound = omega arith;
+      in_bounds = omega arith;
+      within = within_more _ 65536 _ (omega arith) c.read_part-p.ensures.within;
+      hashed = c.loop-end.invariant.5;
+    }
 
 pub shape_of-records-then-count-gt-RECORD_LIMIT : goal.shape_of-records-then-count-gt-RECORD_LIMIT
 shape_of-records-then-count-gt-RECORD_LIMIT c =
@@ -56,7 +69,10 @@ pub returns-then-count-gt-RECORD_LIMIT : goal.returns-then-count-gt-RECORD_LIMIT
 returns-then-count-gt-RECORD_LIMIT c =
     let a = c.args in
     let l = c.loop-end in
-    record { gathered = gathered_over a.text.now a.map.now l.at l.records l.count c.read_part-p.result _ _ c.add_part-count.ensures l.invariant.3 c.in-At.end (sym c.find_byte_in-found.ensures ∙ c.in-At.is) c.read_part-p.ensures.map_value c.if-count-gt-RECORD_LIMIT.true; records_unchanged = c.add_part-count.ensures.behind ∙ l.invariant.4 }
+    record {
+      gathered = gathered_over a.text.now a.map.now l.at l.records l.count c.read_part-p.result _ _ c.add_part-count.ensures l.invariant.3 c.in-At.end (sym c.find_byte_in-found.ensures ∙ c.in-At.is) c.read_part-p.ensures.map_value c.if-count-gt-RECORD_LIMIT.true;
+      records_unchanged = c.add_part-count.ensures.behind ∙ l.invariant.4;
+    }
 
 pub overflow_add-at : goal.overflow_add-at
 overflow_add-at c =

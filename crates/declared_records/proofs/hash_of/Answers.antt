@@ -3,7 +3,6 @@
 use native.Mathlib.Omega.{arith}
 use native.Mathlib.Nat.{mod-lt}
 use mathlib.Core.Path.{refl, sym, ◌∙◌}
-use Prim.Native.Nat.{◌-◌}
 use Rattle.declared_records.proofs.HeldLaws.{hash_step, hash_end}
 use Rattle.declared_records.proofs.hash_of.Goals as goal
 
@@ -24,4 +23,7 @@ loop-i-preserved c =
 pub returns : goal.returns
 returns c =
     let l = c.loop-i in
-    record { value = sym (l.invariant.1 ∙ hash_end l.hash c.args.name.now l.i (omega arith)); upper_bound = l.invariant.2 }
+    record {
+      value = sym (l.invariant.1 ∙ hash_end l.hash c.args.name.now l.i (omega arith));
+      upper_bound = l.invariant.2;
+    }

@@ -10,4 +10,8 @@ pub overflow_cast-result : goal.overflow_cast-result
 overflow_cast-result c = omega (arith, c.shared_slice_known-1.given (10 * c.args.k + c.args.j))
 
 pub returns : goal.returns
-returns c = record { value = sym (get_or-drop (10 * c.args.k) c.args.records.now c.args.j 0); upper_bound = omega (arith, c.shared_slice_known-1.given (10 * c.args.k + c.args.j)) }
+returns c =
+    record {
+      value = sym (get_or-drop (10 * c.args.k) c.args.records.now c.args.j 0);
+      upper_bound = omega (arith, c.shared_slice_known-1.given (10 * c.args.k + c.args.j));
+    }

@@ -17,15 +17,15 @@ use Rattle.elsif.proofs.transform_elsif.Goals as goal
 use Rattle.elsif.proofs.transform_elsif.Goals.{After-find_keyword_in-found, In-At, After-slice_known-in-loop-at-2-1}
 
 -- what the search for the keyword gives
-sought-from : (c : goal.After-find_keyword_in-found) → c.find_keyword_in-found.result ≡ first keyword c.loop-at.from (marked c.args.text.now c.args.map.now)
-sought-from c = c.find_keyword_in-found.ensures ∙ nonempty_word (ascii "ELSIF") _ (omega arith)
+sought_from : (c : goal.After-find_keyword_in-found) → c.find_keyword_in-found.result ≡ first keyword c.loop-at.from (marked c.args.text.now c.args.map.now)
+sought_from c = c.find_keyword_in-found.ensures ∙ nonempty_word (ascii "ELSIF") _ (omega arith)
 
 -- the keyword stands at the place found
 found_at : (c : goal.In-At) →
     first keyword c.loop-at.from (marked c.args.text.now c.args.map.now) ≡ At c.in-At.at
 found_at c =
-    let sought-from : c.find_keyword_in-found.result ≡ first keyword c.loop-at.from (marked c.args.text.now c.args.map.now) = c.find_keyword_in-found.ensures ∙ nonempty_word (ascii "ELSIF") _ (omega arith) in
-    sym sought-from ∙ c.in-At.is
+    let sought_from : c.find_keyword_in-found.result ≡ first keyword c.loop-at.from (marked c.args.text.now c.args.map.now) = c.find_keyword_in-found.ensures ∙ nonempty_word (ascii "ELSIF") _ (omega arith) in
+    sym sought_from ∙ c.in-At.is
 
 -- and within the text
 within : (c : goal.In-At) →
@@ -34,17 +34,17 @@ within c =
     rest_within c.args.text.now c.args.map.now _ _ (found_at c)
 
 -- how long the part before it is
-before-length : (c : goal.In-At) →
+before_length : (c : goal.In-At) →
     length (take (c.in-At.at - c.loop-at.from) (drop c.loop-at.from c.args.text.now)) ≡ c.in-At.at - c.loop-at.from
-before-length c =
+before_length c =
     length-take-le _ (drop c.loop-at.from c.args.text.now) (omega (arith, (within c).1, length-drop c.loop-at.from c.args.text.now))
 
 -- what a turn stores
 store : (c : goal.After-slice_known-in-loop-at-2-1) →
     Turn c.args.text.now c.args.map.now c.loop-at.from c.in-At.at c.loop-at.out c.loop-at.n c.put_all-n-in-loop-at.new.out c.put_all-n-in-loop-at.result
 store c =
-    let found_at : first keyword c.loop-at.from (marked c.args.text.now c.args.map.now) ≡ At c.in-At.at = let sought-from : c.find_keyword_in-found.result ≡ first keyword c.loop-at.from (marked c.args.text.now c.args.map.now) = c.find_keyword_in-found.ensures ∙ nonempty_word (ascii "ELSIF") _ (omega arith) in
-        sym sought-from ∙ c.in-At.is in
+    let found_at : first keyword c.loop-at.from (marked c.args.text.now c.args.map.now) ≡ At c.in-At.at = let sought_from : c.find_keyword_in-found.result ≡ first keyword c.loop-at.from (marked c.args.text.now c.args.map.now) = c.find_keyword_in-found.ensures ∙ nonempty_word (ascii "ELSIF") _ (omega arith) in
+    sym sought_from ∙ c.in-At.is in
     elsif_turn c.args.text.now c.args.map.now c.loop-at.from c.in-At.at found_at
     c.loop-at.out c.put_all-n.new.out c.put_all-n-in-loop-at.new.out c.loop-at.n c.put_all-n.result c.put_all-n-in-loop-at.result
     c.put_all-n.ensures.value c.put_all-n.ensures.out_after c.put_all-n-in-loop-at.ensures.value c.put_all-n-in-loop-at.ensures.out_after
@@ -66,7 +66,7 @@ pub returns-in_default : goal.returns-in_default
 returns-in_default c =
     let l = c.loop-at in
     let xs = c.args.text.now in
-    let e : rest_at xs c.args.map.now l.from ≡ drop l.from xs = rest_last xs c.args.map.now l.from (sym (sought-from (goal.at.returns-in_default c).After-find_keyword_in-found) ∙ c.in_default.is) in
+    let e : rest_at xs c.args.map.now l.from ≡ drop l.from xs = rest_last xs c.args.map.now l.from (sym (sought_from (goal.at.returns-in_default c).After-find_keyword_in-found) ∙ c.in_default.is) in
     let h : c.put_all.result ≡ l.n + length (take (length xs - l.from) (drop l.from xs)) = c.put_all.ensures.value in
     let g : c.put_all.new.out ≡ sets l.out l.n (take (length xs - l.from) (drop l.from xs)) = c.put_all.ensures.out_after in
     let k = rw rest_of at h in
@@ -83,11 +83,11 @@ pub slice_bounds-put_all-end-in-loop-at : goal.slice_bounds-put_all-end-in-loop-
 slice_bounds-put_all-end-in-loop-at c = omega (arith, within (goal.at.slice_bounds-put_all-end-in-loop-at c).In-At)
 
 pub put_all-n-requires : goal.put_all-n-requires
-put_all-n-requires c = omega (arith, within (goal.at.put_all-n-requires c).In-At, before-length (goal.at.put_all-n-requires c).In-At)
+put_all-n-requires c = omega (arith, within (goal.at.put_all-n-requires c).In-At, before_length (goal.at.put_all-n-requires c).In-At)
 
 pub put_all-n-requires-in-loop-at : goal.put_all-n-requires-in-loop-at
 put_all-n-requires-in-loop-at c =
-    omega (arith, within (goal.at.put_all-n-requires-in-loop-at c).In-At, before-length (goal.at.put_all-n-requires-in-loop-at c).In-At, c.put_all-n.ensures.value)
+    omega (arith, within (goal.at.put_all-n-requires-in-loop-at c).In-At, before_length (goal.at.put_all-n-requires-in-loop-at c).In-At, c.put_all-n.ensures.value)
 
 pub overflow_add-from : goal.overflow_add-from
 overflow_add-from c =
@@ -101,4 +101,4 @@ pub loop-at-preserved : goal.loop-at-preserved
 loop-at-preserved c =
     let l = c.loop-at in
     let s = store c in
-    ((within (goal.at.loop-at-preserved c).In-At).1, c.put_all-n-in-loop-at.auto.out ∙ (c.put_all-n.auto.out ∙ l.invariant.1), l.invariant.2 ∙ s.counted, l.invariant.3 ∙ s.stored, omega (arith, within (goal.at.loop-at-preserved c).In-At, before-length (goal.at.loop-at-preserved c).In-At, c.put_all-n.ensures.value, c.put_all-n-in-loop-at.ensures.value))
+    ((within (goal.at.loop-at-preserved c).In-At).1, c.put_all-n-in-loop-at.auto.out ∙ (c.put_all-n.auto.out ∙ l.invariant.1), l.invariant.2 ∙ s.counted, l.invariant.3 ∙ s.stored, omega (arith, within (goal.at.loop-at-preserved c).In-At, before_length (goal.at.loop-at-preserved c).In-At, c.put_all-n.ensures.value, c.put_all-n-in-loop-at.ensures.value))

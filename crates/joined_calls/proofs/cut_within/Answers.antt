@@ -8,6 +8,11 @@ use lib.Seq.{take_all, take-length}
 use Rattle.joined_calls.proofs.cut_within.Goals as goal
 
 pub returns : goal.returns
-returns c = let t = c.args.text.now in
+returns c =
+    let t = c.args.text.now in
     let h : length t ≤ c.args.cut = omega (arith, c.if-cut-text.false) in
-    record { upper_bound = omega arith; text_value = take-length t ∙ sym (take_all c.args.cut t h); text_value_2 = drop_of_length-le t {i = length t} (omega arith) ∙ sym (drop_of_length-le t h) }
+    record {
+      upper_bound = omega arith;
+      text_value = take-length t ∙ sym (take_all c.args.cut t h);
+      text_value_2 = drop_of_length-le t {i = length t} (omega arith) ∙ sym (drop_of_length-le t h);
+    }

@@ -26,4 +26,14 @@ returns c =
     let p = like_at_start s.table (take s.cut xs) (take cut.result xs) s.first.now a b u.new.work u.new.spare v.result v.new.output v.new.work v.new.spare (v.ensures.value, (v.ensures.output_after, (v.ensures.work_after, v.ensures.spare_after))) cut.ensures.text_value u.auto.work u.auto.spare in
     let q = like_at_start s.table (drop s.cut xs) (take (length xs - cut.result) (drop cut.result xs)) s.second.now a b v.new.work v.new.spare w.result w.new.output w.new.work w.new.spare (w.ensures.value, (w.ensures.output_after, (w.ensures.work_after, w.ensures.spare_after))) (rest_of xs cut.result ∙ cut.ensures.text_value_2) (v.auto.work ∙ u.auto.work) (v.auto.spare ∙ u.auto.spare) in
     let e = u.ensures in
-    record { whole_value = e.value; whole_after = e.output_after; first_value = p.0; first_after = p.1.0; second_value = q.0; second_after = q.1.0; work_after = rw (q.1.1.0, p.1.1.0, e.work_after); spare_after = rw (q.1.1.1, p.1.1.1, e.spare_after); joins = joins s.table xs s.cut s.whole.now s.first.now s.second.now a b _ _ _ _ e.value e.output_after p.0 p.1.0 q.0 q.1.0 }
+    record {
+      whole_value = e.value;
+      whole_after = e.output_after;
+      first_value = p.0;
+      first_after = p.1.0;
+      second_value = q.0;
+      second_after = q.1.0;
+      work_after = rw (q.1.1.0, p.1.1.0, e.work_after);
+      spare_after = rw (q.1.1.1, p.1.1.1, e.spare_after);
+      joins = joins s.table xs s.cut s.whole.now s.first.now s.second.now a b _ _ _ _ e.value e.output_after p.0 p.1.0 q.0 q.1.0;
+    }

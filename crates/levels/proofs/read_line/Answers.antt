@@ -44,12 +44,12 @@ acted : (c : goal.In-Action) →
     (ahead action_text all_actions rest ≡ some action) × (c.in-Action.n ≡ length (action_text action))
 acted c =
     let behind : c.action_ahead-a.result ≡ action_ahead (drop (length (level_text c.in-Level.level)) c.args.text.now) = let levelled : let xs = c.args.text.now in
-        let level = c.in-Level.level in
-        (ahead level_text all_levels xs ≡ some level) × (c.in-Level.end ≡ length (level_text level)) = level_found_lem _ _ _ (sym c.level_ahead-l.ensures ∙ c.in-Level.is) in
-        let xs = c.args.text.now in
-        let end = c.in-Level.end in
-        let h : c.action_ahead-a.result ≡ action_ahead (take (length xs - end) (drop end xs)) = c.action_ahead-a.ensures in
-        rw (rest_of, levelled.1) at h in
+    let level = c.in-Level.level in
+    (ahead level_text all_levels xs ≡ some level) × (c.in-Level.end ≡ length (level_text level)) = level_found_lem _ _ _ (sym c.level_ahead-l.ensures ∙ c.in-Level.is) in
+    let xs = c.args.text.now in
+    let end = c.in-Level.end in
+    let h : c.action_ahead-a.result ≡ action_ahead (take (length xs - end) (drop end xs)) = c.action_ahead-a.ensures in
+    rw (rest_of, levelled.1) at h in
     action_found_lem _ _ _ (sym behind ∙ c.in-Action.is)
 
 size : (c : goal.In-Action) →
@@ -67,7 +67,8 @@ pub slice_bounds-action_ahead-count : goal.slice_bounds-action_ahead-count
 slice_bounds-action_ahead-count c = within c
 
 pub slice_bounds-action_ahead-start : goal.slice_bounds-action_ahead-start
-slice_bounds-action_ahead-start c = let h = within c in search rules
+slice_bounds-action_ahead-start c =
+    let h = within c in search rules
 
 pub returns-in_default-a : goal.returns-in_default-a
 returns-in_default-a c =

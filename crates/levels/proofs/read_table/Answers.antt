@@ -18,9 +18,9 @@ use Rattle.levels.proofs.read_table.Goals as goal
 use Rattle.levels.proofs.read_table.Goals.{After-read_line-line, In-Line, After-given_action-before}
 
 -- the line in front at the loop's offset
-ahead-read : (c : goal.After-read_line-line) →
+ahead_read : (c : goal.After-read_line-line) →
     c.read_line-line.result ≡ line_ahead (drop c.loop-at.at c.args.table.now)
-ahead-read c =
+ahead_read c =
     let xs = c.args.table.now in
     let at = c.loop-at.at in
     let h : c.read_line-line.result ≡ line_ahead (take (length xs - at) (drop at xs)) = c.read_line-line.ensures in
@@ -31,11 +31,11 @@ lined : (c : goal.In-Line) →
     let e = entry c.in-Line.level c.in-Line.action in
     (ahead line_text all_entries (drop c.loop-at.at c.args.table.now) ≡ some e) × (c.in-Line.end ≡ length (line_text e))
 lined c =
-    let ahead-read : c.read_line-line.result ≡ line_ahead (drop c.loop-at.at c.args.table.now) = let xs = c.args.table.now in
-        let at = c.loop-at.at in
-        let h : c.read_line-line.result ≡ line_ahead (take (length xs - at) (drop at xs)) = c.read_line-line.ensures in
-        rw rest_of at h in
-    line_found_lem _ _ _ _ (sym ahead-read ∙ c.in-Line.is)
+    let ahead_read : c.read_line-line.result ≡ line_ahead (drop c.loop-at.at c.args.table.now) = let xs = c.args.table.now in
+    let at = c.loop-at.at in
+    let h : c.read_line-line.result ≡ line_ahead (take (length xs - at) (drop at xs)) = c.read_line-line.ensures in
+    rw rest_of at h in
+    line_found_lem _ _ _ _ (sym ahead_read ∙ c.in-Line.is)
 
 -- the action that its level has by then
 had : (c : goal.After-given_action-before) →
@@ -56,7 +56,7 @@ loop-at-init c = ([], omega arith, c.none_given-g.ensures, says_start c.args.tab
 
 pub returns-in_default : goal.returns-in_default
 returns-in_default c =
-    let malformed = line_missing _ (sym (ahead-read (goal.at.returns-in_default c).After-read_line-line) ∙ c.in_default.is) in
+    let malformed = line_missing _ (sym (ahead_read (goal.at.returns-in_default c).After-read_line-line) ∙ c.in_default.is) in
     sym (c.loop-at.invariant.3 ∙ says_malformed _ c.loop-at.invariant.0 _ c.loop-at-test.true malformed)
 
 pub returns-in_default-before : goal.returns-in_default-before
@@ -65,7 +65,8 @@ returns-in_default-before c =
     sym (c.loop-at.invariant.3 ∙ says_repeated _ c.loop-at.invariant.0 _ _ (lined (goal.at.returns-in_default-before c).In-Line).0 _ action)
 
 pub overflow_add-at : goal.overflow_add-at
-overflow_add-at c = let h = within (goal.at.overflow_add-at c).In-Line in omega arith
+overflow_add-at c =
+    let h = within (goal.at.overflow_add-at c).In-Line in omega arith
 
 pub loop-at-smaller : goal.loop-at-smaller
 loop-at-smaller c =

@@ -4,7 +4,6 @@
 use native.Mathlib.Omega.{arith}
 use borrow.Author.Rules.{rules}
 use mathlib.Core.Path.{sym, ◌∙◌}
-use Prim.Native.Nat.{◌-◌}
 use Rattle.spec.specs.Map.{lives}
 use Rattle.spec.specs.Raise.{close_len}
 use Rattle.messages.proofs.MessageLaws.{later_none, close_pair, close_here, close_on, close_last, close_not, close_none}

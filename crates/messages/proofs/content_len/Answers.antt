@@ -2,7 +2,6 @@
 -- has passed and the content of the rest. `turn` says what a step of the cursor takes. Assumes nothing.
 use native.Mathlib.Omega.{arith}
 use mathlib.Core.Path.{sym, ◌∙◌}
-use Prim.Native.Nat.{◌-◌}
 use Rattle.spans.proofs.StepLaws.{Stepped, step_taken, step_done}
 use Rattle.messages.proofs.ContentLaws.{content_on, content_stops, content_over}
 use Rattle.messages.proofs.content_len.Goals as goal

@@ -10,8 +10,16 @@ use Rattle.messages.proofs.level_at.Goals as goal
 
 pub returns-then-starts_ignoring_case : goal.returns-then-starts_ignoring_case
 returns-then-starts_ignoring_case c =
-    let first = sym c.starts_ignoring_case.ensures ∙ c.if-starts_ignoring_case.true in record { value = (λ t e. ap level_found (sym (level_first t _ e first))); result_in_bounds = prefix_by_len upper (ascii "EXCEPTION") c.args.rest.now first }
+    let first = sym c.starts_ignoring_case.ensures ∙ c.if-starts_ignoring_case.true in
+    record {
+      value = (λ t e. ap level_found (sym (level_first t _ e first)));
+      result_in_bounds = prefix_by_len upper (ascii "EXCEPTION") c.args.rest.now first;
+    }
 
 pub returns-else-starts_ignoring_case : goal.returns-else-starts_ignoring_case
 returns-else-starts_ignoring_case c =
-    let rest = sym c.starts_ignoring_case.ensures ∙ c.if-starts_ignoring_case.false in record { value = (λ t e. c.other_level_at.ensures.value t e ∙ ap level_found (sym (level_rest t _ e rest))); result_in_bounds = omega (arith, c.other_level_at.ensures.result_value) }
+    let rest = sym c.starts_ignoring_case.ensures ∙ c.if-starts_ignoring_case.false in
+    record {
+      value = (λ t e. c.other_level_at.ensures.value t e ∙ ap level_found (sym (level_rest t _ e rest)));
+      result_in_bounds = omega (arith, c.other_level_at.ensures.result_value);
+    }

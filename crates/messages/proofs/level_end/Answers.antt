@@ -11,10 +11,19 @@ pub returns-then-is_exception : goal.returns-then-is_exception
 returns-then-is_exception c =
     let e : is_exception c.args.level ≡ true = sym c.is_exception.ensures ∙ c.if-is_exception.true in
     let h = c.requires in
-    record { value = sym (exception_ends c.args.level c.args.rest.now e); lower_bound = omega arith; upper_bound = omega (arith, rw e at h) }
+    record {
+      value = sym (exception_ends c.args.level c.args.rest.now e);
+      lower_bound = omega arith;
+      upper_bound = omega (arith, rw e at h);
+    }
 
 pub returns-else-is_exception : goal.returns-else-is_exception
 unfolding ends_level
 returns-else-is_exception c =
     let e : is_exception c.args.level ≡ false = sym c.is_exception.ensures ∙ c.if-is_exception.false in
-    let h = c.requires in record { value = c.run_end.ensures.value ∙ sym (other_ends c.args.level c.args.rest.now e); lower_bound = omega (arith, c.run_end.ensures.value); upper_bound = c.run_end.ensures.upper_bound (omega (arith, rw e at h)) }
+    let h = c.requires in
+    record {
+      value = c.run_end.ensures.value ∙ sym (other_ends c.args.level c.args.rest.now e);
+      lower_bound = omega (arith, c.run_end.ensures.value);
+      upper_bound = c.run_end.ensures.upper_bound (omega (arith, rw e at h));
+    }

@@ -32,7 +32,10 @@ shorter c = omega (arith, ap length c.trim-text.ensures, trimmed_le c.args.conte
 
 pub using_message-requires : goal.using_message-requires
 using_message-requires c =
-    record { in_bounds = prefix_by_len upper (ascii "USING") c.trim-text.result.now (sym c.starts_ignoring_case.ensures ∙ c.if-starts_ignoring_case.true); content_len_bound = omega (arith, shorter (goal.at.using_message-requires c).After-trim-text) }
+    record {
+      in_bounds = prefix_by_len upper (ascii "USING") c.trim-text.result.now (sym c.starts_ignoring_case.ensures ∙ c.if-starts_ignoring_case.true);
+      content_len_bound = omega (arith, shorter (goal.at.using_message-requires c).After-trim-text);
+    }
 
 pub extract_first_string_literal-requires : goal.extract_first_string_literal-requires
 extract_first_string_literal-requires c = omega (arith, shorter (goal.at.extract_first_string_literal-requires c).After-trim-text)
@@ -41,9 +44,13 @@ pub returns-then-starts_ignoring_case : goal.returns-then-starts_ignoring_case
 unfolding raised_as action_fate
 returns-then-starts_ignoring_case c =
     let xs = c.args.content.now in
-    let clause = sym c.starts_ignoring_case.ensures ∙ c.if-starts_ignoring_case.true in record { content_value = (λ w.
+    let clause = sym c.starts_ignoring_case.ensures ∙ c.if-starts_ignoring_case.true in
+    record {
+      content_value = (λ w.
           raise_is w (trim (lives xs)) c.trim-text.result.now (content (goal.at.returns-then-starts_ignoring_case c).After-trim-text)
-          ∙ rw clause (c.using_message.ensures.t_value w (trim (lives xs)) (content (goal.at.returns-then-starts_ignoring_case c).After-trim-text))); result_in_bounds = omega (arith, c.using_message.ensures.result_in_bounds, shorter (goal.at.returns-then-starts_ignoring_case c).After-trim-text) }
+          ∙ rw clause (c.using_message.ensures.t_value w (trim (lives xs)) (content (goal.at.returns-then-starts_ignoring_case c).After-trim-text)));
+      result_in_bounds = omega (arith, c.using_message.ensures.result_in_bounds, shorter (goal.at.returns-then-starts_ignoring_case c).After-trim-text);
+    }
 
 pub returns-else-starts_ignoring_case : goal.returns-else-starts_ignoring_case
 unfolding raised_as action_fate
@@ -52,4 +59,8 @@ returns-else-starts_ignoring_case c =
     let ys : List ℕ = c.trim-text.result.now in
     let m : List ℕ = c.extract_first_string_literal.result.now in
     let plain = sym c.starts_ignoring_case.ensures ∙ c.if-starts_ignoring_case.false in
-    let found = c.extract_first_string_literal.ensures (lives ys) (bytes_lives ys) ∙ message_is (lives ys) ys (bytes_lives ys) in record { content_value = (λ w. raise_is w (trim (lives xs)) ys (content (goal.at.returns-else-starts_ignoring_case c).After-trim-text) ∙ rw plain (ap (λ (l : List ℕ). accepted (raising w l)) (sym found))); result_in_bounds = omega (arith, ap length found, message_le ys, shorter (goal.at.returns-else-starts_ignoring_case c).After-trim-text) }
+    let found = c.extract_first_string_literal.ensures (lives ys) (bytes_lives ys) ∙ message_is (lives ys) ys (bytes_lives ys) in
+    record {
+      content_value = (λ w. raise_is w (trim (lives xs)) ys (content (goal.at.returns-else-starts_ignoring_case c).After-trim-text) ∙ rw plain (ap (λ (l : List ℕ). accepted (raising w l)) (sym found)));
+      result_in_bounds = omega (arith, ap length found, message_le ys, shorter (goal.at.returns-else-starts_ignoring_case c).After-trim-text);
+    }

@@ -22,22 +22,34 @@ told c t e = c.level_at-level.ensures.value (drop 6 t) (bytes_drop 6 t ∙ (ap (
 pub returns-then-rest-lt6 : goal.returns-then-rest-lt6
 returns-then-rest-lt6 c =
     let xs = c.args.rest.now in
-    record { reads = (λ t e. rw (level_none t (omega (arith, bytes_length t, ap length e))) (reads_none t xs e _ (length xs) (omega arith))); fate_within = tt }
+    record {
+      reads = (λ t e. rw (level_none t (omega (arith, bytes_length t, ap length e))) (reads_none t xs e _ (length xs) (omega arith)));
+      fate_within = tt;
+    }
 
 pub read_statement-requires : goal.read_statement-requires
 read_statement-requires c =
     let xs = c.args.rest.now in
     let h : level_reach c.level_at-level.result ≤ length (take (length xs - 6) (drop 6 xs)) = c.level_at-level.ensures.result_in_bounds in
-    record { level_in_bounds = omega (arith, length-drop 6 xs, rw (rest_of xs 6, c.in-At.is) at h); rest_len_bound = omega arith }
+    record {
+      level_in_bounds = omega (arith, length-drop 6 xs, rw (rest_of xs 6, c.in-At.is) at h);
+      rest_len_bound = omega arith;
+    }
 
 pub returns-in-At : goal.returns-in-At
 returns-in-At c =
-    record { reads = (λ t e.
+    record {
+      reads = (λ t e.
           rw (found_level (level_in level_words (drop 6 t)) _ (sym c.in-At.is ∙ told (goal.at.returns-in-At c).After-level_at-level t e))
-          (c.read_statement.ensures.reads _ t e (sym c.action_of.ensures))); fate_within = c.read_statement.ensures.fate_within }
+          (c.read_statement.ensures.reads _ t e (sym c.action_of.ensures)));
+      fate_within = c.read_statement.ensures.fate_within;
+    }
 
 pub returns-in-Nothing : goal.returns-in-Nothing
 returns-in-Nothing c =
-    record { reads = (λ t e.
+    record {
+      reads = (λ t e.
           rw (found_nothing (level_in level_words (drop 6 t)) (sym c.in-Nothing.is ∙ told (goal.at.returns-in-Nothing c).After-level_at-level t e))
-          (reads_none t c.args.rest.now e _ 6 (omega arith))); fate_within = tt }
+          (reads_none t c.args.rest.now e _ 6 (omega arith)));
+      fate_within = tt;
+    }

@@ -4,10 +4,10 @@ use native.Mathlib.Omega.{arith}
 use mathlib.Core.Path.{◌≡◌, refl, sym, ap, ◌∙◌}
 use mathlib.Core.Bool.{true, cond}
 use mathlib.Core.List.{List}
-use Prim.Native.Nat.{ℕ, ◌≤◌, ◌<◌, ◌+◌, ◌-◌}
+use Prim.Native.Nat.{◌≤◌, ◌<◌, ◌+◌, ◌-◌}
 use lib.Dec.{leb}
 use lib.ListN.{length, take, drop, length-drop}
-use borrow.Author.Tests.{eq-eqb, ne_eqb, le-leb, lt-leb, not-false}
+use borrow.Author.Tests.{eq-eqb, ne_eqb, le-leb, lt-leb}
 use Rattle.spec.proofs.AheadLaws.{rest_of}
 use Rattle.spec.proofs.BytesLaws.{bytes_lives}
 use Rattle.spec.proofs.SpanLaws.{seen}
@@ -32,17 +32,17 @@ named c =
     rw rest_of at h
 
 -- it does
-message-named : (c : goal.Else-not-starts_ignoring_case) → prefix_by upper (ascii "MESSAGE") (drop c.run_end-a.result c.args.content.now) ≡ true
-message-named c =
+message_named : (c : goal.Else-not-starts_ignoring_case) → prefix_by upper (ascii "MESSAGE") (drop c.run_end-a.result c.args.content.now) ≡ true
+message_named c =
     let named : c.starts_ignoring_case.result ≡ prefix_by upper (ascii "MESSAGE") (drop c.run_end-a.result c.args.content.now) = let xs = c.args.content.now in
-        let a = c.run_end-a.result in
-        let h : c.starts_ignoring_case.result ≡ prefix_by upper (ascii "MESSAGE") (take (length xs - a) (drop a xs)) = c.starts_ignoring_case.ensures in
-        rw rest_of at h in
+    let a = c.run_end-a.result in
+    let h : c.starts_ignoring_case.result ≡ prefix_by upper (ascii "MESSAGE") (take (length xs - a) (drop a xs)) = c.starts_ignoring_case.ensures in
+    rw rest_of at h in
     sym named ∙ c.if-not-starts_ignoring_case.false
 
 -- it lies within the content
-quoted-in : (c : goal.Else-byte_at-ne39) → c.run_end-from.result < length c.args.content.now
-quoted-in c = seen c.args.content.now c.run_end-from.result 38 (sym c.byte_at-2.ensures ∙ c.if-byte_at-ne39.false)
+quoted_in : (c : goal.Else-byte_at-ne39) → c.run_end-from.result < length c.args.content.now
+quoted_in c = seen c.args.content.now c.run_end-from.result 38 (sym c.byte_at-2.ensures ∙ c.if-byte_at-ne39.false)
 
 -- the message that was found
 found : (c : goal.After-extract_first_string_literal-message)
@@ -57,10 +57,10 @@ found c =
 found_in : (c : goal.After-extract_first_string_literal-message)
     → c.run_end-from.result + length c.extract_first_string_literal-message.result.now ≤ length c.args.content.now
 found_in c =
-    let quoted-in : c.run_end-from.result < length c.args.content.now = seen c.args.content.now c.run_end-from.result 38 (sym c.byte_at-2.ensures ∙ c.if-byte_at-ne39.false) in
+    let quoted_in : c.run_end-from.result < length c.args.content.now = seen c.args.content.now c.run_end-from.result 38 (sym c.byte_at-2.ensures ∙ c.if-byte_at-ne39.false) in
     let xs = c.args.content.now in
     let from = c.run_end-from.result in
-    omega (arith, ap length (found c), message_le (drop from xs), length-drop from xs, quoted-in)
+    omega (arith, ap length (found c), message_le (drop from xs), length-drop from xs, quoted_in)
 
 -- what it comes to
 judged : (c : goal.After-run_end) (w : RaiseType) (t : List Marked) → bytes t ≡ c.args.content.now
@@ -69,17 +69,17 @@ judged : (c : goal.After-run_end) (w : RaiseType) (t : List Marked) → bytes t 
     ≡ cond (leb (length xs) c.run_end.result) (accepted (raising w c.extract_first_string_literal-message.result.now)) (refused (using_clause xs))
 judged c w t e =
     let found : c.extract_first_string_literal-message.result.now ≡ message_in (drop c.run_end-from.result c.args.content.now) = let xs = c.args.content.now in
-        let from = c.run_end-from.result in
-        let ys = drop from xs in
-        c.extract_first_string_literal-message.ensures (lives ys) (bytes_lives ys ∙ sym (rest_of xs from)) ∙ message_is (lives ys) ys (bytes_lives ys) in
-    let message-named : prefix_by upper (ascii "MESSAGE") (drop c.run_end-a.result c.args.content.now) ≡ true = let named : c.starts_ignoring_case.result ≡ prefix_by upper (ascii "MESSAGE") (drop c.run_end-a.result c.args.content.now) = let xs = c.args.content.now in
-            let a = c.run_end-a.result in
-            let h : c.starts_ignoring_case.result ≡ prefix_by upper (ascii "MESSAGE") (take (length xs - a) (drop a xs)) = c.starts_ignoring_case.ensures in
-            rw rest_of at h in
-        sym named ∙ c.if-not-starts_ignoring_case.false in
+    let from = c.run_end-from.result in
+    let ys = drop from xs in
+    c.extract_first_string_literal-message.ensures (lives ys) (bytes_lives ys ∙ sym (rest_of xs from)) ∙ message_is (lives ys) ys (bytes_lives ys) in
+    let message_named : prefix_by upper (ascii "MESSAGE") (drop c.run_end-a.result c.args.content.now) ≡ true = let named : c.starts_ignoring_case.result ≡ prefix_by upper (ascii "MESSAGE") (drop c.run_end-a.result c.args.content.now) = let xs = c.args.content.now in
+    let a = c.run_end-a.result in
+    let h : c.starts_ignoring_case.result ≡ prefix_by upper (ascii "MESSAGE") (take (length xs - a) (drop a xs)) = c.starts_ignoring_case.ensures in
+    rw rest_of at h in
+    sym named ∙ c.if-not-starts_ignoring_case.false in
     rw c.run_end.ensures.value
     (at_quote w t c.args.content.now e _ _ _ _
-    c.run_end-a.ensures.value c.run_end-b.ensures.value c.run_end-from.ensures.value found message-named
+    c.run_end-a.ensures.value c.run_end-b.ensures.value c.run_end-from.ensures.value found message_named
     (eq-eqb _ _ (sym c.byte_at.ensures ∙ c.if-byte_at-ne61.false)) (eq-eqb _ _ (sym c.byte_at-2.ensures ∙ c.if-byte_at-ne39.false)))
 
 pub slice_bounds-starts_ignoring_case-count : goal.slice_bounds-starts_ignoring_case-count
@@ -91,7 +91,10 @@ slice_bounds-starts_ignoring_case-start c = c.run_end-a.ensures.upper_bound (ome
 pub returns-then-not-starts_ignoring_case : goal.returns-then-not-starts_ignoring_case
 returns-then-not-starts_ignoring_case c =
     let xs = c.args.content.now in
-    record { t_value = λ w t e. no_message w t xs e _ _ _ _ c.run_end-a.ensures.value refl refl refl (sym (named (goal.at.returns-then-not-starts_ignoring_case c).After-starts_ignoring_case) ∙ c.if-not-starts_ignoring_case.true); result_in_bounds = omega arith }
+    record {
+      t_value = λ w t e. no_message w t xs e _ _ _ _ c.run_end-a.ensures.value refl refl refl (sym (named (goal.at.returns-then-not-starts_ignoring_case c).After-starts_ignoring_case) ∙ c.if-not-starts_ignoring_case.true);
+      result_in_bounds = omega arith;
+    }
 
 pub overflow_add-a : goal.overflow_add-a
 overflow_add-a c =
@@ -99,7 +102,11 @@ overflow_add-a c =
 
 pub returns-then-byte_at-ne61 : goal.returns-then-byte_at-ne61
 returns-then-byte_at-ne61 c =
-    let xs = c.args.content.now in record { t_value = (λ w t e. no_equals w t xs e _ _ _ _ c.run_end-a.ensures.value c.run_end-b.ensures.value refl refl (message-named (goal.at.returns-then-byte_at-ne61 c).Else-not-starts_ignoring_case) (ne_eqb _ _ (λ q. c.if-byte_at-ne61.true (c.byte_at.ensures ∙ q)))); result_in_bounds = omega arith }
+    let xs = c.args.content.now in
+    record {
+      t_value = (λ w t e. no_equals w t xs e _ _ _ _ c.run_end-a.ensures.value c.run_end-b.ensures.value refl refl (message_named (goal.at.returns-then-byte_at-ne61 c).Else-not-starts_ignoring_case) (ne_eqb _ _ (λ q. c.if-byte_at-ne61.true (c.byte_at.ensures ∙ q))));
+      result_in_bounds = omega arith;
+    }
 
 pub overflow_add-b : goal.overflow_add-b
 overflow_add-b c =
@@ -108,19 +115,31 @@ overflow_add-b c =
 
 pub returns-then-byte_at-ne39 : goal.returns-then-byte_at-ne39
 returns-then-byte_at-ne39 c =
-    let xs = c.args.content.now in record { t_value = (λ w t e. no_quote w t xs e _ _ _ _ c.run_end-a.ensures.value c.run_end-b.ensures.value c.run_end-from.ensures.value refl (message-named (goal.at.returns-then-byte_at-ne39 c).Else-not-starts_ignoring_case) (eq-eqb _ _ (sym c.byte_at.ensures ∙ c.if-byte_at-ne61.false)) (ne_eqb _ _ (λ q. c.if-byte_at-ne39.true (c.byte_at-2.ensures ∙ q)))); result_in_bounds = omega arith }
+    let xs = c.args.content.now in
+    record {
+      t_value = (λ w t e. no_quote w t xs e _ _ _ _ c.run_end-a.ensures.value c.run_end-b.ensures.value c.run_end-from.ensures.value refl (message_named (goal.at.returns-then-byte_at-ne39 c).Else-not-starts_ignoring_case) (eq-eqb _ _ (sym c.byte_at.ensures ∙ c.if-byte_at-ne61.false)) (ne_eqb _ _ (λ q. c.if-byte_at-ne39.true (c.byte_at-2.ensures ∙ q))));
+      result_in_bounds = omega arith;
+    }
 
 pub slice_bounds-extract_first_string_literal-count : goal.slice_bounds-extract_first_string_literal-count
-slice_bounds-extract_first_string_literal-count c = omega (arith, quoted-in c)
+slice_bounds-extract_first_string_literal-count c = omega (arith, quoted_in c)
 
 pub slice_bounds-extract_first_string_literal-start : goal.slice_bounds-extract_first_string_literal-start
-slice_bounds-extract_first_string_literal-start c = omega (arith, quoted-in c)
+slice_bounds-extract_first_string_literal-start c = omega (arith, quoted_in c)
 
 pub overflow_add-from : goal.overflow_add-from
 overflow_add-from c = omega (arith, found_in c)
 
 pub returns-then-run_end-content : goal.returns-then-run_end-content
-returns-then-run_end-content c = record { t_value = (λ w t e. judged (goal.at.returns-then-run_end-content c).After-run_end w t e ∙ rw (lt-leb _ _ c.if-run_end-content.true) refl); result_in_bounds = omega arith }
+returns-then-run_end-content c =
+    record {
+      t_value = (λ w t e. judged (goal.at.returns-then-run_end-content c).After-run_end w t e ∙ rw (lt-leb _ _ c.if-run_end-content.true) refl);
+      result_in_bounds = omega arith;
+    }
 
 pub returns : goal.returns
-returns c = record { t_value = (λ w t e. judged (goal.at.returns c).After-run_end w t e ∙ rw (le-leb _ _ c.if-run_end-content.false) refl); result_in_bounds = omega (arith, found_in (goal.at.returns c).After-extract_first_string_literal-message) }
+returns c =
+    record {
+      t_value = (λ w t e. judged (goal.at.returns c).After-run_end w t e ∙ rw (le-leb _ _ c.if-run_end-content.false) refl);
+      result_in_bounds = omega (arith, found_in (goal.at.returns c).After-extract_first_string_literal-message);
+    }

@@ -1,7 +1,6 @@
 -- `output::put_all` meets its contract. The loop's invariant says that o is n + j, and that storing the rest of src
 -- from o on gives what storing all of src from n on would have given. Assumes nothing.
 use mathlib.Core.Path.{refl, sym, ◌∙◌}
-use Prim.Native.Nat.{◌-◌}
 use native.Mathlib.Omega.{arith}
 use Rattle.output.proofs.StoreLaws.{store_step, store_end}
 use Rattle.output.proofs.put_all.Goals as goal
@@ -25,4 +24,7 @@ shape_of-out c = c.loop-j.invariant.1
 pub returns : goal.returns
 returns c =
     let l = c.loop-j in
-    record { value = omega arith; out_after = sym (l.invariant.3 ∙ store_end l.out c.args.src.now l.o l.j (omega arith)) }
+    record {
+      value = omega arith;
+      out_after = sym (l.invariant.3 ∙ store_end l.out c.args.src.now l.o l.j (omega arith));
+    }

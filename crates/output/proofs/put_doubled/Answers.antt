@@ -3,7 +3,7 @@
 -- quote and at another byte. Assumes nothing.
 use mathlib.Core.Path.{refl, sym, ap, ◌∙◌}
 use mathlib.Core.List.{List}
-use Prim.Native.Nat.{ℕ, ◌+◌, ◌-◌}
+use Prim.Native.Nat.{ℕ, ◌+◌}
 use native.Mathlib.Omega.{arith}
 use lib.ListN.{drop, get_or}
 use lib.Seq.{sets}
@@ -51,4 +51,7 @@ pub returns : goal.returns
 returns c =
     let l = c.loop-j in
     let e = at_last c.args.src.now l.j (omega arith) in
-    record { value = sym (l.invariant.3 ∙ rw e (omega arith)); out_after = sym (l.invariant.4 ∙ ap (λ (r : List ℕ). sets l.out l.o r) e) }
+    record {
+      value = sym (l.invariant.3 ∙ rw e (omega arith));
+      out_after = sym (l.invariant.4 ∙ ap (λ (r : List ℕ). sets l.out l.o r) e);
+    }

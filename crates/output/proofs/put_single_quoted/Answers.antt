@@ -14,4 +14,8 @@ returns c =
     let s = c.args in
     let u = c.put-p in
     let v = c.put_doubled-q in
-    let w = c.put in record { value = omega (arith, v.ensures.value, u.ensures.value, w.ensures.value, long_quoted s.src.now); out_after = stored_quoted s.out.now u.new.out v.new.out w.new.out s.src.now s.n u.result v.result u.ensures.out_after u.ensures.value v.ensures.out_after v.ensures.value w.ensures.out_after }
+    let w = c.put in
+    record {
+      value = omega (arith, v.ensures.value, u.ensures.value, w.ensures.value, long_quoted s.src.now);
+      out_after = stored_quoted s.out.now u.new.out v.new.out w.new.out s.src.now s.n u.result v.result u.ensures.out_after u.ensures.value v.ensures.out_after v.ensures.value w.ensures.out_after;
+    }

@@ -15,7 +15,11 @@ count c =
 
 pub copy_front-requires : goal.copy_front-requires
 copy_front-requires c =
-    record { out_len = c.requires.out_len; from_len = c.requires.from_len; k_bound = rw (count c) c.requires.p_bound }
+    record {
+      out_len = c.requires.out_len;
+      from_len = c.requires.from_len;
+      k_bound = rw (count c) c.requires.p_bound;
+    }
 
 pub returns : goal.returns
 returns c =

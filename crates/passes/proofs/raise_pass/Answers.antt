@@ -18,7 +18,11 @@ pub transform_raise_statements-requires : goal.transform_raise_statements-requir
 transform_raise_statements-requires c =
     let p = c.requires in
     let n = length-take-le (length c.args.text.now) c.map_text.new.map (omega (arith, c.map_text.auto.map)) in
-    record { text_len_bound = p.text_len_bound; text_in_bounds = omega (arith, n); text_in_bounds_2 = omega (arith, p.text_len_bound, p.out_len) }
+    record {
+      text_len_bound = p.text_len_bound;
+      text_in_bounds = omega (arith, n);
+      text_in_bounds_2 = omega (arith, p.text_len_bound, p.out_len);
+    }
 
 pub returns : goal.returns
 unfolding raise_pass

@@ -5,7 +5,6 @@ use Rattle.spec.specs.Answers.{body_result, call_numbers}
 use Rattle.spec.specs.Raise.{action_of}
 use Rattle.spec.specs.Body.{rewriting}
 use mathlib.Core.List.{[]}
-use lib.ListN.{length}
 use lib.Seq.{length-take-le}
 use mathlib.Core.Path.{refl, sym, ap, ◌∙◌}
 use Rattle.passes.proofs.run_body.Goals as goal
@@ -24,7 +23,12 @@ pub run_passes-r-requires : goal.run_passes-r-requires
 run_passes-r-requires c =
     let s = c.args in
     let p = c.requires in
-    record { text_len_bound = p.text_len_bound; output_len = length-take-le s.size s.output.now p.size_in_bounds ∙ p.size_value; work_len = length-take-le s.size s.work.now p.size_in_bounds_2 ∙ p.size_value; spare_len = length-take-le s.size s.spare.now p.size_in_bounds_3 ∙ p.size_value }
+    record {
+      text_len_bound = p.text_len_bound;
+      output_len = length-take-le s.size s.output.now p.size_in_bounds ∙ p.size_value;
+      work_len = length-take-le s.size s.work.now p.size_in_bounds_2 ∙ p.size_value;
+      spare_len = length-take-le s.size s.spare.now p.size_in_bounds_3 ∙ p.size_value;
+    }
 
 pub returns : goal.returns
 unfolding body_result
@@ -32,4 +36,10 @@ returns c =
     let s = c.args in
     let p = c.requires in
     let run = c.run_passes-r in
-    let n = c.output_length-n.ensures ∙ (ap (λ r. (call_numbers r).length) run.ensures.answered ∙ answer_length [] (rewriting (action_of s.actions) s.text.now)) in record { value = run.ensures.answered; output_after = c.fill.ensures ∙ zeros_behind_part s.size c.output_length-n.result run.new.output s.output.now (body_result s.text.now s.actions).output (run.auto.output ∙ length-take-le s.size s.output.now p.size_in_bounds) n run.ensures.held; work_after = c.fill-2.ensures ∙ zeros_behind_part s.size 0 run.new.work s.work.now [] (run.auto.work ∙ length-take-le s.size s.work.now p.size_in_bounds_2) refl refl; spare_after = c.fill-3.ensures ∙ zeros_behind_part s.size 0 run.new.spare s.spare.now [] (run.auto.spare ∙ length-take-le s.size s.spare.now p.size_in_bounds_3) refl refl }
+    let n = c.output_length-n.ensures ∙ (ap (λ r. (call_numbers r).length) run.ensures.answered ∙ answer_length [] (rewriting (action_of s.actions) s.text.now)) in
+    record {
+      value = run.ensures.answered;
+      output_after = c.fill.ensures ∙ zeros_behind_part s.size c.output_length-n.result run.new.output s.output.now (body_result s.text.now s.actions).output (run.auto.output ∙ length-take-le s.size s.output.now p.size_in_bounds) n run.ensures.held;
+      work_after = c.fill-2.ensures ∙ zeros_behind_part s.size 0 run.new.work s.work.now [] (run.auto.work ∙ length-take-le s.size s.work.now p.size_in_bounds_2) refl refl;
+      spare_after = c.fill-3.ensures ∙ zeros_behind_part s.size 0 run.new.spare s.spare.now [] (run.auto.spare ∙ length-take-le s.size s.spare.now p.size_in_bounds_3) refl refl;
+    }

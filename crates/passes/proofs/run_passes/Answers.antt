@@ -3,17 +3,15 @@
 -- 3 and 5 left, and of pass 4, which refuses by 6 alone, nothing.
 -- Assumes nothing.
 use mathlib.Core.Path.{◌≡◌, sym, ap, ◌∙◌}
-use mathlib.Core.List.{List, []}
-use Prim.Native.Nat.{ℕ, ◌≤◌}
+use mathlib.Core.List.{[]}
+use Prim.Native.Nat.{◌≤◌}
 use native.Mathlib.Omega.{arith}
-use lib.ListN.{length, take}
+use lib.ListN.{take}
 use lib.Seq.{length-take-le}
 use Rattle.spec.specs.Map.{marked_text, bytes}
 use Rattle.spec.specs.Requote.{requoted}
 use Rattle.spec.specs.Elsif.{elsif}
 use Rattle.spec.specs.Raise.{action_of}
-use Rattle.spec.specs.declared.Level.{Level}
-use Rattle.spec.specs.declared.Action.{Action}
 use Rattle.spec.specs.Body.{limited, assign_pass, select_pass, raise_pass}
 use Rattle.spec.specs.Answers.{result_of}
 use Rattle.output.specs.declared.Pass.TheVariants.{Done}
@@ -95,11 +93,19 @@ pub assign_pass-assigned-requires : goal.assign_pass-assigned-requires
 assign_pass-assigned-requires c =
     let fits = (spelled_in (goal.at.assign_pass-assigned-requires c).After-elsif_pass-spelled).0 in
     let n = length-take-le c.elsif_pass-spelled.result c.elsif_pass-spelled.new.out (omega (arith, fits)) in
-    record { text_len_bound = omega (arith, fits, n); text_in_bounds = omega (arith, fits, n); out_len = omega arith }
+    record {
+      text_len_bound = omega (arith, fits, n);
+      text_in_bounds = omega (arith, fits, n);
+      out_len = omega arith;
+    }
 
 pub finish-requires : goal.finish-requires
 finish-requires c =
-    record { out_len = omega arith; from_len = omega arith; p_bound = given_fits _ _ _ (assigned_gives (goal.at.finish-requires c).After-assign_pass-assigned) (omega arith) }
+    record {
+      out_len = omega arith;
+      from_len = omega arith;
+      p_bound = given_fits _ _ _ (assigned_gives (goal.at.finish-requires c).After-assign_pass-assigned) (omega arith);
+    }
 
 pub returns-in_default : goal.returns-in_default
 returns-in_default c =
@@ -117,11 +123,19 @@ slice_bounds-select_pass-end-2 c =
 pub select_pass-selected-requires : goal.select_pass-selected-requires
 select_pass-selected-requires c =
     let n = length-take-le c.in-Done.n c.assign_pass-assigned.new.out (omega (arith, assigned_fits (goal.at.select_pass-selected-requires c).In-Done)) in
-    record { text_len_bound = omega (arith, assigned_fits (goal.at.select_pass-selected-requires c).In-Done, n); text_in_bounds = omega (arith, assigned_fits (goal.at.select_pass-selected-requires c).In-Done, n); out_len = omega arith }
+    record {
+      text_len_bound = omega (arith, assigned_fits (goal.at.select_pass-selected-requires c).In-Done, n);
+      text_in_bounds = omega (arith, assigned_fits (goal.at.select_pass-selected-requires c).In-Done, n);
+      out_len = omega arith;
+    }
 
 pub finish-requires-in_default-selected : goal.finish-requires-in_default-selected
 finish-requires-in_default-selected c =
-    record { out_len = omega arith; from_len = omega arith; p_bound = given_fits _ _ _ (selected_gives (goal.at.finish-requires-in_default-selected c).After-select_pass-selected) (omega arith) }
+    record {
+      out_len = omega arith;
+      from_len = omega arith;
+      p_bound = given_fits _ _ _ (selected_gives (goal.at.finish-requires-in_default-selected c).After-select_pass-selected) (omega arith);
+    }
 
 pub returns-in_default-selected : goal.returns-in_default-selected
 returns-in_default-selected c =
@@ -139,11 +153,19 @@ slice_bounds-raise_pass-end-2 c =
 pub raise_pass-raised-requires : goal.raise_pass-raised-requires
 raise_pass-raised-requires c =
     let n = length-take-le c.in-Done-selected.k c.select_pass-selected.new.out (omega (arith, selected_fits (goal.at.raise_pass-raised-requires c).In-Done-selected)) in
-    record { text_len_bound = omega (arith, selected_fits (goal.at.raise_pass-raised-requires c).In-Done-selected, n); text_in_bounds = omega (arith, selected_fits (goal.at.raise_pass-raised-requires c).In-Done-selected, n); out_len = omega arith }
+    record {
+      text_len_bound = omega (arith, selected_fits (goal.at.raise_pass-raised-requires c).In-Done-selected, n);
+      text_in_bounds = omega (arith, selected_fits (goal.at.raise_pass-raised-requires c).In-Done-selected, n);
+      out_len = omega arith;
+    }
 
 pub finish-requires-2 : goal.finish-requires-2
 finish-requires-2 c =
-    record { out_len = omega arith; from_len = (omega arith); p_bound = given_fits _ _ _ (raised_gives (goal.at.finish-requires-2 c).After-raise_pass-raised) (omega arith) }
+    record {
+      out_len = omega arith;
+      from_len = (omega arith);
+      p_bound = given_fits _ _ _ (raised_gives (goal.at.finish-requires-2 c).After-raise_pass-raised) (omega arith);
+    }
 
 pub returns : goal.returns
 returns c =

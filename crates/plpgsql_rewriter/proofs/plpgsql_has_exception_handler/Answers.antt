@@ -5,4 +5,8 @@ use Rattle.plpgsql_rewriter.specs.Four.{four_found}
 use Rattle.plpgsql_rewriter.proofs.plpgsql_has_exception_handler.Goals as goal
 
 pub returns : goal.returns
-returns c = record { map_after = c.has_exception_handler-s.ensures.map_after; answer_after = c.put_found.ensures ∙ ap four_found c.has_exception_handler-s.ensures.value }
+returns c =
+    record {
+      map_after = c.has_exception_handler-s.ensures.map_after;
+      answer_after = c.put_found.ensures ∙ ap four_found c.has_exception_handler-s.ensures.value;
+    }

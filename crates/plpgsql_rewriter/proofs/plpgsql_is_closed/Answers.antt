@@ -5,4 +5,8 @@ use Rattle.plpgsql_rewriter.specs.Four.{four_found}
 use Rattle.plpgsql_rewriter.proofs.plpgsql_is_closed.Goals as goal
 
 pub returns : goal.returns
-returns c = record { map_after = c.is_closed-s.ensures.map_after; answer_after = c.put_found.ensures ∙ ap four_found c.is_closed-s.ensures.value }
+returns c =
+    record {
+      map_after = c.is_closed-s.ensures.map_after;
+      answer_after = c.put_found.ensures ∙ ap four_found c.is_closed-s.ensures.value;
+    }

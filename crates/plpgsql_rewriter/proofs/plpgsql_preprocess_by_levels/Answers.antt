@@ -7,4 +7,11 @@ use Rattle.plpgsql_rewriter.proofs.plpgsql_preprocess_by_levels.Goals as goal
 pub returns : goal.returns
 returns c =
     let e = c.preprocess_by_levels-r.ensures in
-    record { output_after = e.output_after; work_after = e.work_after; spare_after = e.spare_after; declared_after = e.declared_after; records_after = e.records_after; answer_after = c.put_called.ensures ∙ ap four_called e.value }
+    record {
+      output_after = e.output_after;
+      work_after = e.work_after;
+      spare_after = e.spare_after;
+      declared_after = e.declared_after;
+      records_after = e.records_after;
+      answer_after = c.put_called.ensures ∙ ap four_called e.value;
+    }

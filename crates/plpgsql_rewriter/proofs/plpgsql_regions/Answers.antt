@@ -5,4 +5,8 @@ use Rattle.plpgsql_rewriter.specs.Four.{four_filled}
 use Rattle.plpgsql_rewriter.proofs.plpgsql_regions.Goals as goal
 
 pub returns : goal.returns
-returns c = record { map_after = c.regions-f.ensures.map_after; answer_after = c.put_filled.ensures ∙ ap four_filled c.regions-f.ensures.value }
+returns c =
+    record {
+      map_after = c.regions-f.ensures.map_after;
+      answer_after = c.put_filled.ensures ∙ ap four_filled c.regions-f.ensures.value;
+    }

@@ -5,4 +5,8 @@ use Rattle.plpgsql_rewriter.specs.Four.{four_filled}
 use Rattle.plpgsql_rewriter.proofs.plpgsql_requote_dollar_literals.Goals as goal
 
 pub returns : goal.returns
-returns c = record { output_after = c.requote_dollar_literals-f.ensures.output_after; answer_after = c.put_filled.ensures ∙ ap four_filled c.requote_dollar_literals-f.ensures.value }
+returns c =
+    record {
+      output_after = c.requote_dollar_literals-f.ensures.output_after;
+      answer_after = c.put_filled.ensures ∙ ap four_filled c.requote_dollar_literals-f.ensures.value;
+    }

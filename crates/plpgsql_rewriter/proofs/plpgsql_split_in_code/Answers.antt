@@ -5,4 +5,9 @@ use Rattle.plpgsql_rewriter.specs.Four.{four_filled}
 use Rattle.plpgsql_rewriter.proofs.plpgsql_split_in_code.Goals as goal
 
 pub returns : goal.returns
-returns c = record { map_after = c.split_in_code-f.ensures.map_after; starts_after = c.split_in_code-f.ensures.starts_after; answer_after = c.put_filled.ensures ∙ ap four_filled c.split_in_code-f.ensures.value }
+returns c =
+    record {
+      map_after = c.split_in_code-f.ensures.map_after;
+      starts_after = c.split_in_code-f.ensures.starts_after;
+      answer_after = c.put_filled.ensures ∙ ap four_filled c.split_in_code-f.ensures.value;
+    }

@@ -7,4 +7,9 @@ use Rattle.plpgsql_rewriter.proofs.plpgsql_transform_body.Goals as goal
 pub returns : goal.returns
 returns c =
     let e = c.transform_body-r.ensures in
-    record { output_after = e.output_after; work_after = e.work_after; spare_after = e.spare_after; answer_after = c.put_called.ensures ∙ ap four_called e.value }
+    record {
+      output_after = e.output_after;
+      work_after = e.work_after;
+      spare_after = e.spare_after;
+      answer_after = c.put_called.ensures ∙ ap four_called e.value;
+    }

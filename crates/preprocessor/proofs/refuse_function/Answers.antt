@@ -10,4 +10,12 @@ pub returns : goal.returns
 returns c =
     let s = c.args in
     let p = c.requires in
-    let e = c.refuse_body-r.ensures in record { value = e.value; output_after = e.output_after; work_after = e.work_after; spare_after = e.spare_after; declared_after = c.fill.ensures ∙ zeros_behind s.size 0 s.declared.now s.declared.now [] p.size_in_bounds_4 (omega arith) refl refl; records_after = c.clear.ensures ∙ zeros_behind s.numbers 0 s.records.now s.records.now [] p.numbers_in_bounds (omega arith) refl refl }
+    let e = c.refuse_body-r.ensures in
+    record {
+      value = e.value;
+      output_after = e.output_after;
+      work_after = e.work_after;
+      spare_after = e.spare_after;
+      declared_after = c.fill.ensures ∙ zeros_behind s.size 0 s.declared.now s.declared.now [] p.size_in_bounds_4 (omega arith) refl refl;
+      records_after = c.clear.ensures ∙ zeros_behind s.numbers 0 s.records.now s.records.now [] p.numbers_in_bounds (omega arith) refl refl;
+    }

@@ -18,7 +18,13 @@ pub refuse_function-requires : goal.refuse_function-requires
 refuse_function-requires c =
     let p = c.requires in
     let h = c.parse_declarations-parsed.auto in
-    record { size_in_bounds = p.size_in_bounds; size_in_bounds_2 = omega (arith, p.size_in_bounds_2, c.map_text.auto.map); size_in_bounds_3 = p.size_in_bounds_3; size_in_bounds_4 = omega (arith, p.size_in_bounds_4, h.declared); numbers_in_bounds = omega (arith, p.numbers_in_bounds, h.records) }
+    record {
+      size_in_bounds = p.size_in_bounds;
+      size_in_bounds_2 = omega (arith, p.size_in_bounds_2, c.map_text.auto.map);
+      size_in_bounds_3 = p.size_in_bounds_3;
+      size_in_bounds_4 = omega (arith, p.size_in_bounds_4, h.declared);
+      numbers_in_bounds = omega (arith, p.numbers_in_bounds, h.records);
+    }
 
 pub returns-in_default : goal.returns-in_default
 returns-in_default c =
@@ -45,7 +51,13 @@ pub run_body-r-requires : goal.run_body-r-requires
 run_body-r-requires c =
     let s = c.args in
     let p = c.requires in
-    record { size_value = p.size_value; text_len_bound = omega (arith, p.text_len_bound, length-drop c.body_start-start.result s.text.now, c.run_body-arg-1.given); size_in_bounds = p.size_in_bounds; size_in_bounds_2 = omega (arith, p.size_in_bounds_2, c.map_text.auto.map); size_in_bounds_3 = p.size_in_bounds_3 }
+    record {
+      size_value = p.size_value;
+      text_len_bound = omega (arith, p.text_len_bound, length-drop c.body_start-start.result s.text.now, c.run_body-arg-1.given);
+      size_in_bounds = p.size_in_bounds;
+      size_in_bounds_2 = omega (arith, p.size_in_bounds_2, c.map_text.auto.map);
+      size_in_bounds_3 = p.size_in_bounds_3;
+    }
 
 pub overflow_mul-count : goal.overflow_mul-count
 overflow_mul-count c =
@@ -88,12 +100,20 @@ returns c =
     let numbers = numbers_are xs s.work.now _ m s.actions at _ _ b q r f₀ s.declared.now d' s.records.now rs' e.holds in
     let d = subst (λ (i : ℕ). drop i d' ≡ drop i s.declared.now) (sym p.size_value) (texts_kept xs s.work.now _ m s.actions at _ _ b q r f₀ s.declared.now d' s.records.now rs' e.holds p.text_len_bound) in
     let h = subst (λ (i : ℕ). drop i rs' ≡ drop i s.records.now) (sym p.numbers_value) e.holds.behind in
-    let l = c.parse_declarations-parsed.auto in record { value = c.with_records.ensures ∙ answer_is xs s.work.now _ m s.actions at _ _ b q r f₀; output_after = f.output_after ∙ ap (λ (ys : List ℕ). zeroed_to s.size ys s.output.now) (ap (λ (ys : List ℕ). (body_result ys s.actions).output) v ∙ output_is xs s.work.now _ m s.actions at _ _ b q); work_after = f.work_after ∙ zeroed_same s.size [] _ s.work.now w; spare_after = f.spare_after; declared_after = c.fill.ensures
-                  ∙ zeros_behind s.size c.if_accepted-n.result s.declared.now d' _ (omega (arith, p.size_in_bounds_4, l.declared))
-                  (omega (arith, n, at_most r _ 65536 small, p.size_value))
-                  d
-                  (ap (λ (i : ℕ). take i d') n ∙ texts); records_after = c.clear.ensures
-                  ∙ zeros_behind s.numbers c.if_accepted-k.result s.records.now rs' _ (omega (arith, p.numbers_in_bounds, l.records))
-                  (omega (arith, k, at_most r _ 5130 count, p.numbers_value))
-                  h
-                  (ap (λ (i : ℕ). take i rs') k ∙ numbers) }
+    let l = c.parse_declarations-parsed.auto in
+    record {
+      value = c.with_records.ensures ∙ answer_is xs s.work.now _ m s.actions at _ _ b q r f₀;
+      output_after = f.output_after ∙ ap (λ (ys : List ℕ). zeroed_to s.size ys s.output.now) (ap (λ (ys : List ℕ). (body_result ys s.actions).output) v ∙ output_is xs s.work.now _ m s.actions at _ _ b q);
+      work_after = f.work_after ∙ zeroed_same s.size [] _ s.work.now w;
+      spare_after = f.spare_after;
+      declared_after = c.fill.ensures
+          ∙ zeros_behind s.size c.if_accepted-n.result s.declared.now d' _ (omega (arith, p.size_in_bounds_4, l.declared))
+          (omega (arith, n, at_most r _ 65536 small, p.size_value))
+          d
+          (ap (λ (i : ℕ). take i d') n ∙ texts);
+      records_after = c.clear.ensures
+          ∙ zeros_behind s.numbers c.if_accepted-k.result s.records.now rs' _ (omega (arith, p.numbers_in_bounds, l.records))
+          (omega (arith, k, at_most r _ 5130 count, p.numbers_value))
+          h
+          (ap (λ (i : ℕ). take i rs') k ∙ numbers);
+    }

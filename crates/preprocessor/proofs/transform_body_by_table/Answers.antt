@@ -15,7 +15,13 @@ run_table-requires c =
     let s = c.args in
     let h = check_only 16384 c.are_lent-enough.result s.text.now [] Passed (sym c.check_texts-check.ensures ∙ c.in_default.is) in
     let l = three_lent _ _ _ (sym c.are_lent-enough.ensures ∙ h.1) in
-    record { size_value = refl; text_len_bound = h.0; size_in_bounds = l.0; size_in_bounds_2 = l.1; size_in_bounds_3 = l.2 }
+    record {
+      size_value = refl;
+      text_len_bound = h.0;
+      size_in_bounds = l.0;
+      size_in_bounds_2 = l.1;
+      size_in_bounds_3 = l.2;
+    }
 
 pub returns-in_default : goal.returns-in_default
 unfolding body_answer body_output work_exit body_check are_lent buffer_size text_limit
@@ -26,6 +32,7 @@ returns-in_default c =
 
 pub returns : goal.returns
 unfolding body_answer body_output work_exit body_check are_lent buffer_size text_limit
-returns c = let e = c.are_lent-enough.ensures in
+returns c =
+    let e = c.are_lent-enough.ensures in
     let p = sym c.check_texts-check.ensures ∙ c.in-Refused.is in
     rw (← e, p) record { value = refl; output_after = refl; work_after = refl; spare_after = refl }

@@ -2,7 +2,6 @@
 -- first comma of the text is the first from i on; `depth_bound` keeps the count small. Assumes nothing.
 use native.Mathlib.Omega.{arith}
 use mathlib.Core.Path.{refl, sym, ap, ◌∙◌}
-use Prim.Native.Nat.{◌-◌}
 use lib.ListN.{length}
 use Rattle.spec.specs.SelectInto.{place_or}
 use Rattle.quotes.proofs.DepthLaws.{depth_bound, depth_front, depth_step, comma_end, comma_hit, comma_miss}

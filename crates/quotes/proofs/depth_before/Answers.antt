@@ -2,7 +2,6 @@
 -- i is at most `to`; past the text's end nothing more opens. Assumes nothing.
 use native.Mathlib.Omega.{arith}
 use mathlib.Core.Path.{sym, ap, ◌∙◌}
-use Prim.Native.Nat.{◌-◌}
 use Rattle.quotes.proofs.DepthLaws.{depth_at, depth_bound, depth_front, depth_past, depth_step}
 use Rattle.quotes.proofs.depth_before.Goals as goal
 

@@ -2,7 +2,6 @@
 -- that the first place from `from` on is the first from i on. Assumes nothing.
 use native.Mathlib.Omega.{arith}
 use mathlib.Core.Path.{sym, ◌∙◌}
-use Prim.Native.Nat.{◌-◌}
 use Rattle.spec.proofs.FirstLaws.{empty_word, nonempty_word}
 use Rattle.quotes.proofs.DepthLaws.{depth_bound, depth_step, top_end, top_miss, top_hit}
 use Rattle.quotes.proofs.find_top_keyword.Goals as goal

@@ -2,7 +2,6 @@
 -- that matching goes on from there to the same count. Assumes nothing.
 use native.Mathlib.Omega.{arith}
 use mathlib.Core.Path.{refl, sym, ◌∙◌}
-use Prim.Native.Nat.{◌-◌}
 use Rattle.quotes.proofs.LimitLaws.{limit_step, limit_end}
 use Rattle.quotes.proofs.limit_after.Goals as goal
 
@@ -17,4 +16,7 @@ loop-i-preserved c =
 pub returns : goal.returns
 returns c =
     let l = c.loop-i in
-    record { value = sym (l.invariant.2 ∙ limit_end c.args.text.now l.i l.n (omega arith)); upper_bound = l.invariant.1 }
+    record {
+      value = sym (l.invariant.2 ∙ limit_end c.args.text.now l.i l.n (omega arith));
+      upper_bound = l.invariant.1;
+    }

@@ -21,18 +21,27 @@ pub returns-then-u-byte_at : goal.returns-then-u-byte_at
 unfolding limit_next
 returns-then-u-byte_at c =
     let e : upper c.args.b ≡ get_or (ascii " LIMIT ") c.args.k 0 = sym (compared (goal.at.returns-then-u-byte_at c).After-byte_at).0 ∙ (c.if-u-byte_at.true ∙ (compared (goal.at.returns-then-u-byte_at c).After-byte_at).1) in
-    record { value = simp (ne_eqb _ _ c.if-k-eq7.false, eq-eqb _ _ e) (omega arith); upper_bound = omega (arith, c.if-k-eq7.false) }
+    record {
+      value = simp (ne_eqb _ _ c.if-k-eq7.false, eq-eqb _ _ e) (omega arith);
+      upper_bound = omega (arith, c.if-k-eq7.false);
+    }
 
 pub returns-then-u-eq32 : goal.returns-then-u-eq32
 unfolding limit_next
 returns-then-u-eq32 c =
     let n : upper c.args.b ≡ get_or (ascii " LIMIT ") c.args.k 0 → ⊥ = λ e. c.if-u-byte_at.false ((compared (goal.at.returns-then-u-eq32 c).After-byte_at).0 ∙ (e ∙ sym (compared (goal.at.returns-then-u-eq32 c).After-byte_at).1)) in
     let s : upper c.args.b ≡ 32 = sym (compared (goal.at.returns-then-u-eq32 c).After-byte_at).0 ∙ c.if-u-eq32.true in
-    record { value = simp (ne_eqb _ _ c.if-k-eq7.false, ne_eqb _ _ n, eq-eqb _ _ s); upper_bound = omega arith }
+    record {
+      value = simp (ne_eqb _ _ c.if-k-eq7.false, ne_eqb _ _ n, eq-eqb _ _ s);
+      upper_bound = omega arith;
+    }
 
 pub returns-else-u-eq32 : goal.returns-else-u-eq32
 unfolding limit_next
 returns-else-u-eq32 c =
     let n : upper c.args.b ≡ get_or (ascii " LIMIT ") c.args.k 0 → ⊥ = λ e. c.if-u-byte_at.false ((compared (goal.at.returns-else-u-eq32 c).After-byte_at).0 ∙ (e ∙ sym (compared (goal.at.returns-else-u-eq32 c).After-byte_at).1)) in
     let s : upper c.args.b ≡ 32 → ⊥ = λ e. c.if-u-eq32.false ((compared (goal.at.returns-else-u-eq32 c).After-byte_at).0 ∙ e) in
-    record { value = simp (ne_eqb _ _ c.if-k-eq7.false, ne_eqb _ _ n, ne_eqb _ _ s); upper_bound = omega arith }
+    record {
+      value = simp (ne_eqb _ _ c.if-k-eq7.false, ne_eqb _ _ n, ne_eqb _ _ s);
+      upper_bound = omega arith;
+    }

@@ -2,7 +2,6 @@
 -- before it, gives what storing the whole map at 0 would have given. Assumes nothing.
 use native.Mathlib.Omega.{arith}
 use mathlib.Core.Path.{refl, sym, ap, ◌∙◌}
-use Prim.Native.Nat.{◌-◌}
 use lib.ListN.{length-set}
 use lib.Seq.{sets}
 use Rattle.quotes.proofs.QuoteMapLaws.{quotes_kept, quotes_start, quotes_step, quotes_end}

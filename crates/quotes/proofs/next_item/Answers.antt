@@ -39,10 +39,10 @@ white c = omega (arith, c.run_end.ensures.value)
 lead : (c : goal.After-run_end) → c.run_end.result ≤ c.comma_at.result
 lead c =
     let comma : c.comma_at.result ≡ comma_at (drop c.loop-at.at (marked c.args.text.now c.args.map.now)) = let xs = c.args.text.now in
-        let ms = c.args.map.now in
-        let at = c.loop-at.at in
-        let h : c.comma_at.result ≡ place_or (first comma_here 0 (marked (take (length xs - at) (drop at xs)) (take (length ms - at) (drop at ms)))) (length (take (length xs - at) (drop at xs))) = c.comma_at.ensures in
-        (simp rest_of at h) ∙ comma_part xs ms at in
+    let ms = c.args.map.now in
+    let at = c.loop-at.at in
+    let h : c.comma_at.result ≡ place_or (first comma_here 0 (marked (take (length xs - at) (drop at xs)) (take (length ms - at) (drop at ms)))) (length (take (length xs - at) (drop at xs))) = c.comma_at.ensures in
+    (simp rest_of at h) ∙ comma_part xs ms at in
     let a = c.args in
     lead_within a.text.now a.map.now c.loop-at.at c.comma_at.result c.run_end.result (omega arith) comma (white c)
 

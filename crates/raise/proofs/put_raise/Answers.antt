@@ -31,7 +31,10 @@ put_statement-requires c =
     let s = c.in-Raises.start in
     let e = c.in-Raises.stop in
     let short = length-take (e - s) (drop s c.args.rest.now) in
-    record { content_len_bound = omega (arith, short, within (goal.at.put_statement-requires c).In-Raises); content_bound = omega (arith, short, within (goal.at.put_statement-requires c).In-Raises) }
+    record {
+      content_len_bound = omega (arith, short, within (goal.at.put_statement-requires c).In-Raises);
+      content_bound = omega (arith, short, within (goal.at.put_statement-requires c).In-Raises);
+    }
 
 pub slice_bounds-put_all-end : goal.slice_bounds-put_all-end
 slice_bounds-put_all-end c =
@@ -46,14 +49,25 @@ returns-in-Raises c =
     let s = c.in-Raises.start in
     let e = c.in-Raises.stop in
     let content = take (e - s) (drop s c.args.rest.now) in
-    let short = length-take (e - s) (drop s c.args.rest.now) in record { put = rw c.in-Raises.is c.put_statement.ensures.put; upper_bound = five_times_most c.put_statement.new.refused c.put_statement.result c.args.n (length content) c.args.read.end (omega (arith, short, within (goal.at.returns-in-Raises c).In-Raises)) c.put_statement.ensures.upper_bound }
+    let short = length-take (e - s) (drop s c.args.rest.now) in
+    record {
+      put = rw c.in-Raises.is c.put_statement.ensures.put;
+      upper_bound = five_times_most c.put_statement.new.refused c.put_statement.result c.args.n (length content) c.args.read.end (omega (arith, short, within (goal.at.returns-in-Raises c).In-Raises)) c.put_statement.ensures.upper_bound;
+    }
 
 pub returns-in-Dropped : goal.returns-in-Dropped
 returns-in-Dropped c =
     let n : ℕ = c.args.n in
     let k : n ≡ n + 0 = omega arith in
-    record { put = rw c.in-Dropped.is (record { text = []; becomes = refl; stored = refl; counted = k }); upper_bound = omega arith }
+    record {
+      put = rw c.in-Dropped.is (record { text = []; becomes = refl; stored = refl; counted = k });
+      upper_bound = omega arith;
+    }
 
 pub returns-in-Passed : goal.returns-in-Passed
 returns-in-Passed c =
-    let xs = c.args.rest.now in record { put = rw c.in-Passed.is (record { text = take c.args.read.end xs; becomes = refl; stored = c.put_all.ensures.out_after; counted = c.put_all.ensures.value }); upper_bound = omega (arith, c.put_all.ensures.value, length-take c.args.read.end xs) }
+    let xs = c.args.rest.now in
+    record {
+      put = rw c.in-Passed.is (record { text = take c.args.read.end xs; becomes = refl; stored = c.put_all.ensures.out_after; counted = c.put_all.ensures.value });
+      upper_bound = omega (arith, c.put_all.ensures.value, length-take c.args.read.end xs);
+    }

@@ -15,4 +15,8 @@ put_all-requires c =
 pub returns : goal.returns
 returns c =
     let w = c.args.word in
-    let m = c.args.message.now in record { value = omega (arith, c.put_all.ensures.value, c.put_all-q.ensures.value, c.put_front-p.ensures.value, raising_length w m); out_after = raising_stored w _ _ _ _ m _ _ _ c.put_front-p.ensures.out_after c.put_front-p.ensures.value c.put_all-q.ensures.out_after c.put_all-q.ensures.value c.put_all.ensures.out_after }
+    let m = c.args.message.now in
+    record {
+      value = omega (arith, c.put_all.ensures.value, c.put_all-q.ensures.value, c.put_front-p.ensures.value, raising_length w m);
+      out_after = raising_stored w _ _ _ _ m _ _ _ c.put_front-p.ensures.out_after c.put_front-p.ensures.value c.put_all-q.ensures.out_after c.put_all-q.ensures.value c.put_all.ensures.out_after;
+    }

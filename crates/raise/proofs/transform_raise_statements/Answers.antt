@@ -11,8 +11,6 @@ use Rattle.spec.specs.Bytes.{ascii}
 use Rattle.spec.specs.Map.{Marked, marked, bytes}
 use Rattle.spec.specs.Search.{first}
 use Rattle.spec.specs.Raise.{action_of, level_words, level_in}
-use Rattle.spec.specs.declared.Level.{Level}
-use Rattle.spec.specs.declared.Action.{Action}
 use Rattle.spec.specs.declared.Found.TheVariants.{At}
 use Rattle.spec.proofs.AheadLaws.{rest_of}
 use Rattle.spec.proofs.FirstLaws.{nonempty_word}
@@ -52,8 +50,7 @@ end_in : (c : goal.After-read_raise-read) → (0 < c.read_raise-read.result.end)
 end_in c =
     let act = action_of c.args.actions in
     let found : first raise_here c.loop-at.from (marked c.args.text.now c.args.map.now) ≡ At c.in-At.at =
-        sym (c.find_keyword_in-found.ensures ∙ nonempty_word (ascii "RAISE") _ (omega arith)) ∙ c.in-At.is in
-    (
+    sym (c.find_keyword_in-found.ensures ∙ nonempty_word (ascii "RAISE") _ (omega arith)) ∙ c.in-At.is in (
       end_pos act c.args.text.now c.args.map.now c.loop-at.from _ found c.read_raise-read.result (reads_at c),
       end_within act c.args.text.now c.args.map.now c.loop-at.from _ found c.read_raise-read.result (reads_at c),
     )
@@ -146,7 +143,12 @@ put_raise-n-requires c =
     let count : c.put_all-n.result + length rest + 25 < 9223372036854775808 =
     omega (arith, n, length-take (at - l.from) (drop l.from xs), rest_long xs at, found_within (goal.at.put_raise-n-requires c).In-At, c.requires.text_len_bound, l.invariant.1) in
     let end : c.read_raise-read.result.end ≤ length rest = omega (arith, rest_long xs at, (end_in (goal.at.put_raise-n-requires c).After-read_raise-read).1) in
-    record { rest_len_bound = short; rest_bound = count; end_in_bounds = end; fate_within = c.read_raise-read.ensures.fate_within }
+    record {
+      rest_len_bound = short;
+      rest_bound = count;
+      end_in_bounds = end;
+      fate_within = c.read_raise-read.ensures.fate_within;
+    }
 
 pub shape_of-out-then-refused : goal.shape_of-out-then-refused
 shape_of-out-then-refused c = as_long (goal.at.shape_of-out-then-refused c).After-put_raise-n

@@ -1,7 +1,6 @@
 -- `requote::quotes_in` meets its contract. The loop's invariant says that n and the quotes from i on make up all of
 -- them, and that n is at most i. Assumes nothing.
 use native.Mathlib.Omega.{arith}
-use Prim.Native.Nat.{◌-◌}
 use Rattle.requote.proofs.RequoteLaws.{quote_here, other_here, quotes_over}
 use Rattle.requote.proofs.quotes_in.Goals as goal
 

@@ -52,7 +52,10 @@ put_span-n-requires c =
     let to = c.in-Taken.next.at in
     let t = turn (goal.at.put_span-n-requires c).In-Taken in
     let long : length (take (to - at) (drop at xs)) ≡ to - at = length-take-le (to - at) (drop at xs) (omega (arith, t.within, length-drop at xs)) in
-    record { span_bound = omega (arith, long, t.within, requoted_length_lem xs); s_in_bounds = rw long (inside_within xs at c.in-Taken.s to t) }
+    record {
+      span_bound = omega (arith, long, t.within, requoted_length_lem xs);
+      s_in_bounds = rw long (inside_within xs at c.in-Taken.s to t);
+    }
 
 pub loop-s-smaller : goal.loop-s-smaller
 loop-s-smaller c = omega (arith, (turn (goal.at.loop-s-smaller c).In-Taken).within, (turn (goal.at.loop-s-smaller c).In-Taken).beyond)

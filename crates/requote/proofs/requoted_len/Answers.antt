@@ -30,9 +30,9 @@ added : (c : goal.After-requoted_span_len-n) →
     requoted_length xs ≡ c.loop-at.n + c.requoted_span_len-n.result + requoted_length (drop (c.loop-at.at + c.span_len.result) xs)
 added c =
     let turn : Stepped c.args.text.now c.loop-at.at c.next_span-s.result (c.loop-at.at + c.span_len.result) = let xs = c.args.text.now in
-        let at = c.loop-at.at in
-        let front : c.next_span-s.result ≡ span_at (take (length xs - at) (drop at xs)) = c.next_span-s.ensures in
-        stepped xs at c.next_span-s.result (at + c.span_len.result) (omega arith) (rw rest_of at front) (ap (λ n. at + n) c.span_len.ensures) in
+    let at = c.loop-at.at in
+    let front : c.next_span-s.result ≡ span_at (take (length xs - at) (drop at xs)) = c.next_span-s.ensures in
+    stepped xs at c.next_span-s.result (at + c.span_len.result) (omega arith) (rw rest_of at front) (ap (λ n. at + n) c.span_len.ensures) in
     let xs = c.args.text.now in
     let at = c.loop-at.at in
     let t = turn in
@@ -60,7 +60,10 @@ requoted_span_len-n-requires c =
     let at = c.loop-at.at in
     let to = at + c.span_len.result in
     let long : length (take (to - at) (drop at xs)) ≡ to - at = length-take-le (to - at) (drop at xs) (omega (arith, t.within, length-drop at xs)) in
-    record { span_len_bound = omega (arith, long, t.within); s_in_bounds = rw long (inside_within xs at c.next_span-s.result to t) }
+    record {
+      span_len_bound = omega (arith, long, t.within);
+      s_in_bounds = rw long (inside_within xs at c.next_span-s.result to t);
+    }
 
 pub overflow_add-n : goal.overflow_add-n
 overflow_add-n c =

@@ -2,7 +2,6 @@
 -- i on. Assumes nothing.
 use native.Mathlib.Omega.{arith}
 use mathlib.Core.Path.{refl, sym, ◌∙◌}
-use Prim.Native.Nat.{◌-◌}
 use Rattle.runs.specs.Sets.{in_set}
 use Rattle.runs.proofs.RunLaws.{any_past, any_here, any_step}
 use Rattle.runs.proofs.has.Goals as goal

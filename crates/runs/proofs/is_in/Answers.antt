@@ -10,8 +10,8 @@ use Rattle.spec.specs.Bytes.{is_high}
 use Rattle.runs.proofs.is_in.Goals as goal
 
 -- bytes up to 127 are those that are not over it
-up-to-127 : (b : ℕ) → leb b 127 ≡ not (is_high b)
-up-to-127 b = by (leb b 127) (λ e. e ∙ sym (ap not (low b (leb-true b 127 e)))) (λ e. e ∙ sym (ap not (high b (leb-false b 127 e))))
+up_to_127 : (b : ℕ) → leb b 127 ≡ not (is_high b)
+up_to_127 b = by (leb b 127) (λ e. e ∙ sym (ap not (low b (leb-true b 127 e)))) (λ e. e ∙ sym (ap not (high b (leb-false b 127 e))))
 
 pub returns-in-W : goal.returns-in-W
 returns-in-W c = rw c.in-W.is c.is_w.ensures
@@ -38,4 +38,4 @@ pub returns-in-Except : goal.returns-in-Except
 returns-in-Except c = rw c.in-Except.is refl
 
 pub returns-in-Ascii : goal.returns-in-Ascii
-returns-in-Ascii c = rw c.in-Ascii.is (up-to-127 _)
+returns-in-Ascii c = rw c.in-Ascii.is (up_to_127 _)

@@ -2,7 +2,6 @@
 -- Assumes nothing.
 use native.Mathlib.Omega.{arith}
 use mathlib.Core.Path.{sym, ◌∙◌}
-use Prim.Native.Nat.{◌-◌}
 use Rattle.runs.specs.Sets.{in_set}
 use Rattle.runs.proofs.RunLaws.{end_past, end_within, end_step, end_here}
 use Rattle.runs.proofs.run_end.Goals as goal

@@ -16,10 +16,16 @@ pub returns-else-is_in : goal.returns-else-is_in
 returns-else-is_in c =
     let a = c.args in
     let l = c.loop-i in
-    record { value = sym (l.invariant.1 ∙ start_here (in_set a.set) a.text.now l.i 0 (omega arith) (omega arith) (sym c.is_in.ensures ∙ c.if-is_in.false)); upper_bound = omega arith }
+    record {
+      value = sym (l.invariant.1 ∙ start_here (in_set a.set) a.text.now l.i 0 (omega arith) (omega arith) (sym c.is_in.ensures ∙ c.if-is_in.false));
+      upper_bound = omega arith;
+    }
 
 pub returns : goal.returns
 returns c =
     let a = c.args in
     let l = c.loop-i in
-    record { value = omega (arith, l.invariant.1, start_front (in_set a.set) a.text.now l.i (omega arith)); upper_bound = omega arith }
+    record {
+      value = omega (arith, l.invariant.1, start_front (in_set a.set) a.text.now l.i (omega arith));
+      upper_bound = omega arith;
+    }

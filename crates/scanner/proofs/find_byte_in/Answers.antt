@@ -2,7 +2,6 @@
 -- first from i on; a turn is a hit, a quoted byte, another byte, or the end, with a law for each. Assumes nothing.
 use native.Mathlib.Omega.{arith}
 use mathlib.Core.Path.{refl, sym, ◌∙◌}
-use Prim.Native.Nat.{◌-◌}
 use Rattle.scanner.proofs.ByteLaws.{byte_hit, byte_quoted, byte_other, byte_end}
 use Rattle.scanner.proofs.find_byte_in.Goals as goal
 

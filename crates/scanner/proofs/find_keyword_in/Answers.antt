@@ -3,11 +3,10 @@
 -- exactly if its rest from j on stands j bytes behind it, in any letter case. Assumes nothing.
 use native.Mathlib.Omega.{arith}
 use mathlib.Core.Path.{◌≡◌, refl, sym, ◌∙◌}
-use Prim.Native.Nat.{◌+◌, ◌-◌}
+use Prim.Native.Nat.{◌+◌}
 use native.Mathlib.Nat.{add-zero}
 use lib.ListN.{get_or}
 use Rattle.spec.specs.Bytes.{upper}
-use Rattle.spec.specs.Search.{first}
 use Rattle.spec.proofs.WalkLaws.{prefix_miss, prefix_whole}
 use Rattle.spec.proofs.FirstLaws.{empty_word, nonempty_word}
 use Rattle.scanner.proofs.KeywordLaws.{next_byte, key_edge, key_off, key_hit, key_end}

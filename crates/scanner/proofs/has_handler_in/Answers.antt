@@ -8,7 +8,7 @@ use Rattle.spec.proofs.MapLaws.{marked_length}
 use Rattle.spec.proofs.FirstLaws.{nonempty_word}
 use Rattle.scanner.proofs.HandlerLaws.{keyword, handler_none, keyword_within, handler_hit, handler_miss}
 use mathlib.Core.Path.{◌≡◌, refl, sym, ap, ◌∙◌}
-use Prim.Native.Nat.{◌-◌, ◌≤◌, ◌<◌}
+use Prim.Native.Nat.{◌≤◌, ◌<◌}
 use lib.ListN.{length}
 use Rattle.spec.specs.Map.{marked}
 use Rattle.spec.specs.Search.{first, is_found}
@@ -16,15 +16,15 @@ use Rattle.scanner.proofs.has_handler_in.Goals as goal
 use Rattle.scanner.proofs.has_handler_in.Goals.{After-find_keyword_in-found, In-At}
 
 -- what the search for the keyword gives
-sought-from : (c : goal.After-find_keyword_in-found) → c.find_keyword_in-found.result ≡ first keyword c.loop-at.from (marked c.args.text.now c.args.map.now)
-sought-from c = c.find_keyword_in-found.ensures ∙ nonempty_word (ascii "EXCEPTION") _ (omega arith)
+sought_from : (c : goal.After-find_keyword_in-found) → c.find_keyword_in-found.result ≡ first keyword c.loop-at.from (marked c.args.text.now c.args.map.now)
+sought_from c = c.find_keyword_in-found.ensures ∙ nonempty_word (ascii "EXCEPTION") _ (omega arith)
 
 -- the keyword stands at the place found
 found_at : (c : goal.In-At) →
     first keyword c.loop-at.from (marked c.args.text.now c.args.map.now) ≡ At c.in-At.at
 found_at c =
-    let sought-from : c.find_keyword_in-found.result ≡ first keyword c.loop-at.from (marked c.args.text.now c.args.map.now) = c.find_keyword_in-found.ensures ∙ nonempty_word (ascii "EXCEPTION") _ (omega arith) in
-    sym sought-from ∙ c.in-At.is
+    let sought_from : c.find_keyword_in-found.result ≡ first keyword c.loop-at.from (marked c.args.text.now c.args.map.now) = c.find_keyword_in-found.ensures ∙ nonempty_word (ascii "EXCEPTION") _ (omega arith) in
+    sym sought_from ∙ c.in-At.is
 
 -- and within the text
 found_within : (c : goal.In-At) →
@@ -40,7 +40,7 @@ loop-at-init c = refl
 pub returns-in_default : goal.returns-in_default
 returns-in_default c =
     let a = c.args in
-    sym (c.loop-at.invariant ∙ ap is_found (handler_none (marked a.text.now a.map.now) c.loop-at.from (sym (sought-from (goal.at.returns-in_default c).After-find_keyword_in-found) ∙ c.in_default.is)))
+    sym (c.loop-at.invariant ∙ ap is_found (handler_none (marked a.text.now a.map.now) c.loop-at.from (sym (sought_from (goal.at.returns-in_default c).After-find_keyword_in-found) ∙ c.in_default.is)))
 
 pub overflow_add-at : goal.overflow_add-at
 overflow_add-at c = omega (arith, (found_within c).1)
@@ -55,7 +55,8 @@ pub overflow_add-from : goal.overflow_add-from
 overflow_add-from c = omega (arith, (found_within (goal.at.overflow_add-from c).In-At).1)
 
 pub loop-at-smaller : goal.loop-at-smaller
-loop-at-smaller c = let w = found_within (goal.at.loop-at-smaller c).In-At in omega arith
+loop-at-smaller c =
+    let w = found_within (goal.at.loop-at-smaller c).In-At in omega arith
 
 pub loop-at-preserved : goal.loop-at-preserved
 loop-at-preserved c =

@@ -4,7 +4,6 @@
 use mathlib.Core.Bool.{◌||◌}
 use native.Mathlib.Omega.{arith}
 use mathlib.Core.Path.{◌≡◌, refl, sym, ◌∙◌}
-use Prim.Native.Nat.{◌-◌}
 use lib.ListN.{drop}
 use Rattle.spec.specs.Search.{has_unterminated_dollar_quote}
 use Rattle.scanner.proofs.SpanWalkLaws.{unclosed_ahead, unclosed_over}

@@ -6,6 +6,7 @@ use native.Mathlib.Omega.{arith}
 use Rattle.scanner.proofs.mark_span.Goals as goal
 
 pub returns-then-from-to : goal.returns-then-from-to
-returns-then-from-to c = let s = c.args in
+returns-then-from-to c =
+    let s = c.args in
     let k : s.to - s.from ≡ 1 = omega (arith, c.if-from-to.true) in
     rw k refl

@@ -4,10 +4,10 @@
 use native.Mathlib.Omega.{arith}
 use mathlib.Core.Path.{refl, sym, ap, ◌∙◌}
 use mathlib.Core.List.{List}
-use Prim.Native.Nat.{ℕ, ◌+◌, ◌-◌}
+use Prim.Native.Nat.{ℕ, ◌+◌}
 use lib.ListN.{length, length-set}
 use lib.Seq.{sets}
-use Rattle.scanner.proofs.SplitLaws.{starts_after, starts_split, starts_kept, starts_end, starts_hit, store_hit, starts_miss}
+use Rattle.scanner.proofs.SplitLaws.{starts_split, starts_kept, starts_end, starts_hit, store_hit, starts_miss}
 use Rattle.scanner.proofs.split_in.Goals as goal
 
 pub loop-i-init : goal.loop-i-init
@@ -51,5 +51,9 @@ pub returns : goal.returns
 returns c =
     let l = c.loop-i in
     let a = c.args in
-    let s = starts_end a.text.now a.map.now a.separator l.i (omega arith) in record { value = omega (arith, ap length s); starts_after = sym (starts_kept a.text.now a.map.now a.separator a.starts.now (omega arith)
-          ∙ (l.invariant.4 ∙ ap (λ (v : List ℕ). sets l.starts l.n v) s)) }
+    let s = starts_end a.text.now a.map.now a.separator l.i (omega arith) in
+    record {
+      value = omega (arith, ap length s);
+      starts_after = sym (starts_kept a.text.now a.map.now a.separator a.starts.now (omega arith)
+          ∙ (l.invariant.4 ∙ ap (λ (v : List ℕ). sets l.starts l.n v) s));
+    }

@@ -2,7 +2,6 @@
 -- its rest from i on is one of the text from i on, bytes compared in capitals. Assumes nothing.
 use native.Mathlib.Omega.{arith}
 use mathlib.Core.Path.{sym, ◌∙◌, refl}
-use Prim.Native.Nat.{◌-◌}
 use Rattle.spec.specs.Bytes.{upper}
 use Rattle.spec.proofs.WalkLaws.{prefix_hit, prefix_miss, prefix_short, prefix_whole}
 use Rattle.scanner.proofs.starts_ignoring_case.Goals as goal

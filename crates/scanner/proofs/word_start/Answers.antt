@@ -2,7 +2,6 @@
 -- where the run from i on ends. Assumes nothing.
 use native.Mathlib.Omega.{arith}
 use mathlib.Core.Path.{sym, ◌∙◌}
-use Prim.Native.Nat.{◌-◌}
 use Rattle.spec.specs.Search.{is_skipped}
 use Rattle.scanner.proofs.WordLaws.{end_past, end_step, end_here}
 use Rattle.scanner.proofs.word_start.Goals as goal

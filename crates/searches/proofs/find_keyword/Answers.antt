@@ -19,8 +19,15 @@ unfolding keyword_answer find_keyword
 returns-in_default c =
     let s = c.args in
     let m = passed_marks s.text.now s.map.now s.keyword.now (passed (goal.at.returns-in_default c).In_default) c.map_checked-check.new.map c.map_checked-check.ensures.map_after in
-    record { value = c.found_answer.ensures ∙ rw (passed (goal.at.returns-in_default c).In_default, ← m) (ap (λ k. search_answer Passed k) c.find_keyword_in.ensures); map_after = c.map_checked-check.ensures.map_after }
+    record {
+      value = c.found_answer.ensures ∙ rw (passed (goal.at.returns-in_default c).In_default, ← m) (ap (λ k. search_answer Passed k) c.find_keyword_in.ensures);
+      map_after = c.map_checked-check.ensures.map_after;
+    }
 
 pub returns : goal.returns
 unfolding keyword_answer
-returns c = record { value = rw (sym c.map_checked-check.ensures.value ∙ c.in-Refused.is) refl; map_after = c.map_checked-check.ensures.map_after }
+returns c =
+    record {
+      value = rw (sym c.map_checked-check.ensures.value ∙ c.in-Refused.is) refl;
+      map_after = c.map_checked-check.ensures.map_after;
+    }

@@ -20,8 +20,15 @@ unfolding handler_answer has_exception_handler
 returns-in_default c =
     let s = c.args in
     let m = passed_marks s.text.now s.map.now [] (passed (goal.at.returns-in_default c).In_default) c.map_checked-check.new.map c.map_checked-check.ensures.map_after in
-    record { value = c.yes_no_answer.ensures ∙ rw (passed (goal.at.returns-in_default c).In_default, ← m) (ap (λ k. search_answer Passed (yes_no k)) c.has_handler_in.ensures); map_after = c.map_checked-check.ensures.map_after }
+    record {
+      value = c.yes_no_answer.ensures ∙ rw (passed (goal.at.returns-in_default c).In_default, ← m) (ap (λ k. search_answer Passed (yes_no k)) c.has_handler_in.ensures);
+      map_after = c.map_checked-check.ensures.map_after;
+    }
 
 pub returns : goal.returns
 unfolding handler_answer
-returns c = record { value = rw (sym c.map_checked-check.ensures.value ∙ c.in-Refused.is) refl; map_after = c.map_checked-check.ensures.map_after }
+returns c =
+    record {
+      value = rw (sym c.map_checked-check.ensures.value ∙ c.in-Refused.is) refl;
+      map_after = c.map_checked-check.ensures.map_after;
+    }

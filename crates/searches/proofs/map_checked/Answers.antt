@@ -16,11 +16,17 @@ pub returns-in-Passed : goal.returns-in-Passed
 returns-in-Passed c =
     let s = c.args in
     let k = sym (c.check_texts-check.ensures ∙ sym (map_fits s.text.now s.map.now s.needle.now c.if-text-map.true)) ∙ c.in-Passed.is in
-    record { value = sym k; map_after = c.map_text.ensures ∙ sym (passed_map s.text.now s.map.now s.needle.now k) }
+    record {
+      value = sym k;
+      map_after = c.map_text.ensures ∙ sym (passed_map s.text.now s.map.now s.needle.now k);
+    }
 
 pub returns-else-text-map : goal.returns-else-text-map
 unfolding map_exit
 returns-else-text-map c =
     let s = c.args in
     let f = map_short s.text.now s.map.now s.needle.now c.if-text-map.false in
-    record { value = c.check_texts.ensures ∙ sym f; map_after = rw f (sym (short_exit 65536 s.text.now s.needle.now _ _)) }
+    record {
+      value = c.check_texts.ensures ∙ sym f;
+      map_after = rw f (sym (short_exit 65536 s.text.now s.needle.now _ _));
+    }

@@ -47,7 +47,11 @@ returns-then-start-end c =
     let m = c.map_checked-check.new.map in
     let a = found_place s.text.now m s.from c.word_start-start.result c.word_end-end.result (marks (goal.at.returns-then-start-end c).In_default) c.word_start-start.ensures c.word_end-end.ensures c.if-start-end.true in
     let t = found_text s.text.now m s.from c.word_start-start.result c.word_end-end.result (marks (goal.at.returns-then-start-end c).In_default) c.word_start-start.ensures c.word_end-end.ensures c.if-start-end.true in
-    record { result_value = rw e t; map_after = c.map_checked-check.ensures.map_after; answer_after = c.put_answer.ensures ∙ rw (e, a) refl }
+    record {
+      result_value = rw e t;
+      map_after = c.map_checked-check.ensures.map_after;
+      answer_after = c.put_answer.ensures ∙ rw (e, a) refl;
+    }
 
 pub returns-in_default : goal.returns-in_default
 unfolding word_part word_answer
@@ -57,7 +61,11 @@ returns-in_default c =
     let m = c.map_checked-check.new.map in
     let a = none_place s.text.now m s.from c.word_start-start.result c.word_end-end.result (marks (goal.at.returns-in_default c).In_default) c.word_start-start.ensures c.word_end-end.ensures c.if-start-end.false in
     let t = none_text s.text.now m s.from c.word_start-start.result c.word_end-end.result (marks (goal.at.returns-in_default c).In_default) c.word_start-start.ensures c.word_end-end.ensures c.if-start-end.false in
-    record { result_value = rw e (sym t); map_after = c.map_checked-check.ensures.map_after; answer_after = c.put_answer-in_default.ensures ∙ rw (e, a) refl }
+    record {
+      result_value = rw e (sym t);
+      map_after = c.map_checked-check.ensures.map_after;
+      answer_after = c.put_answer-in_default.ensures ∙ rw (e, a) refl;
+    }
 
 pub put_refusal-requires : goal.put_refusal-requires
 put_refusal-requires c =
@@ -67,4 +75,8 @@ pub returns : goal.returns
 unfolding word_part word_answer
 returns c =
     let e = sym c.map_checked-check.ensures.value ∙ c.in-Refused.is in
-    record { result_value = rw e refl; map_after = c.map_checked-check.ensures.map_after; answer_after = c.put_refusal.ensures ∙ rw e refl }
+    record {
+      result_value = rw e refl;
+      map_after = c.map_checked-check.ensures.map_after;
+      answer_after = c.put_refusal.ensures ∙ rw e refl;
+    }

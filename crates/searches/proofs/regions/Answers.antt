@@ -5,4 +5,8 @@ use Rattle.searches.proofs.regions.Goals as goal
 
 pub returns : goal.returns
 unfolding regions_answer
-returns c = record { value = c.filled_answer.ensures ∙ ap (λ k. filled_answer k 0) c.map_checked.ensures.value; map_after = c.map_checked.ensures.map_after }
+returns c =
+    record {
+      value = c.filled_answer.ensures ∙ ap (λ k. filled_answer k 0) c.map_checked.ensures.value;
+      map_after = c.map_checked.ensures.map_after;
+    }

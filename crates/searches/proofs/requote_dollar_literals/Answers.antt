@@ -47,4 +47,7 @@ returns c =
     let xs = s.text.now in
     let e = told_fits xs s.output.now _ (told (goal.at.returns c).In-Count) c.if-output-n.false in
     let fits : length (requoted xs) ≤ length s.output.now = omega (arith, (length_told xs _ (told (goal.at.returns c).In-Count)).1, c.if-output-n.false) in
-    record { value = rw e (ap (λ n. filled_answer Passed n) (q.ensures.value ∙ sym (requoted_exactly xs))); output_after = rw e (q.ensures.out_after ∙ sets_front s.output.now (requoted xs) fits) }
+    record {
+      value = rw e (ap (λ n. filled_answer Passed n) (q.ensures.value ∙ sym (requoted_exactly xs)));
+      output_after = rw e (q.ensures.out_after ∙ sets_front s.output.now (requoted xs) fits);
+    }

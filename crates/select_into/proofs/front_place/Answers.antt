@@ -7,7 +7,11 @@ use Rattle.select_into.proofs.front_place.Goals as goal
 
 pub returns-in-At : goal.returns-in-At
 unfolding front_place
-returns-in-At c = record { value = rw c.in-At.is c.lesser.ensures.value; upper_bound = c.lesser.ensures.upper_bound }
+returns-in-At c =
+    record {
+      value = rw c.in-At.is c.lesser.ensures.value;
+      upper_bound = c.lesser.ensures.upper_bound;
+    }
 
 pub returns-in-Nothing : goal.returns-in-Nothing
 unfolding front_place

@@ -28,9 +28,9 @@ mapped : (c : goal.After-varsmap-1) →
     (length (take (c.greater-b.result - (c.args.s + 6)) (drop (c.args.s + 6) c.args.text.now)) ≤ length (take (c.greater-b.result - (c.args.s + 6)) (drop (c.args.s + 6) c.args.map.now))) × (length (take (c.greater-d.result - (c.args.i + 4)) (drop (c.args.i + 4) c.args.text.now)) ≤ length (take (c.greater-d.result - (c.args.i + 4)) (drop (c.args.i + 4) c.args.map.now)))
 mapped c =
     let places : (c.args.s + 6 ≤ c.greater-b.result) × (c.greater-b.result ≤ length c.args.text.now) × (c.args.i + 4 ≤ c.greater-d.result) × (c.greater-d.result ≤ length c.args.text.now) = let a = c.args in
-        let n = length a.text.now in
-        let p = place_bound a.from (n - 1) n c.requires.from_in_bounds (omega arith) in
-        (omega (arith, c.greater-b.ensures), omega (arith, c.greater-b.ensures, c.requires), omega (arith, c.greater-d.ensures), omega (arith, c.greater-d.ensures, c.place_or.ensures, c.requires)) in
+    let n = length a.text.now in
+    let p = place_bound a.from (n - 1) n c.requires.from_in_bounds (omega arith) in
+    (omega (arith, c.greater-b.ensures), omega (arith, c.greater-b.ensures, c.requires), omega (arith, c.greater-d.ensures), omega (arith, c.greater-d.ensures, c.place_or.ensures, c.requires)) in
     let a = c.args in
     let p = places in
     (part_mapped a.text.now a.map.now (a.s + 6) c.greater-b.result c.requires.text_in_bounds p.0 p.1, part_mapped a.text.now a.map.now (a.i + 4) c.greater-d.result c.requires.text_in_bounds p.2 p.3)
@@ -97,7 +97,15 @@ pub put_pairs-requires : goal.put_pairs-requires
 put_pairs-requires c =
     let a = c.args in
     let m = mapped (goal.at.put_pairs-requires c).After-varsmap-1 in
-    let p = places (goal.at.put_pairs-requires c).After-greater-d in record { cols_in_bounds = m.0; vars_in_bounds = m.1; text_bound = omega (arith, c.requires.text_bound, part_short (c.greater-b.result - (a.s + 6)) (a.s + 6) a.text.now, part_short (c.greater-d.result - (a.i + 4)) (a.i + 4) a.text.now); front_le_s = c.front_place-front.ensures.upper_bound; s_in_bounds = omega (arith, c.requires.s_in_bounds); f_in_bounds = omega (arith, c.place_or-f.ensures, place_bound a.from (length a.text.now) (length a.text.now) c.requires.from_in_bounds (omega arith)) }
+    let p = places (goal.at.put_pairs-requires c).After-greater-d in
+    record {
+      cols_in_bounds = m.0;
+      vars_in_bounds = m.1;
+      text_bound = omega (arith, c.requires.text_bound, part_short (c.greater-b.result - (a.s + 6)) (a.s + 6) a.text.now, part_short (c.greater-d.result - (a.i + 4)) (a.i + 4) a.text.now);
+      front_le_s = c.front_place-front.ensures.upper_bound;
+      s_in_bounds = omega (arith, c.requires.s_in_bounds);
+      f_in_bounds = omega (arith, c.place_or-f.ensures, place_bound a.from (length a.text.now) (length a.text.now) c.requires.from_in_bounds (omega arith));
+    }
 
 pub put_text-requires : goal.put_text-requires
 put_text-requires c =

@@ -13,7 +13,14 @@ use Rattle.select_into.proofs.put_into.Goals as goal
 pub put_cut-requires : goal.put_cut-requires
 put_cut-requires c =
     let a = c.args in
-    let p = c.requires in record { text_bound = p.text_bound; text_in_bounds = p.text_in_bounds; s_in_bounds = p.s_in_bounds; i_in_bounds = p.i_in_bounds; from_in_bounds = found_bound (top_word_here (ascii "FROM")) a.text.now a.map.now a.i _ (c.find_top_keyword-from.ensures ∙ nonempty_word (ascii "FROM") _ (omega arith)) }
+    let p = c.requires in
+    record {
+      text_bound = p.text_bound;
+      text_in_bounds = p.text_in_bounds;
+      s_in_bounds = p.s_in_bounds;
+      i_in_bounds = p.i_in_bounds;
+      from_in_bounds = found_bound (top_word_here (ascii "FROM")) a.text.now a.map.now a.i _ (c.find_top_keyword-from.ensures ∙ nonempty_word (ascii "FROM") _ (omega arith));
+    }
 
 pub returns : goal.returns
 unfolding into_at

@@ -62,16 +62,22 @@ put_set_lines-requires c =
     let xs = a.text.now in
     let l = c.from_len.result in
     let from = take (a.f + l - a.f) (drop a.f xs) in
-    let i = c.run_start-2.result in record { cols_in_bounds = c.requires.cols_in_bounds; vars_in_bounds = c.requires.vars_in_bounds; indent_bound = omega (
-            arith,
-            c.requires.text_bound,
-            c.put_all-o.ensures.value,
-            part_short a.front 0 xs,
-            part_short (a.s - a.front) a.front xs,
-            part_short c.run_start.result 0 from,
-            part_short (a.f + l - a.f) a.f xs,
-            part_short (a.front - i) i xs,
-          ); k_bound = c.limit_after-k.ensures.upper_bound }
+    let i = c.run_start-2.result in
+    record {
+      cols_in_bounds = c.requires.cols_in_bounds;
+      vars_in_bounds = c.requires.vars_in_bounds;
+      indent_bound = omega (
+        arith,
+        c.requires.text_bound,
+        c.put_all-o.ensures.value,
+        part_short a.front 0 xs,
+        part_short (a.s - a.front) a.front xs,
+        part_short c.run_start.result 0 from,
+        part_short (a.f + l - a.f) a.f xs,
+        part_short (a.front - i) i xs,
+      );
+      k_bound = c.limit_after-k.ensures.upper_bound;
+    }
 
 pub returns : goal.returns
 unfolding pairs_text

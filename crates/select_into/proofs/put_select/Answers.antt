@@ -14,7 +14,13 @@ use Rattle.select_into.proofs.put_select.Goals as goal
 pub put_into-requires : goal.put_into-requires
 put_into-requires c =
     let a = c.args in
-    let p = c.requires in record { text_bound = p.text_bound; text_in_bounds = p.text_in_bounds; s_in_bounds = p.s_in_bounds; i_in_bounds = word_within (ascii "INTO") a.text.now a.map.now a.s _ (sym (c.find_top_keyword-found.ensures ∙ nonempty_word (ascii "INTO") _ (omega arith)) ∙ c.in-At.is) }
+    let p = c.requires in
+    record {
+      text_bound = p.text_bound;
+      text_in_bounds = p.text_in_bounds;
+      s_in_bounds = p.s_in_bounds;
+      i_in_bounds = word_within (ascii "INTO") a.text.now a.map.now a.s _ (sym (c.find_top_keyword-found.ensures ∙ nonempty_word (ascii "INTO") _ (omega arith)) ∙ c.in-At.is);
+    }
 
 pub put_text-requires : goal.put_text-requires
 put_text-requires c =

@@ -14,7 +14,12 @@ use Rattle.select_into.proofs.put_statement.Goals as goal
 pub put_select-requires : goal.put_select-requires
 put_select-requires c =
     let a = c.args in
-    let p = c.requires in record { text_bound = p.text_bound; text_in_bounds = p.text_in_bounds; s_in_bounds = word_within (ascii "SELECT") a.text.now a.map.now 0 _ (sym (c.find_top_keyword-found.ensures ∙ nonempty_word (ascii "SELECT") _ (omega arith)) ∙ c.in-At.is) }
+    let p = c.requires in
+    record {
+      text_bound = p.text_bound;
+      text_in_bounds = p.text_in_bounds;
+      s_in_bounds = word_within (ascii "SELECT") a.text.now a.map.now 0 _ (sym (c.find_top_keyword-found.ensures ∙ nonempty_word (ascii "SELECT") _ (omega arith)) ∙ c.in-At.is);
+    }
 
 pub put_text-requires : goal.put_text-requires
 put_text-requires c =

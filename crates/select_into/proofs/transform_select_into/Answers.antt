@@ -108,7 +108,11 @@ pub put_statement-n-requires : goal.put_statement-n-requires
 put_statement-n-requires c =
     let a = c.args in
     let l = c.loop-n in
-    let j = c.in-At.at in record { text_bound = omega (arith, c.requires.text_len_bound, l.invariant.2, part_short (j + 1 - l.from) l.from a.text.now); text_in_bounds = part_mapped a.text.now a.map.now l.from (j + 1) c.requires.text_in_bounds (omega (arith, within (goal.at.put_statement-n-requires c).In-At)) (omega (arith, within (goal.at.put_statement-n-requires c).In-At)) }
+    let j = c.in-At.at in
+    record {
+      text_bound = omega (arith, c.requires.text_len_bound, l.invariant.2, part_short (j + 1 - l.from) l.from a.text.now);
+      text_in_bounds = part_mapped a.text.now a.map.now l.from (j + 1) c.requires.text_in_bounds (omega (arith, within (goal.at.put_statement-n-requires c).In-At)) (omega (arith, within (goal.at.put_statement-n-requires c).In-At));
+    }
 
 pub loop-n-smaller : goal.loop-n-smaller
 loop-n-smaller c = omega (arith, within (goal.at.loop-n-smaller c).In-At)

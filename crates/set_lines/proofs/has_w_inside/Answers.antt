@@ -1,9 +1,8 @@
 -- `set_lines::has_w_inside` meets its contract. The loop's invariant says that W stands in a part exactly if it stands
--- in one from `from` on. `given-item` says which part `next_item` gave. Assumes nothing.
+-- in one from `from` on. `given_item` says which part `next_item` gave. Assumes nothing.
 use native.Mathlib.Omega.{arith}
 use mathlib.Core.Path.{refl, sym, ◌∙◌}
 use mathlib.Core.List.{List}
-use Prim.Native.Nat.{◌-◌}
 use Rattle.spec.specs.Bytes.{is_w}
 use Rattle.spec.specs.Lists.{any}
 use Rattle.spec.specs.Map.{Marked, marked, of_byte}
@@ -14,9 +13,9 @@ use Rattle.set_lines.proofs.has_w_inside.Goals as goal
 use Rattle.set_lines.proofs.has_w_inside.Goals.{In-Next}
 
 -- the part that was given
-given-item : (c : goal.In-Next) →
+given_item : (c : goal.In-Next) →
     Listed (marked c.args.text.now c.args.map.now) c.loop-start.from c.in-Next.start c.in-Next.len c.in-Next.next
-given-item c = item_part _ _ _ c.next_item-item.ensures _ _ _ c.in-Next.is
+given_item c = item_part _ _ _ c.next_item-item.ensures _ _ _ c.in-Next.is
 
 pub loop-start-init : goal.loop-start-init
 loop-start-init c = refl
@@ -30,31 +29,32 @@ returns-in_default c =
 
 pub overflow_add-end : goal.overflow_add-end
 overflow_add-end c =
-    let h = given-item c in omega (arith, h.inside, marked_length c.args.text.now c.args.map.now)
+    let h = given_item c in omega (arith, h.inside, marked_length c.args.text.now c.args.map.now)
 
 pub slice_bounds-has-count : goal.slice_bounds-has-count
-slice_bounds-has-count c = let h = given-item c in omega arith
+slice_bounds-has-count c =
+    let h = given_item c in omega arith
 
 pub slice_bounds-has-start : goal.slice_bounds-has-start
 slice_bounds-has-start c =
-    let h = given-item c in omega (arith, h.inside, marked_length c.args.text.now c.args.map.now)
+    let h = given_item c in omega (arith, h.inside, marked_length c.args.text.now c.args.map.now)
 
 pub slice_bounds-has-end : goal.slice_bounds-has-end
 slice_bounds-has-end c =
-    let h = given-item c in omega (arith, h.inside, marked_length c.args.text.now c.args.map.now)
+    let h = given_item c in omega (arith, h.inside, marked_length c.args.text.now c.args.map.now)
 
 pub returns-then-has : goal.returns-then-has
 returns-then-has c =
     let a = c.args in
-    let h = given-item (goal.at.returns-then-has c).In-Next in
+    let h = given_item (goal.at.returns-then-has c).In-Next in
     sym (c.loop-start.invariant ∙ any_hit (λ (v : List Marked). any (of_byte is_w) v) _ _ _ h.front (sym (any_part is_w a.text.now a.map.now c.in-Next.start c.in-Next.len) ∙ (sym c.has.ensures ∙ c.if-has.true)))
 
 pub loop-start-smaller : goal.loop-start-smaller
 loop-start-smaller c =
-    let h = given-item (goal.at.loop-start-smaller c).In-Next in omega (arith, h.behind, h.beyond, h.inside, marked_length c.args.text.now c.args.map.now)
+    let h = given_item (goal.at.loop-start-smaller c).In-Next in omega (arith, h.behind, h.beyond, h.inside, marked_length c.args.text.now c.args.map.now)
 
 pub loop-start-preserved : goal.loop-start-preserved
 loop-start-preserved c =
     let a = c.args in
-    let h = given-item (goal.at.loop-start-preserved c).In-Next in
+    let h = given_item (goal.at.loop-start-preserved c).In-Next in
     c.loop-start.invariant ∙ any_miss (λ (v : List Marked). any (of_byte is_w) v) _ _ _ h.front (sym (any_part is_w a.text.now a.map.now c.in-Next.start c.in-Next.len) ∙ (sym c.has.ensures ∙ c.if-has.false))

@@ -2,7 +2,6 @@
 -- the rest, `depth` comments being open; a turn opens one, closes one, closes the last, or passes a byte. Assumes
 -- nothing.
 use mathlib.Core.Path.{◌≡◌, sym, ◌∙◌}
-use Prim.Native.Nat.{◌-◌}
 use native.Mathlib.Omega.{arith}
 use Rattle.spans.proofs.CommentLaws.{at_open, at_back, at_last, at_one, at_short, block_start, block_short}
 use Rattle.spans.proofs.block_comment_len.Goals as goal

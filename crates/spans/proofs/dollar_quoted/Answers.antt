@@ -17,13 +17,20 @@ tag c = omega (arith, c.run_end-t.ensures.value, tag_run (drop 1 c.args.rest.now
 pub opens_here-requires : goal.opens_here-requires
 opens_here-requires c =
     let behind = drop 1 c.args.rest.now in
-    record { t_value = tag c; t_in_bounds = omega (arith, tag c, tag_le behind, length-drop 1 c.args.rest.now) }
+    record {
+      t_value = tag c;
+      t_in_bounds = omega (arith, tag c, tag_le behind, length-drop 1 c.args.rest.now);
+    }
 
 pub overflow_add-t : goal.overflow_add-t
 overflow_add-t c = omega (arith, tag (goal.at.overflow_add-t c).After-run_end-t, opens_in c.args.rest.now (sym c.opens_here.ensures ∙ c.if-opens_here.true))
 
 pub dollar_of-requires : goal.dollar_of-requires
-dollar_of-requires c = record { n_nonzero = omega (arith, tag (goal.at.dollar_of-requires c).After-run_end-t); n_in_bounds = omega (arith, tag (goal.at.dollar_of-requires c).After-run_end-t, opens_in c.args.rest.now (sym c.opens_here.ensures ∙ c.if-opens_here.true)) }
+dollar_of-requires c =
+    record {
+      n_nonzero = omega (arith, tag (goal.at.dollar_of-requires c).After-run_end-t);
+      n_in_bounds = omega (arith, tag (goal.at.dollar_of-requires c).After-run_end-t, opens_in c.args.rest.now (sym c.opens_here.ensures ∙ c.if-opens_here.true));
+    }
 
 pub returns-then-opens_here : goal.returns-then-opens_here
 returns-then-opens_here c = simp (sym c.opens_here.ensures ∙ c.if-opens_here.true, c.dollar_of.ensures, tag (goal.at.returns-then-opens_here c).After-run_end-t)

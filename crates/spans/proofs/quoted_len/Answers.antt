@@ -2,7 +2,6 @@
 -- rest; a turn is an escaped pair, a doubled quote, the closing quote, or another byte, with a law for each. Assumes
 -- nothing.
 use mathlib.Core.Path.{sym, ◌∙◌}
-use Prim.Native.Nat.{◌-◌}
 use native.Mathlib.Omega.{arith}
 use Rattle.spans.proofs.QuotedSpanLaws.{at_esc, at_two, at_end, at_one, at_short, quoted_start, quoted_short}
 use Rattle.spans.proofs.quoted_len.Goals as goal

@@ -3,7 +3,7 @@
 -- turn. Assumes nothing.
 use native.Mathlib.Omega.{arith}
 use mathlib.Core.Path.{refl, sym, ap, ◌∙◌}
-use Prim.Native.Nat.{ℕ, ◌+◌, ◌-◌}
+use Prim.Native.Nat.{ℕ, ◌+◌}
 use lib.ListN.{drop, get_or}
 use Rattle.spec.specs.Map.{marked}
 use Rattle.spec.specs.Assignments.{marked_target}
@@ -48,4 +48,7 @@ pub returns : goal.returns
 returns c =
     let a = c.args in
     let l = c.loop-i in
-    record { target = l.invariant.2 ∙ walk_end a.statement.now a.map.now l.cases l.before l.i (omega arith); inside = tt }
+    record {
+      target = l.invariant.2 ∙ walk_end a.statement.now a.map.now l.cases l.before l.i (omega arith);
+      inside = tt;
+    }

@@ -40,4 +40,7 @@ returns c =
     let h = c.if-name_start-eq0.false in
     λ t e.
     let found = before_found a.statement.now t e a.operator _ _ (omega arith) c.run_start-name_end.ensures.value c.run_start-name_start.ensures.value c.if-name_start-name_end.false _ (omega (arith, h)) c.if-statement-dot-ne46.false _ c.run_start-start.ensures.value c.if-start-dot.false (omega arith) in
-    record { target = found; inside = parts_inside _ _ _ _ _ (omega (arith, h)) (omega arith) (omega arith) (omega (arith, same_length _ t e)) }
+    record {
+      target = found;
+      inside = parts_inside _ _ _ _ _ (omega (arith, h)) (omega arith) (omega arith) (omega (arith, same_length _ t e));
+    }

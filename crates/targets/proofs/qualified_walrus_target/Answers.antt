@@ -3,7 +3,7 @@
 -- stands before it. Assumes nothing.
 use native.Mathlib.Omega.{arith}
 use mathlib.Core.Path.{◌≡◌, refl, sym, ◌∙◌}
-use Prim.Native.Nat.{◌-◌, ◌≤◌, ◌<◌}
+use Prim.Native.Nat.{◌≤◌, ◌<◌}
 use lib.ListN.{length, take}
 use mathlib.Core.List.{reverse}
 use Rattle.spec.specs.Bytes.{ascii}
@@ -71,7 +71,8 @@ pub overflow_add-from : goal.overflow_add-from
 overflow_add-from c = omega (arith, (found_within (goal.at.overflow_add-from c).In-At).1)
 
 pub loop-at-smaller : goal.loop-at-smaller
-loop-at-smaller c = let w = found_within (goal.at.loop-at-smaller c).In-At in omega arith
+loop-at-smaller c =
+    let w = found_within (goal.at.loop-at-smaller c).In-At in omega arith
 
 pub loop-at-preserved : goal.loop-at-preserved
 loop-at-preserved c =
