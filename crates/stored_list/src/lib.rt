@@ -1,4 +1,4 @@
-// What the programs share that replay stored lists: the lines of standard input, their fields, texts and numbers,
+// What the programs share that replay stored lists: the lines of an input, their fields, texts and numbers,
 // marked buffers, places that are changed behind a call, and the report.
 #![tactic(auto)]
 

@@ -1,9 +1,10 @@
-// The lines of standard input. A buffer holds the bytes that were read last, and a line is a part of it.
+// The lines of an input. A buffer holds the bytes that were read last, and a line is a part of it.
 ghost use Rattle.std.specs.Prelude.{◌≡◌, false, ◌≤◌, length, take, drop};
 ghost use Rattle.std.proofs.lemmas.List.Edits.{sets};
 ghost use Rattle.stored_list.specs.ListLines.{line_at, no_line, start_after, FirstRead, NextLine, LineIn};
 
 use crate::fields::{next_place, part};
+use std::io::Read;
 
 #[derive(Clone, Copy)]
 pub struct Line {
@@ -45,14 +46,39 @@ pub fn before_first() -> Line
     line_at(0, 0, 0)
 }
 
+// Reads once, and gives how many bytes it put at the front: none where the input ends or the read fails.
+fn read_some(input: &mut impl Read, buffer: &mut [u8]) -> usize
+    ensures { result ≤ length buffer.new }
+{
+    match input.read(buffer) {
+        Ok(n) => n,
+        Err(_) => 0,
+    }
+}
+
+// Reads until the buffer is full, the input ends or a read fails, and gives how many bytes it put at the front.
+fn read_full(input: &mut impl Read, buffer: &mut [u8]) -> usize
+    ensures { result ≤ length buffer.new }
+{
+    let mut done: usize = 0;
+    while done < buffer.len() {
+        let n = read_some(input, &mut buffer[done..]);
+        if n == 0 {
+            return done;
+        }
+        done += n;
+    }
+    done
+}
+
 // Reads on behind the first `left` bytes, and gives how many bytes there are then.
-fn read_behind(buffer: &mut [u8], left: usize) -> usize
+fn read_behind(input: &mut impl Read, buffer: &mut [u8], left: usize) -> usize
     requires { left ≤ length buffer.old }
     ensures lower_bound { left ≤ result }
     ensures upper_bound { result ≤ length buffer.new }
     ensures buffer_unchanged { take left buffer.new ≡ take left buffer.old }
 {
-    left + io::read_full(0, &mut buffer[left..])
+    left + read_full(input, &mut buffer[left..])
 }
 
 // Moves the bytes from `from` up to `end` to the front, and gives how many there are.
@@ -85,12 +111,12 @@ fn next_start(before: Line) -> usize
 }
 
 // The first line of the buffer's bytes, after reading on behind the first `left` ones.
-fn read_line(buffer: &mut [u8], left: usize) -> Line
+fn read_line(input: &mut impl Read, buffer: &mut [u8], left: usize) -> Line
     requires { left ≤ length buffer.old }
     ensures first_read { FirstRead left buffer.new result }
     ensures buffer_unchanged { take left buffer.new ≡ take left buffer.old }
 {
-    let filled = read_behind(buffer, left);
+    let filled = read_behind(input, buffer, left);
     let end = next_place(part(buffer, 0, filled), 0, b'\n');
     if end < filled {
         return line_at(0, end, filled);
@@ -100,7 +126,7 @@ fn read_line(buffer: &mut [u8], left: usize) -> Line
 
 // The line behind this one. It ends with a newline and is shorter than the buffer; other bytes at the end of the input are no
 // line. What is read is free.
-pub fn next_line(buffer: &mut [u8], before: Line) -> Line
+pub fn next_line(input: &mut impl Read, buffer: &mut [u8], before: Line) -> Line
     ensures next_line { NextLine buffer.old before buffer.new result }
     ensures line_in { before.filled ≤ length buffer.old → result.ended ≡ false → LineIn buffer.new result }
 {
@@ -111,5 +137,5 @@ pub fn next_line(buffer: &mut [u8], before: Line) -> Line
         return line_at(start, end, filled);
     }
     let left = move_front(buffer, start, filled);
-    read_line(buffer, left)
+    read_line(input, buffer, left)
 }

@@ -45,7 +45,7 @@ fn append_hex(out: &mut [u8], n: usize, hex: &[u8], count: usize) -> usize
     ensures value { result ≡ min (n + length (hex_run count hex.now)) (length out.old) }
     ensures out_after { out.new ≡ sets out.old n (hex_run count hex.now) }
 {
-    let mut bytes = io::buffer();
+    let mut bytes = [0u8; 4096];
     let k = decode(hex, &mut bytes);
     append_times(out, n, part(&bytes, 0, k), count)
 }

@@ -1,7 +1,7 @@
 -- `stored_list::decode` meets its contract. The loop's invariant: what is stored so far, and the bytes of the digits from i on
 -- to be stored at n, give the whole. Assumes nothing.
 use lib.ListN.{set, drop}
-use Prim.Native.Nat.{◌+◌, ◌-◌}
+use Prim.Native.Nat.{◌+◌}
 use native.Mathlib.Omega.{arith}
 use mathlib.Core.Path.{refl, sym, ap, ◌∙◌}
 use mathlib.Core.List.{◌∷◌}

@@ -2,7 +2,6 @@
 -- stands behind the first `left` spaces from i on. Assumes nothing.
 use native.Mathlib.Omega.{arith}
 use mathlib.Core.Path.{refl, sym, ◌∙◌}
-use Prim.Native.Nat.{◌-◌}
 use lib.ListN.{drop}
 use Rattle.stored_list.proofs.FieldLaws.{behind_none, behind_space, behind_other, behind_end}
 use Rattle.stored_list.proofs.fields.field_start.Goals as goal
@@ -12,8 +11,11 @@ loop-i-init c = (omega arith, refl)
 
 pub returns-then-left-eq0 : goal.returns-then-left-eq0
 returns-then-left-eq0 c =
-    let l = c.loop-i in record { line_value = sym (l.invariant.1 ∙ behind_none (drop l.i c.args.line.now) l.left c.if-left-eq0.true); upper_bound = omega
-          arith }
+    let l = c.loop-i in record {
+      line_value = sym (l.invariant.1 ∙ behind_none (drop l.i c.args.line.now) l.left c.if-left-eq0.true);
+      upper_bound = omega
+          arith;
+    }
 
 pub loop-i-preserved-then-line-i-eq32 : goal.loop-i-preserved-then-line-i-eq32
 loop-i-preserved-then-line-i-eq32 c =

@@ -2,7 +2,6 @@
 -- Assumes nothing.
 use native.Mathlib.Omega.{arith}
 use mathlib.Core.Path.{refl, sym, ◌∙◌}
-use Prim.Native.Nat.{◌-◌}
 use Rattle.stored_list.proofs.FieldLaws.{place_here, place_on, place_end}
 use Rattle.stored_list.proofs.fields.next_place.Goals as goal
 

@@ -2,7 +2,7 @@
 -- behind it. Assumes nothing.
 use native.Mathlib.Omega.{arith}
 use mathlib.Core.Path.{sym, ap, ◌∙◌}
-use Prim.Native.Nat.{◌+◌, ◌-◌}
+use Prim.Native.Nat.{◌+◌}
 use lib.ListN.{drop}
 use Rattle.stored_list.specs.Numbers.{with_digits}
 use Rattle.stored_list.proofs.NumberLaws.{number_none, number_digits, digits_step, digits_end}

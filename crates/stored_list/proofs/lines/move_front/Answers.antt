@@ -1,6 +1,6 @@
 -- `stored_list::move_front` meets its contract. The loop's invariant: the bytes that are moved stand at the front, and from j
 -- on the buffer is as it was. Assumes nothing.
-use Prim.Native.Nat.{◌≤◌, ◌-◌}
+use Prim.Native.Nat.{◌≤◌}
 use lib.ListN.{take, length, length-take}
 use native.Mathlib.Omega.{arith}
 use Rattle.stored_list.proofs.ListLineLaws.{moving, moving_step, moved_count, moved_content}
@@ -18,8 +18,11 @@ pub returns-then-end-j : goal.returns-then-end-j
 returns-then-end-j c =
     let l = c.loop-j in
     let s = c.args in
-    let h : length (take s.end s.buffer.now) ≤ l.j = omega (arith, length-take s.end s.buffer.now) in record { value = moved_count s.buffer.now s.from s.end l.buffer l.i l.j l.invariant h; buffer_after = moved_content s.buffer.now
-          s.from s.end l.buffer l.i l.j l.invariant h }
+    let h : length (take s.end s.buffer.now) ≤ l.j = omega (arith, length-take s.end s.buffer.now) in record {
+      value = moved_count s.buffer.now s.from s.end l.buffer l.i l.j l.invariant h;
+      buffer_after = moved_content s.buffer.now
+          s.from s.end l.buffer l.i l.j l.invariant h;
+    }
 
 pub loop-j-preserved : goal.loop-j-preserved
 loop-j-preserved c =
@@ -36,5 +39,8 @@ returns c =
     let l = c.loop-j in
     let s = c.args in
     let h : length (take s.end s.buffer.now) ≤ l.j = omega (arith, length-take s.end s.buffer.now, l.invariant.kept)
-    in record { value = moved_count s.buffer.now s.from s.end l.buffer l.i l.j l.invariant h; buffer_after = moved_content s.buffer.now
-          s.from s.end l.buffer l.i l.j l.invariant h }
+    in record {
+      value = moved_count s.buffer.now s.from s.end l.buffer l.i l.j l.invariant h;
+      buffer_after = moved_content s.buffer.now
+          s.from s.end l.buffer l.i l.j l.invariant h;
+    }

@@ -6,7 +6,7 @@ use Rattle.stored_list.proofs.ListLineLaws.{next_held, next_read, next_in}
 use Rattle.stored_list.proofs.lines.next_line.Goals as goal
 
 pub returns-then-end-filled : goal.returns-then-end-filled
-returns-then-end-filled c =
+returns-then-end-filled g c =
     let s = c.args in
     let n = c.next_place-end in
     let p = c.part in
@@ -17,7 +17,7 @@ returns-then-end-filled c =
     record { next_line = t; line_in = next_in xs s.before xs c.line_at.result t }
 
 pub read_line-requires : goal.read_line-requires
-read_line-requires c =
+read_line-requires g c =
     let s = c.args in
     let m = c.move_front-left in
     let f = c.next_start-start in
@@ -25,7 +25,7 @@ read_line-requires c =
     omega (arith, m.ensures.value, m.auto.buffer, length-drop f.result ys, length-take s.before.filled s.buffer.now)
 
 pub returns : goal.returns
-returns c =
+returns g c =
     let s = c.args in
     let n = c.next_place-end in
     let p = c.part in

@@ -6,6 +6,10 @@ use borrow.Author.Rules.{rules}
 use Rattle.stored_list.proofs.lines.read_behind.Goals as goal
 
 pub returns : goal.returns
-returns c =
-    let s = c.args in record { lower_bound = search rules; upper_bound = search rules; buffer_unchanged = take_put s.left (length s.buffer.now - s.left) s.buffer.now
-            c.read_full.new.1.0 c.requires }
+returns g c =
+    let s = c.args in record {
+      lower_bound = search rules;
+      upper_bound = search rules;
+      buffer_unchanged = take_put s.left (length s.buffer.now - s.left) s.buffer.now
+          c.read_full.new.buffer c.requires;
+    }

@@ -5,25 +5,31 @@ use Rattle.stored_list.proofs.ListLineLaws.{first_found, first_none}
 use Rattle.stored_list.proofs.lines.read_line.Goals as goal
 
 pub returns-then-end-filled : goal.returns-then-end-filled
-returns-then-end-filled c =
+returns-then-end-filled g c =
     let b = c.read_behind-filled in
     let p = c.part in
-    let n = c.next_place-end in record { first_read = (
+    let n = c.next_place-end in record {
+      first_read = (
         b.result,
         b.ensures.lower_bound,
         b.ensures.upper_bound,
         first_found b.result n.result b.new.buffer p.result.now
             c.line_at.result p.ensures n.ensures c.if-end-filled.true c.line_at.ensures,
-      ); buffer_unchanged = b.ensures.buffer_unchanged }
+      );
+      buffer_unchanged = b.ensures.buffer_unchanged;
+    }
 
 pub returns : goal.returns
-returns c =
+returns g c =
     let b = c.read_behind-filled in
     let p = c.part in
-    let n = c.next_place-end in record { first_read = (
+    let n = c.next_place-end in record {
+      first_read = (
         b.result,
         b.ensures.lower_bound,
         b.ensures.upper_bound,
         first_none b.result n.result b.new.buffer p.result.now
             c.no_line.result p.ensures n.ensures (omega (arith, c.if-end-filled.false)) c.no_line.ensures,
-      ); buffer_unchanged = b.ensures.buffer_unchanged }
+      );
+      buffer_unchanged = b.ensures.buffer_unchanged;
+    }

@@ -1,7 +1,6 @@
 -- `stored_list::are_filled` meets its contract. The loop's invariant: the answer is that from i on. Assumes nothing.
 use native.Mathlib.Omega.{arith}
 use mathlib.Core.Path.{refl, sym, ◌∙◌}
-use Prim.Native.Nat.{◌-◌}
 use Rattle.stored_list.proofs.FilledLaws.{only_over, only_end, only_other, only_step}
 use Rattle.stored_list.proofs.marks.are_filled.Goals as goal
 

@@ -2,7 +2,7 @@
 -- behind it are still to be stored at n. Assumes nothing.
 use native.Mathlib.Omega.{arith}
 use mathlib.Core.Path.{◌≡◌, refl, sym, ap, ◌∙◌}
-use Prim.Native.Nat.{◌+◌, ◌-◌, ◌<◌}
+use Prim.Native.Nat.{◌+◌, ◌<◌}
 use lib.ListN.{length, drop, set}
 use Rattle.stored_list.specs.Fields.{part_of}
 use Rattle.stored_list.specs.Numbers.{numbers_of, number_of, narrowed}

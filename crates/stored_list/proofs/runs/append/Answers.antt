@@ -2,7 +2,7 @@
 -- nothing.
 use native.Mathlib.Omega.{arith}
 use mathlib.Core.Path.{refl}
-use Prim.Native.Nat.{◌+◌, ◌-◌}
+use Prim.Native.Nat.{◌+◌}
 use lib.ListN.{drop, get_or, set, drop_of_length-le}
 use Rattle.spec.proofs.AheadLaws.{drop_one}
 use Rattle.stored_list.proofs.StoringLaws.{storing, storing_one, stored_all, stored_full}

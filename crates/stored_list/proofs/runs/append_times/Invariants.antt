@@ -1,4 +1,3 @@
-use Prim.Native.Nat.{◌-◌}
 use Rattle.stored_list.specs.Runs.{repeated}
 use Rattle.stored_list.proofs.StoringLaws.{Storing}
 use Rattle.stored_list.proofs.runs.append_times.Given as goal
