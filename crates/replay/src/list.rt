@@ -5,6 +5,7 @@ use crate::ask::KINDS;
 use crate::question::agrees;
 use crate::rows;
 use classes::byte_at;
+use std::io::Read;
 use stored_list::{
     Fault, before_first, fault_of, field, next_line, next_place, no_fault, note, number, part,
     put_runs,
@@ -100,13 +101,13 @@ fn take_line(line: &[u8], text: &mut [u8], before: State, tally: &mut [u32]) -> 
     with_fault(before, no_fault())
 }
 
-// Takes the whole list from standard input. A proved loop has to end, so it counts down from a number that no list uses up.
-pub fn replay(buffer: &mut [u8], text: &mut [u8], tally: &mut [u32]) {
+// Takes the whole list from the input. A proved loop has to end, so it counts down from a number that no list uses up.
+pub fn replay(input: &mut impl Read, buffer: &mut [u8], text: &mut [u8], tally: &mut [u32]) {
     let mut state = with_text(0);
     let mut line = before_first();
     let mut turns = u64::MAX;
     while turns > 0 {
-        line = next_line(buffer, line);
+        line = next_line(input, buffer, line);
         if line.ended {
             return;
         }

@@ -58,7 +58,7 @@ fn is_output(output: &[u8], hex: &[u8], n: usize) -> bool {
     if byte_at(hex, 0) == b'*' {
         return true;
     }
-    let mut bytes = io::buffer();
+    let mut bytes = [0u8; 4096];
     let k = decode(hex, &mut bytes);
     same(part(&bytes, 0, k), part(output, 0, n))
 }
@@ -146,7 +146,7 @@ fn is_answer(
 
 // The search of a line on buffers of m bytes and k numbers, and whether its answer is the line's, after a place was changed.
 pub fn agrees(kind: u8, line: &[u8], text: &[u8], m: usize, k: usize, fault: Fault) -> bool {
-    let mut needle = io::buffer();
+    let mut needle = [0u8; 4096];
     let w = decode(field(line, 1), &mut needle);
     let from = number(field(line, 2));
     let mut bytes = marked_bytes();

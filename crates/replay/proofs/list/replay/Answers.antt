@@ -4,4 +4,4 @@ use mathlib.Core.Path.{refl}
 use Rattle.replay.proofs.list.replay.Goals as goal
 
 pub loop-turns-init : goal.loop-turns-init
-loop-turns-init c = (refl, refl, refl)
+loop-turns-init g c = (refl, refl, refl)
