@@ -2,17 +2,21 @@
 // file with a table of levels.
 #![tactic(auto)]
 
+mod failure;
 mod input;
 mod print;
 mod table;
 
 ghost use Rattle.std.specs.Prelude.{◌≡◌, length};
 
+use crate::failure::{Reported, report};
 use crate::input::{read_text, text_buffer};
 use crate::print::print_answer;
 use crate::table::read_table;
-use libc::STDIN_FILENO;
 use plpgsql_rewriter::{plpgsql_preprocess, plpgsql_preprocess_by_levels};
+use std::env::Env;
+use std::io;
+use std::rt::Files;
 
 // What the call is lent for the numbers of the records.
 fn record_numbers() -> [u32; 5130]
@@ -40,12 +44,12 @@ fn make_call(
     }
 }
 
-// Makes the function call and prints its answer; whether all was written.
-fn rewrite(text: &[u8], has_table: bool, table: &[u8]) -> bool {
-    let mut output = io::large_buffer();
-    let mut work = io::large_buffer();
-    let mut spare = io::large_buffer();
-    let mut declared = io::large_buffer();
+// Makes the function call and prints its answer.
+fn rewrite(rt: &impl Print, text: &[u8], has_table: bool, table: &[u8]) -> io::Result<()> {
+    let mut output = [0u8; 65536];
+    let mut work = [0u8; 65536];
+    let mut spare = [0u8; 65536];
+    let mut declared = [0u8; 65536];
     let mut records = record_numbers();
     let mut answer = [0u32; 4];
     make_call(
@@ -59,26 +63,28 @@ fn rewrite(text: &[u8], has_table: bool, table: &[u8]) -> bool {
         &mut records,
         &mut answer,
     );
-    print_answer(&answer, &output)
+    print_answer(rt, &answer, &output)
 }
 
-// Standard input is read first: were it closed, the table's file would be opened in its place and read as the function.
-fn main() {
+// Reads the function and the table and prints the answer, or names on standard error what failed. Standard input is read
+// first: were it closed, the table's file would be opened in its place and read as the function.
+fn run(rt: &(impl Input + Env + Files + Print + Eprint)) -> Result<(), Reported> {
     let mut text = text_buffer();
-    let got = read_text(STDIN_FILENO, &mut text);
-    if got < 0 {
-        os::fail(b"standard input");
-        return;
+    let n = match read_text(&mut rt.reader(), &mut text) {
+        Ok(n) => n,
+        Err(error) => return Err(report(rt, "standard input", error)),
+    };
+    let mut table = [0u8; 4096];
+    let told = read_table(rt, &mut table)?;
+    let has_table = told.is_some();
+    let m = told.unwrap_or(0);
+    match rewrite(rt, &text[..n], has_table, &table[..m]) {
+        Ok(()) => Ok(()),
+        Err(error) => Err(report(rt, "standard output", error)),
     }
-    let has_table = os::arg_count() > 1;
-    let mut table = io::buffer();
-    let told = read_table(has_table, &mut table);
-    if told < 0 {
-        return;
-    }
-    let m = io::count(told, &table);
-    let n = io::count(got, &text);
-    if !rewrite(&text[..n], has_table, &table[..m]) {
-        os::fail(b"standard output");
-    }
+}
+
+// What fails is named on standard error, and the exit status is 0 all the same.
+fn main(rt: HostRuntime) {
+    let _ = run(&rt);
 }
