@@ -4,6 +4,7 @@
 // place behind the next call.
 use crate::answer::{Lent, body_agrees, function_agrees};
 use classes::byte_at;
+use std::io::Read;
 use stored_list::{
     Fault, before_first, fault_of, field, next_line, no_fault, note, number, part, put_numbers,
     put_runs,
@@ -216,8 +217,9 @@ fn take_line(
     with_fault(before, no_fault())
 }
 
-// Takes the whole list from standard input. A proved loop has to end, so it counts down from a number that no list uses up.
+// Takes the whole list from the input. A proved loop has to end, so it counts down from a number that no list uses up.
 pub fn replay(
+    input: &mut impl Read,
     buffer: &mut [u8],
     text: &mut [u8],
     table: &mut [u8],
@@ -230,7 +232,7 @@ pub fn replay(
     let mut line = before_first();
     let mut turns = u64::MAX;
     while turns > 0 {
-        line = next_line(buffer, line);
+        line = next_line(input, buffer, line);
         if line.ended {
             return;
         }

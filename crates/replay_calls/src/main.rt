@@ -7,14 +7,15 @@ mod answer;
 mod call;
 mod list;
 
+use std::io;
 use stored_list::{marked_bytes, marked_numbers, print_rows};
 
 // The names of the rows. The answers of the last one are stored wrong, so that all of them must differ.
 const NAMES: [u8; 162] =
     *b"random_bodies body_rows body_limits random_functions function_rows function_limits bodies_by_levels functions_by_levels refused_tables unknown_lines wrong_answers";
 
-fn main() {
-    let mut lines = io::large_buffer();
+fn main(rt: HostRuntime) -> io::Result<()> {
+    let mut lines = [0u8; 65536];
     // Longer than a call's longest text and than its longest result, so that both can be too long.
     let mut text = marked_bytes();
     let mut table = marked_bytes();
@@ -23,6 +24,7 @@ fn main() {
     let mut numbers = marked_numbers();
     let mut tally = [0u32; 22];
     list::replay(
+        &mut rt.stdin(),
         &mut lines,
         &mut text,
         &mut table,
@@ -31,5 +33,5 @@ fn main() {
         &mut numbers,
         &mut tally,
     );
-    print_rows(&NAMES, &tally, 11);
+    print_rows(&rt, &NAMES, &tally, 11)
 }

@@ -6,19 +6,19 @@ use mathlib.Core.Path.{refl, ◌∙◌}
 use Rattle.replay_calls.proofs.list.replay.Goals as goal
 
 pub loop-turns-init : goal.loop-turns-init
-loop-turns-init c = (refl, refl, refl, refl, refl, refl, refl)
+loop-turns-init g c = (refl, refl, refl, refl, refl, refl, refl)
 
 pub overflow_sub-turns : goal.overflow_sub-turns
-overflow_sub-turns c =
+overflow_sub-turns g c =
     let left = c.loop-turns-test.true in
     search (rules, left)
 
 pub loop-turns-smaller : goal.loop-turns-smaller
-loop-turns-smaller c =
+loop-turns-smaller g c =
     omega (arith, c.loop-turns-test.true)
 
 pub loop-turns-preserved : goal.loop-turns-preserved
-loop-turns-preserved c =
+loop-turns-preserved g c =
     let l = c.loop-turns in
     let t = c.take_line-state in (
       c.next_line-line.auto.buffer ∙ l.invariant.0,
