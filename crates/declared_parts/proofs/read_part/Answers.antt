@@ -21,14 +21,9 @@ inside c =
     omega (arith, h, between_length xs s e c.trim_end-end.ensures.lower_bound.0 (omega arith))
 
 -- the type's words are within what stands ahead of the default
-type_inside : (c : goal.After-read_type-kind) →
+type_inside : (c : goal.After-read_type-kind) → c.run_end_between-start.result + c.find_default-cut.result.rest ≤ c.trim_end-end.result →
     c.run_end_between-name_end.result + c.read_type-kind.result.to ≤ c.run_end_between-start.result + c.find_default-cut.result.head
-type_inside c =
-    let inside : c.run_end_between-start.result + c.find_default-cut.result.rest ≤ c.trim_end-end.result = let xs = c.args.text.now in
-    let s = c.run_end_between-start.result in
-    let e = c.trim_end-end.result in
-    let h : c.find_default-cut.result.rest ≤ length (part s e xs) = c.find_default-cut.ensures.head_le_rest.1 in
-    omega (arith, h, between_length xs s e c.trim_end-end.ensures.lower_bound.0 (omega arith)) in
+type_inside c inside =
     let a = c.run_end_between-name_end.result in
     let b = c.run_end_between-start.result + c.find_default-cut.result.head in
     let xs = c.args.text.now in
@@ -53,7 +48,7 @@ trim_end-value_end-requires c =
 
 pub overflow_add-result : goal.overflow_add-result
 overflow_add-result c =
-    omega (arith, type_inside (goal.at.overflow_add-result c).After-read_type-kind, c.read_type-kind.ensures.from_le_to.0, inside (goal.at.overflow_add-result c).After-find_default-cut, c.find_default-cut.ensures.head_le_rest.0, c.trim_end-end.ensures.lower_bound.1, c.requires.to_in_bounds)
+    omega (arith, type_inside (goal.at.overflow_add-result c).After-read_type-kind (inside (goal.at.overflow_add-result c).After-find_default-cut), c.read_type-kind.ensures.from_le_to.0, inside (goal.at.overflow_add-result c).After-find_default-cut, c.find_default-cut.ensures.head_le_rest.0, c.trim_end-end.ensures.lower_bound.1, c.requires.to_in_bounds)
 
 pub returns : goal.returns
 returns c =
@@ -69,7 +64,7 @@ returns c =
     let n = c.run_end_between-name.result in
     let e = c.run_end_between-name_end.result in
     let q : n + (e - n) ≡ e = omega arith in
-    let k = type_inside (goal.at.returns c).After-read_type-kind in
+    let k = type_inside (goal.at.returns c).After-read_type-kind (inside (goal.at.returns c).After-find_default-cut) in
     let g = c.find_default-cut.ensures.head_le_rest.0 in
     record {
       map_value = part_read a.text.now a.map.now a.from a.to c.run_end_between-start.result c.trim_end-end.result c.find_default-cut.result c.read_type-kind.result _ record {

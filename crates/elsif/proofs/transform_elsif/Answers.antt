@@ -23,9 +23,7 @@ sought_from c = c.find_keyword_in-found.ensures ∙ nonempty_word (ascii "ELSIF"
 -- the keyword stands at the place found
 found_at : (c : goal.In-At) →
     first keyword c.loop-at.from (marked c.args.text.now c.args.map.now) ≡ At c.in-At.at
-found_at c =
-    let sought_from : c.find_keyword_in-found.result ≡ first keyword c.loop-at.from (marked c.args.text.now c.args.map.now) = c.find_keyword_in-found.ensures ∙ nonempty_word (ascii "ELSIF") _ (omega arith) in
-    sym sought_from ∙ c.in-At.is
+found_at c = sym (c.find_keyword_in-found.ensures ∙ nonempty_word (ascii "ELSIF") _ (omega arith)) ∙ c.in-At.is
 
 -- and within the text
 within : (c : goal.In-At) →
@@ -40,12 +38,10 @@ before_length c =
     length-take-le _ (drop c.loop-at.from c.args.text.now) (omega (arith, (within c).1, length-drop c.loop-at.from c.args.text.now))
 
 -- what a turn stores
-store : (c : goal.After-slice_known-in-loop-at-2-1) →
+store : (c : goal.After-slice_known-in-loop-at-2-1) → first keyword c.loop-at.from (marked c.args.text.now c.args.map.now) ≡ At c.in-At.at →
     Turn c.args.text.now c.args.map.now c.loop-at.from c.in-At.at c.loop-at.out c.loop-at.n c.put_all-n-in-loop-at.new.out c.put_all-n-in-loop-at.result
-store c =
-    let found_at : first keyword c.loop-at.from (marked c.args.text.now c.args.map.now) ≡ At c.in-At.at = let sought_from : c.find_keyword_in-found.result ≡ first keyword c.loop-at.from (marked c.args.text.now c.args.map.now) = c.find_keyword_in-found.ensures ∙ nonempty_word (ascii "ELSIF") _ (omega arith) in
-    sym sought_from ∙ c.in-At.is in
-    elsif_turn c.args.text.now c.args.map.now c.loop-at.from c.in-At.at found_at
+store c found =
+    elsif_turn c.args.text.now c.args.map.now c.loop-at.from c.in-At.at found
     c.loop-at.out c.put_all-n.new.out c.put_all-n-in-loop-at.new.out c.loop-at.n c.put_all-n.result c.put_all-n-in-loop-at.result
     c.put_all-n.ensures.value c.put_all-n.ensures.out_after c.put_all-n-in-loop-at.ensures.value c.put_all-n-in-loop-at.ensures.out_after
 
@@ -100,5 +96,5 @@ loop-at-smaller c =
 pub loop-at-preserved : goal.loop-at-preserved
 loop-at-preserved c =
     let l = c.loop-at in
-    let s = store c in
+    let s = store c (found_at (goal.at.loop-at-preserved c).In-At) in
     ((within (goal.at.loop-at-preserved c).In-At).1, c.put_all-n-in-loop-at.auto.out ∙ (c.put_all-n.auto.out ∙ l.invariant.1), l.invariant.2 ∙ s.counted, l.invariant.3 ∙ s.stored, omega (arith, within (goal.at.loop-at-preserved c).In-At, before_length (goal.at.loop-at-preserved c).In-At, c.put_all-n.ensures.value, c.put_all-n-in-loop-at.ensures.value))

@@ -1,7 +1,7 @@
 -- `levels::read_table` meets its contract. The loop's invariant: the table says what its lines from the offset on say, behind
 -- the lines read, and the actions given are those of the lines read. Assumes nothing.
 use mathlib.Core.Path.{◌≡◌, sym, ap, ◌∙◌}
-use mathlib.Core.List.{[], ◌∷◌}
+use mathlib.Core.List.{[], ◌∷◌, List}
 use mathlib.Core.Option.{some}
 use Prim.Native.Nat.{ℕ, ◌+◌, ◌-◌, ◌≤◌}
 use native.Mathlib.Omega.{arith}
@@ -14,28 +14,19 @@ use Rattle.levels.specs.declared.GivenActions.{GivenActions}
 use Rattle.levels.proofs.AheadLaws.{line_found_lem, line_missing}
 use Rattle.levels.proofs.GivenLaws.{given_by_lem, giving_by, completed_by, said_none, said_some}
 use Rattle.levels.proofs.TurnLaws.{says_from, says_start, says_end, says_malformed, line_fits, says_repeated, says_on}
+use Rattle.levels.specs.declared.LineRead.{LineRead}
 use Rattle.levels.proofs.read_table.Goals as goal
-use Rattle.levels.proofs.read_table.Goals.{After-read_line-line, In-Line, After-given_action-before}
+use Rattle.levels.proofs.read_table.Goals.{In-Line, After-given_action-before}
 
--- the line in front at the loop's offset
-ahead_read : (c : goal.After-read_line-line) →
-    c.read_line-line.result ≡ line_ahead (drop c.loop-at.at c.args.table.now)
-ahead_read c =
-    let xs = c.args.table.now in
-    let at = c.loop-at.at in
-    let h : c.read_line-line.result ≡ line_ahead (take (length xs - at) (drop at xs)) = c.read_line-line.ensures in
-    rw rest_of at h
+-- the line in front at an offset
+line_at : (xs : List ℕ) (at : ℕ) (r : LineRead) → r ≡ line_ahead (take (length xs - at) (drop at xs)) → r ≡ line_ahead (drop at xs)
+line_at xs at r h = rw rest_of at h
 
 -- what it says, and its length
 lined : (c : goal.In-Line) →
     let e = entry c.in-Line.level c.in-Line.action in
     (ahead line_text all_entries (drop c.loop-at.at c.args.table.now) ≡ some e) × (c.in-Line.end ≡ length (line_text e))
-lined c =
-    let ahead_read : c.read_line-line.result ≡ line_ahead (drop c.loop-at.at c.args.table.now) = let xs = c.args.table.now in
-    let at = c.loop-at.at in
-    let h : c.read_line-line.result ≡ line_ahead (take (length xs - at) (drop at xs)) = c.read_line-line.ensures in
-    rw rest_of at h in
-    line_found_lem _ _ _ _ (sym ahead_read ∙ c.in-Line.is)
+lined c = line_found_lem _ _ _ _ (sym (line_at c.args.table.now c.loop-at.at _ c.read_line-line.ensures) ∙ c.in-Line.is)
 
 -- the action that its level has by then
 had : (c : goal.After-given_action-before) →
@@ -56,7 +47,7 @@ loop-at-init c = ([], omega arith, c.none_given-g.ensures, says_start c.args.tab
 
 pub returns-in_default : goal.returns-in_default
 returns-in_default c =
-    let malformed = line_missing _ (sym (ahead_read (goal.at.returns-in_default c).After-read_line-line) ∙ c.in_default.is) in
+    let malformed = line_missing _ (sym (line_at c.args.table.now c.loop-at.at _ c.read_line-line.ensures) ∙ c.in_default.is) in
     sym (c.loop-at.invariant.3 ∙ says_malformed _ c.loop-at.invariant.0 _ c.loop-at-test.true malformed)
 
 pub returns-in_default-before : goal.returns-in_default-before

@@ -1,9 +1,10 @@
 -- `quotes::next_item` meets its contract. The loop's invariant says that the parts from `from` on are those from `at`
 -- on: an empty part is passed over. `comma`, `within` and `lead` say where the part ends and where its W end. Assumes
 -- nothing.
+use mathlib.Core.List.{List}
 use native.Mathlib.Omega.{arith}
 use mathlib.Core.Path.{◌≡◌, refl, ◌∙◌}
-use Prim.Native.Nat.{◌+◌, ◌-◌, ◌≤◌}
+use Prim.Native.Nat.{◌+◌, ◌-◌, ◌≤◌, ℕ}
 use lib.ListN.{length, take, drop}
 use Rattle.spec.specs.Bytes.{is_w}
 use Rattle.spec.specs.Lists.{take_while}
@@ -17,20 +18,16 @@ use Rattle.quotes.proofs.next_item.Goals as goal
 use Rattle.quotes.proofs.next_item.Goals.{After-comma_at, After-run_end}
 
 -- the first comma from `at` on
-comma : (c : goal.After-comma_at) →
-    c.comma_at.result ≡ comma_at (drop c.loop-at.at (marked c.args.text.now c.args.map.now))
-comma c =
-    let xs = c.args.text.now in
-    let ms = c.args.map.now in
-    let at = c.loop-at.at in
-    let h : c.comma_at.result ≡ place_or (first comma_here 0 (marked (take (length xs - at) (drop at xs)) (take (length ms - at) (drop at ms)))) (length (take (length xs - at) (drop at xs))) = c.comma_at.ensures in
-    (simp rest_of at h) ∙ comma_part xs ms at
+comma : (xs ms : List ℕ) (at n : ℕ)
+    → n ≡ place_or (first comma_here 0 (marked (take (length xs - at) (drop at xs)) (take (length ms - at) (drop at ms)))) (length (take (length xs - at) (drop at xs)))
+    → n ≡ comma_at (drop at (marked xs ms))
+comma xs ms at n h = (simp rest_of at h) ∙ comma_part xs ms at
 
 -- it stands within the text
 within : (c : goal.After-comma_at) →
     c.loop-at.at + c.comma_at.result ≤ length c.args.text.now
 within c =
-    comma_within c.args.text.now c.args.map.now c.loop-at.at c.comma_at.result (omega arith) (comma c)
+    comma_within c.args.text.now c.args.map.now c.loop-at.at c.comma_at.result (omega arith) (comma c.args.text.now c.args.map.now c.loop-at.at c.comma_at.result c.comma_at.ensures)
 
 -- W in front of it, which ends at it or before
 white : (c : goal.After-run_end) → let at = c.loop-at.at in c.run_end.result ≡ length (take_while is_w (take (at + c.comma_at.result - at) (drop at c.args.text.now)))
@@ -38,13 +35,9 @@ white c = omega (arith, c.run_end.ensures.value)
 
 lead : (c : goal.After-run_end) → c.run_end.result ≤ c.comma_at.result
 lead c =
-    let comma : c.comma_at.result ≡ comma_at (drop c.loop-at.at (marked c.args.text.now c.args.map.now)) = let xs = c.args.text.now in
-    let ms = c.args.map.now in
-    let at = c.loop-at.at in
-    let h : c.comma_at.result ≡ place_or (first comma_here 0 (marked (take (length xs - at) (drop at xs)) (take (length ms - at) (drop at ms)))) (length (take (length xs - at) (drop at xs))) = c.comma_at.ensures in
-    (simp rest_of at h) ∙ comma_part xs ms at in
     let a = c.args in
-    lead_within a.text.now a.map.now c.loop-at.at c.comma_at.result c.run_end.result (omega arith) comma (white c)
+    let found = comma a.text.now a.map.now c.loop-at.at c.comma_at.result c.comma_at.ensures in
+    lead_within a.text.now a.map.now c.loop-at.at c.comma_at.result c.run_end.result (omega arith) found (white c)
 
 pub loop-at-init : goal.loop-at-init
 loop-at-init c = (omega arith, refl)
@@ -80,7 +73,7 @@ pub returns-then-start-end : goal.returns-then-start-end
 returns-then-start-end c =
     let l = c.loop-at in
     let a = c.args in
-    item_found a.text.now a.map.now l.at c.comma_at.result c.run_end.result (omega arith) (comma (goal.at.returns-then-start-end c).After-comma_at) (white (goal.at.returns-then-start-end c).After-run_end) c.run_start-k.result (start_whole is_w _ _ c.run_start-k.ensures.value).0 a.from l.invariant.1 l.invariant.0 c.if-start-end.true
+    item_found a.text.now a.map.now l.at c.comma_at.result c.run_end.result (omega arith) (comma a.text.now a.map.now l.at c.comma_at.result c.comma_at.ensures) (white (goal.at.returns-then-start-end c).After-run_end) c.run_start-k.result (start_whole is_w _ _ c.run_start-k.ensures.value).0 a.from l.invariant.1 l.invariant.0 c.if-start-end.true
 
 pub overflow_add-at : goal.overflow_add-at
 overflow_add-at c = omega (arith, within (goal.at.overflow_add-at c).After-comma_at)
@@ -92,7 +85,7 @@ pub loop-at-preserved : goal.loop-at-preserved
 loop-at-preserved c =
     let l = c.loop-at in
     let a = c.args in
-    (omega arith, l.invariant.1 ∙ item_skip a.text.now a.map.now l.at c.comma_at.result c.run_end.result (omega arith) (comma (goal.at.loop-at-preserved c).After-comma_at) (white (goal.at.loop-at-preserved c).After-run_end) (omega (arith, c.if-start-end.false)))
+    (omega arith, l.invariant.1 ∙ item_skip a.text.now a.map.now l.at c.comma_at.result c.run_end.result (omega arith) (comma a.text.now a.map.now l.at c.comma_at.result c.comma_at.ensures) (white (goal.at.loop-at-preserved c).After-run_end) (omega (arith, c.if-start-end.false)))
 
 pub returns : goal.returns
 returns c =

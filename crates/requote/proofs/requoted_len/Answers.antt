@@ -1,41 +1,39 @@
 -- `requote::requoted_len` meets its contract. The loop's invariant says that n and the requoted length of the text from
 -- the offset on make up the whole length. `turn` says what the span there takes; a byte that opens nothing is such a
 -- span by `length_plain`. Assumes nothing.
+use Rattle.spec.specs.declared.Span.{Span}
+use mathlib.Core.List.{List}
 use native.Mathlib.Omega.{arith}
 use mathlib.Core.Path.{◌≡◌, sym, ap, ◌∙◌}
-use Prim.Native.Nat.{◌+◌, ◌-◌}
+use Prim.Native.Nat.{◌+◌, ◌-◌, ℕ, ◌<◌}
 use lib.ListN.{length, take, drop, length-drop}
 use lib.Seq.{length-take-le}
 use Rattle.spec.proofs.AheadLaws.{rest_of}
 use Rattle.spec.proofs.RequotedLength.{requoted_twice}
 use Rattle.spec.specs.Requote.{requoted_length}
-use Rattle.spec.specs.Spans.{span_at}
+use Rattle.spec.specs.Spans.{span_at, span_len}
 use Rattle.requote.proofs.RequoteLaws.{length_turn, length_plain, length_over, inside_within}
 use Rattle.spans.proofs.StepLaws.{Stepped, stepped}
 use Rattle.requote.proofs.requoted_len.Goals as goal
 use Rattle.requote.proofs.requoted_len.Goals.{After-span_len, After-requoted_span_len-n}
 
--- the span at the offset, and the offset behind it
+-- the span at an offset, and the offset behind it
+turn_at : (xs : List ℕ) (at : ℕ) (s : Span) (n : ℕ) → at < length xs → s ≡ span_at (take (length xs - at) (drop at xs)) → n ≡ span_len s
+    → Stepped xs at s (at + n)
+turn_at xs at s n h front long = stepped xs at s (at + n) h (rw rest_of at front) (ap (λ k. at + k) long)
+
 turn : (c : goal.After-span_len) →
     Stepped c.args.text.now c.loop-at.at c.next_span-s.result (c.loop-at.at + c.span_len.result)
-turn c =
-    let xs = c.args.text.now in
-    let at = c.loop-at.at in
-    let front : c.next_span-s.result ≡ span_at (take (length xs - at) (drop at xs)) = c.next_span-s.ensures in
-    stepped xs at c.next_span-s.result (at + c.span_len.result) (omega arith) (rw rest_of at front) (ap (λ n. at + n) c.span_len.ensures)
+turn c = turn_at c.args.text.now c.loop-at.at c.next_span-s.result c.span_len.result (omega arith) c.next_span-s.ensures c.span_len.ensures
 
 -- what is counted behind the span
 added : (c : goal.After-requoted_span_len-n) →
     let xs = c.args.text.now in
     requoted_length xs ≡ c.loop-at.n + c.requoted_span_len-n.result + requoted_length (drop (c.loop-at.at + c.span_len.result) xs)
 added c =
-    let turn : Stepped c.args.text.now c.loop-at.at c.next_span-s.result (c.loop-at.at + c.span_len.result) = let xs = c.args.text.now in
-    let at = c.loop-at.at in
-    let front : c.next_span-s.result ≡ span_at (take (length xs - at) (drop at xs)) = c.next_span-s.ensures in
-    stepped xs at c.next_span-s.result (at + c.span_len.result) (omega arith) (rw rest_of at front) (ap (λ n. at + n) c.span_len.ensures) in
     let xs = c.args.text.now in
     let at = c.loop-at.at in
-    let t = turn in
+    let t = turn_at xs at c.next_span-s.result c.span_len.result (omega arith) c.next_span-s.ensures c.span_len.ensures in
     omega (arith, c.loop-at.invariant.1, c.requoted_span_len-n.ensures, length_turn xs at _ _ t)
 
 pub loop-at-init : goal.loop-at-init

@@ -24,15 +24,10 @@ places c =
     (omega (arith, c.greater-b.ensures), omega (arith, c.greater-b.ensures, c.requires), omega (arith, c.greater-d.ensures), omega (arith, c.greater-d.ensures, c.place_or.ensures, c.requires))
 
 -- their maps are long enough
-mapped : (c : goal.After-varsmap-1) →
+mapped : (c : goal.After-varsmap-1) → (c.args.s + 6 ≤ c.greater-b.result) × (c.greater-b.result ≤ length c.args.text.now) × (c.args.i + 4 ≤ c.greater-d.result) × (c.greater-d.result ≤ length c.args.text.now) →
     (length (take (c.greater-b.result - (c.args.s + 6)) (drop (c.args.s + 6) c.args.text.now)) ≤ length (take (c.greater-b.result - (c.args.s + 6)) (drop (c.args.s + 6) c.args.map.now))) × (length (take (c.greater-d.result - (c.args.i + 4)) (drop (c.args.i + 4) c.args.text.now)) ≤ length (take (c.greater-d.result - (c.args.i + 4)) (drop (c.args.i + 4) c.args.map.now)))
-mapped c =
-    let places : (c.args.s + 6 ≤ c.greater-b.result) × (c.greater-b.result ≤ length c.args.text.now) × (c.args.i + 4 ≤ c.greater-d.result) × (c.greater-d.result ≤ length c.args.text.now) = let a = c.args in
-    let n = length a.text.now in
-    let p = place_bound a.from (n - 1) n c.requires.from_in_bounds (omega arith) in
-    (omega (arith, c.greater-b.ensures), omega (arith, c.greater-b.ensures, c.requires), omega (arith, c.greater-d.ensures), omega (arith, c.greater-d.ensures, c.place_or.ensures, c.requires)) in
+mapped c p =
     let a = c.args in
-    let p = places in
     (part_mapped a.text.now a.map.now (a.s + 6) c.greater-b.result c.requires.text_in_bounds p.0 p.1, part_mapped a.text.now a.map.now (a.i + 4) c.greater-d.result c.requires.text_in_bounds p.2 p.3)
 
 pub overflow_add-a : goal.overflow_add-a
@@ -90,13 +85,13 @@ slice_bounds-varsmap-end c =
 
 pub pairs_up-requires : goal.pairs_up-requires
 pairs_up-requires c =
-    let all = mapped c in
+    let all = mapped c (places (goal.at.pairs_up-requires c).After-greater-d) in
     record { cols_in_bounds = all.0; vars_in_bounds = all.1 }
 
 pub put_pairs-requires : goal.put_pairs-requires
 put_pairs-requires c =
     let a = c.args in
-    let m = mapped (goal.at.put_pairs-requires c).After-varsmap-1 in
+    let m = mapped (goal.at.put_pairs-requires c).After-varsmap-1 (places (goal.at.put_pairs-requires c).After-greater-d) in
     let p = places (goal.at.put_pairs-requires c).After-greater-d in
     record {
       cols_in_bounds = m.0;
