@@ -1,5 +1,5 @@
 // The text as a struct that holds its slice, and the searches as its methods: each takes the struct apart, and calls the
-// search of the same name on the slice. The borrow checker covers no function over such a struct, so each is proved by hand.
+// search of the same name on the slice.
 #![tactic(auto)]
 
 ghost use Rattle.std.specs.Prelude.{◌≡◌, []};

@@ -98,13 +98,13 @@ in_comment_lem : record_of "a b -- NOT NULL\n" ≡ one_record "a" "b --" none fa
 unfolding tabled
 in_comment_lem = refl
 
-behind-comment : record_of "a /*b*/ CONSTANT int" ≡ one_record "a" "/*b*/ CONSTANT int" none false false
+behind_comment : record_of "a /*b*/ CONSTANT int" ≡ one_record "a" "/*b*/ CONSTANT int" none false false
 unfolding tabled
-behind-comment = refl
+behind_comment = refl
 
-ahead-of-comment : record_of "a int NOT NULL /*b*/" ≡ one_record "a" "int NOT NULL /*b*/" none false false
+ahead_of_comment : record_of "a int NOT NULL /*b*/" ≡ one_record "a" "int NOT NULL /*b*/" none false false
 unfolding tabled
-ahead-of-comment = refl
+ahead_of_comment = refl
 
 in_quotes : record_of "\"a CONSTANT b\" int" ≡ one_record "\"a" "b\" int" none true false
 unfolding tabled

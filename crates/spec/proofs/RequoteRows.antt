@@ -30,9 +30,9 @@ unfolding tabled
 others = refl
 
 -- the empty text takes an empty buffer
-empty-text : requote_answer [] [] ≡ Count 0
+empty_text : requote_answer [] [] ≡ Count 0
 unfolding tabled
-empty-text = refl
+empty_text = refl
 
 -- a buffer of just that length, and one byte less
 just_enough : requote_answer (ascii "$$'$$") (replicate 4 0) ≡ Count 4
@@ -43,9 +43,9 @@ one_less : requote_answer (ascii "$$'$$") (replicate 3 0) ≡ Refused BufferTooS
 unfolding tabled
 one_less = refl
 
-one-less-kept : requote_exit (ascii "$$'$$") (replicate 3 7) ≡ replicate 3 7
+one_less_kept : requote_exit (ascii "$$'$$") (replicate 3 7) ≡ replicate 3 7
 unfolding tabled
-one-less-kept = refl
+one_less_kept = refl
 
 -- behind the result nothing is written
 past_kept : requote_exit (ascii "$$'$$") (replicate 6 7) ≡ ascii "''''" ++ replicate 2 7
