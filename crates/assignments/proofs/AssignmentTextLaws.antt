@@ -1,4 +1,5 @@
 -- A statement with its first live `:=` at an offset: the parts of its rewriting. Assumes nothing.
+use Rattle.std.specs.Prelude.{Some}
 use mathlib.Core.Path.{◌≡◌, refl, sym, ap, ◌∙◌}
 use mathlib.Core.Bool.{true, false, cond, not, ◌&&◌}
 use mathlib.Core.List.{List, ◌++◌, reverse-reverse}
@@ -17,7 +18,6 @@ use Rattle.spec.specs.Map.{Marked, bytes, lives, front_live, of_byte}
 use Rattle.spec.specs.Search.{first, starts, needle_here}
 use Rattle.spec.specs.Assignments.{assign_here, right_side, starts_name, assignment_at}
 use Rattle.spec.specs.Parts.{trim}
-use Rattle.spec.specs.declared.Found.TheVariants.{At}
 use Rattle.spec.proofs.Choice.{and_right}
 use Rattle.spec.proofs.FirstLaws.{first_least}
 use Rattle.spec.proofs.WalkLaws.{starts_exact}
@@ -29,7 +29,7 @@ use Rattle.runs.proofs.RunLaws.{start_whole, trim_bytes}
 use Rattle.assignments.specs.Written.{set_text, Writes}
 
 -- a `:=` that is found stands within the text
-pub assign_inside : (t : List Marked) (i : ℕ) → first assign_here 0 t ≡ At i → i + 2 ≤ length t
+pub assign_inside : (t : List Marked) (i : ℕ) → first assign_here 0 t ≡ Some i → i + 2 ≤ length t
 unfolding assign_here needle_here
 assign_inside t i e =
     let l = first_least assign_here t 0 i e in
@@ -98,7 +98,7 @@ module _ (xs : List ℕ) (t : List Marked) (e : bytes t ≡ xs) (i m s : ℕ) (w
   abbrev right : List Marked
   right = right_side (drop (i + 2) t)
 
-  parts : assignment_at (At i) t
+  parts : assignment_at (Some i) t
       ≡ cond (starts_name name && not (is_empty right)) (take s t ++ (lives (ascii "SET ") ++ (name ++ (lives (ascii " = ") ++ right)))) t
   unfolding assignment_at
   parts =
@@ -113,7 +113,7 @@ module _ (xs : List ℕ) (t : List Marked) (e : bytes t ≡ xs) (i m s : ℕ) (w
   pub name_bytes : bytes name ≡ take (m - s) (drop s xs)
   name_bytes = bytes_take (m - s) (drop s t) ∙ ap (λ (l : List ℕ). take (m - s) l) (bytes_drop s t ∙ ap (λ (l : List ℕ). drop s l) e)
 
-  pub no_name : starts_name name ≡ false → bytes (assignment_at (At i) t) ≡ xs
+  pub no_name : starts_name name ≡ false → bytes (assignment_at (Some i) t) ≡ xs
   no_name h = ap bytes (parts ∙ simp h) ∙ e
 
   -- the right side has the bytes r
@@ -121,12 +121,12 @@ module _ (xs : List ℕ) (t : List Marked) (e : bytes t ≡ xs) (i m s : ℕ) (w
     empty : is_empty right ≡ eqb (length r) 0
     empty = empty_length right ∙ ap (λ (k : ℕ). eqb k 0) (sym (bytes_length right) ∙ ap length hr)
 
-    pub no_right : length r ≡ 0 → bytes (assignment_at (At i) t) ≡ xs
+    pub no_right : length r ≡ 0 → bytes (assignment_at (Some i) t) ≡ xs
     no_right h = ap bytes (parts ∙ simp (n, empty, eq-eqb (length r) 0 h)) ∙ e
 
-    pub set_bytes : (length r ≡ 0 → ⊥) → bytes (assignment_at (At i) t) ≡ set_text (take s xs) (take (m - s) (drop s xs)) r
+    pub set_bytes : (length r ≡ 0 → ⊥) → bytes (assignment_at (Some i) t) ≡ set_text (take s xs) (take (m - s) (drop s xs)) r
     set_bytes h =
-        let q : assignment_at (At i) t ≡ take s t ++ (lives (ascii "SET ") ++ (name ++ (lives (ascii " = ") ++ right))) = parts ∙ simp (n, empty, ne_eqb (length r) 0 h) in
+        let q : assignment_at (Some i) t ≡ take s t ++ (lives (ascii "SET ") ++ (name ++ (lives (ascii " = ") ++ right))) = parts ∙ simp (n, empty, ne_eqb (length r) 0 h) in
         ap bytes q
         ∙ rw (
           bytes_append (take s t) (lives (ascii "SET ") ++ (name ++ (lives (ascii " = ") ++ right))),

@@ -1,8 +1,8 @@
 -- Pass 3 statement by statement: what is left from an offset on, a turn of the loop, and one statement. Assumes nothing.
+use Rattle.std.specs.Prelude.{Option, Some, None, Ok}
 use mathlib.Core.Path.{◌≡◌, refl, sym, ap, ◌∙◌}
 use mathlib.Core.Bool.{not, ◌&&◌}
 use mathlib.Core.List.{List, [], ◌∷◌, ◌++◌, reverse}
-use mathlib.Core.Option.{Option, none, some}
 use Prim.Native.Nat.{ℕ, ◌+◌, ◌-◌, ◌≤◌}
 use native.Mathlib.Numerals.{add-one}
 use native.Mathlib.Omega.{arith}
@@ -17,8 +17,6 @@ use Rattle.spec.specs.Map.{Marked, marked, live, bytes, lives, of_byte}
 use Rattle.spec.specs.Search.{first, byte_here, pieces}
 use Rattle.spec.specs.Outcome.{qualified_target, Outcome, accepted, refused, ◌⊕◌}
 use Rattle.spec.specs.Assignments.{Target, assign_here, right_side, starts_name, assignment_at, assignment, statement_target, checked_statement, statement, join_statements, assignments}
-use Rattle.spec.specs.declared.Found.{Found}
-use Rattle.spec.specs.declared.Found.TheVariants.{At, Nothing}
 use Rattle.spec.proofs.Choice.{cond_case}
 use Rattle.spec.proofs.JoinedPieces.{pieces_cons}
 use Rattle.spec.proofs.LengthLaws.{right_le}
@@ -26,18 +24,17 @@ use Rattle.spec.proofs.ListLaws.{while_sum, drop_while_le}
 use Rattle.spec.proofs.MapLaws.{marked_bytes}
 use Rattle.spec.proofs.WalkLaws.{pieces_at, pieces_cut, pieces_last}
 use Rattle.output.specs.Passes.{answer_from, LeavesFrom}
-use Rattle.output.specs.declared.Pass.TheVariants.{Done}
 use Rattle.output.proofs.OutcomeLaws.{Turn, turn_none, turn_both, turn_front}
 use Rattle.output.proofs.StoreLaws.{sets_append}
 use Rattle.targets.specs.Tells.{Tells}
-use Rattle.targets.specs.declared.TargetFound.TheVariants as target
+use Rattle.targets.proofs.TargetNameLaws.{places}
 
 -- ---- a turn of the loop
 
 -- a statement and its `;` are written
 pub statement_turn : (whole o rest : Outcome (List Marked)) (first out out₁ out₂ : List ℕ) (n m n₂ : ℕ)
     → Turn first 0 whole out n (o ⊕ (accepted (live 59 ∷ []) ⊕ rest))
-    → Done m ≡ answer_from n o
+    → Ok m ≡ answer_from n o
     → LeavesFrom n o out out₁
     → n₂ ≡ m + 1
     → out₂ ≡ set out₁ m 59
@@ -62,13 +59,13 @@ abbrev pub left_from : List Marked → ℕ → Outcome (List Marked)
 left_from t i = join_statements (pieces_at (byte_here 59) t i)
 
 module _ (t : List Marked) (i : ℕ) where
-  pub left_cut : (j : ℕ) → first (byte_here 59) i t ≡ At j
+  pub left_cut : (j : ℕ) → first (byte_here 59) i t ≡ Some j
       → left_from t i ≡ statement (take (j - i) (drop i t)) ⊕ (accepted (live 59 ∷ []) ⊕ left_from t (j + 1))
   left_cut j e =
       ap join_statements (pieces_cut (byte_here 59) t i j e)
       ∙ join_cut (take (j - i) (drop i t)) (pieces_at (byte_here 59) t (j + 1)) (pieces_cons (byte_here 59) (reverse (take (j + 1) t)) (drop (j + 1) t))
 
-  pub left_last : first (byte_here 59) i t ≡ Nothing → left_from t i ≡ statement (drop i t)
+  pub left_last : first (byte_here 59) i t ≡ None → left_from t i ≡ statement (drop i t)
   unfolding join_statements
   left_last e = ap join_statements (pieces_last (byte_here 59) t i e)
 
@@ -85,7 +82,7 @@ empty_marked [] ms h = refl
 empty_marked (x ∷ xs) ms h = absurd (omega arith)
 
 module _ (xs ms : List ℕ) where
-  pub told_qualified : (a k b m : ℕ) → Tells (marked xs ms) (statement_target (marked xs ms)) (target.At a k b m)
+  pub told_qualified : (a k b m : ℕ) → Tells (marked xs ms) (statement_target (marked xs ms)) (Some (places a k b m))
       → statement (marked xs ms) ≡ refused (qualified_target (take k (drop a xs)) (take m (drop b xs)))
   unfolding statement checked_statement
   told_qualified a k b m w =
@@ -99,7 +96,7 @@ module _ (xs ms : List ℕ) where
       )
       refl
 
-  pub told_none : Tells (marked xs ms) (statement_target (marked xs ms)) target.Nothing → statement (marked xs ms) ≡ accepted (assignment (marked xs ms))
+  pub told_none : Tells (marked xs ms) (statement_target (marked xs ms)) None → statement (marked xs ms) ≡ accepted (assignment (marked xs ms))
   unfolding statement checked_statement
   told_none w = rw w.target refl
 
@@ -114,10 +111,10 @@ target_written q n d d₁ d₂ d₃ a b p ha r hb s h =
     rw (w, sets-eq v d 0 (omega arith)) (take_at v (drop (0 + length v) d) (length q + 1 + length n) k)
 
 -- an assignment adds 7 bytes at most
-assignment_long : (f : Found) (t : List Marked) → length (assignment_at f t) ≤ length t + 7
+assignment_long : (f : Option ℕ) (t : List Marked) → length (assignment_at f t) ≤ length t + 7
 unfolding assignment_at lives
-assignment_long Nothing t = omega arith
-assignment_long (At i) t =
+assignment_long None t = omega arith
+assignment_long (Some i) t =
     let b = drop_while (of_byte is_w) (reverse (take i t)) in
     let name = take_while (of_byte is_ident) b in
     let front = drop_while (of_byte is_ident) b in
@@ -141,12 +138,12 @@ assignment_long (At i) t =
     ))
     (λ _. omega arith)
 
-pub statement_long : (t : List Marked) (n m : ℕ) → Done m ≡ answer_from n (statement t) → m ≤ n + length t + 7
+pub statement_long : (t : List Marked) (n m : ℕ) → Ok m ≡ answer_from n (statement t) → m ≤ n + length t + 7
 unfolding statement checked_statement assignment
 statement_long t n m = go (statement_target t)
   where
-    go : (r : Option Target) → Done m ≡ answer_from n (checked_statement r t) → m ≤ n + length t + 7
-    go none e =
+    go : (r : Option Target) → Ok m ≡ answer_from n (checked_statement r t) → m ≤ n + length t + 7
+    go None e =
         let c : m ≡ n + length (assignment_at (first assign_here 0 t) t) = cc in
         omega (arith, assignment_long (first assign_here 0 t) t)
-    go (some r) e = let z : ◌≡◌ {A = ℕ} 0 1 = cc in absurd (omega arith)
+    go (Some r) e = let z : ◌≡◌ {A = ℕ} 0 1 = cc in absurd (omega arith)

@@ -1,21 +1,19 @@
 // Pass 3: assignments, statement by statement, and refusal 4.
 #![tactic(auto)]
 
-ghost use Rattle.std.specs.Prelude.{◌≡◌, List, ◌∷◌, ◌++◌, ◌+◌, ◌^◌, ◌≤◌, ◌<◌, length, take, drop};
+ghost use Rattle.std.specs.Prelude.{◌≡◌, List, ◌∷◌, ◌++◌, ◌+◌, ◌^◌, ◌≤◌, ◌<◌, length, take, drop, Some, Err};
 ghost use Rattle.spec.specs.Map.{Marked, marked, bytes};
 ghost use Rattle.spec.specs.Assignments.{right_side, starts_name, assignment_at, assignment, statement, assignments};
-ghost use Rattle.spec.specs.declared.Found.TheVariants.{At};
 ghost use Rattle.output.specs.Passes.{pass_answer, Leaves, answer_from, LeavesFrom};
-ghost use Rattle.output.specs.declared.Pass.TheVariants.{Refused};
 ghost use Rattle.spec.specs.declared.Refusal.TheVariants.{QualifiedTarget};
 ghost use Rattle.assignments.specs.Written.{set_text, Writes};
 
 use classes::{byte_at, in_range, is_ident_byte};
-use output::{Pass, put, put_all};
+use output::{put, put_all};
 use runs::{Set, run_start, trim};
 use scanner::{find_byte_in, find_str_in};
-use spec::{Found, Refusal};
-use targets::{TargetFound, qualified_assignment_target};
+use spec::Refusal;
+use targets::qualified_assignment_target;
 
 // A right side: without W, then without `;` at its end, then without W.
 fn right_side<'a>(text: &'a [u8]) -> &'a [u8]
@@ -54,7 +52,7 @@ fn put_set(out: &mut [u8], n: usize, front: &[u8], name: &[u8], right: &[u8]) ->
 fn put_assignment(out: &mut [u8], n: usize, statement: &[u8], at: usize) -> usize
     requires at_in_bounds { at + 2 ≤ length statement.now }
     requires statement_bound { n + length statement.now + 5 < 2 ^ 63 }
-    ensures { (t : List Marked) → bytes t ≡ statement.now → Writes (bytes (assignment_at (At at) t)) n out.old result out.new }
+    ensures { (t : List Marked) → bytes t ≡ statement.now → Writes (bytes (assignment_at (Some at) t)) n out.old result out.new }
 {
     let name_end = run_start(statement, Set::W, at);
     let name_start = run_start(statement, Set::Ident, name_end);
@@ -78,30 +76,37 @@ fn rewrite_assignment(out: &mut [u8], n: usize, statement: &[u8], map: &[u8]) ->
 {
     let found = find_str_in(statement, map, b":=", 0);
     match found {
-        Found::At(at) => put_assignment(out, n, statement, at),
-        Found::Nothing => put_all(out, n, statement),
+        Some(at) => put_assignment(out, n, statement, at),
+        None => put_all(out, n, statement),
     }
 }
 
 // Refusal 4: `q.n` at the front of the output, q the k bytes of the statement from a on, n the m bytes from b on.
-fn put_qualified(out: &mut [u8], statement: &[u8], a: usize, k: usize, b: usize, m: usize) -> Pass
+fn put_qualified(
+    out: &mut [u8],
+    statement: &[u8],
+    a: usize,
+    k: usize,
+    b: usize,
+    m: usize,
+) -> Result<usize, Refusal>
     requires b_value { b ≡ a + k + 1 }
     requires m_in_bounds { b + m ≤ length statement.now }
     requires statement_in_bounds { length statement.now ≤ length out.old }
-    ensures value { result ≡ Refused (QualifiedTarget k (k + 1 + m)) }
+    ensures value { result ≡ Err (QualifiedTarget k (k + 1 + m)) }
     ensures out_after { take (k + 1 + m) out.new ≡ take k (drop a statement.now) ++ (46 ∷ take m (drop b statement.now)) }
 {
     let p = put_all(out, 0, &statement[a..a + k]);
     let q = put(out, p, b'.');
     let end = put_all(out, q, &statement[b..b + m]);
-    Pass::Refused(Refusal::QualifiedTarget {
+    Err(Refusal::QualifiedTarget {
         qualifier: k,
         length: end,
     })
 }
 
 // One statement, checked before it is rewritten; n bytes of the result are written before it.
-fn put_statement(out: &mut [u8], n: usize, text: &[u8], map: &[u8]) -> Pass
+fn put_statement(out: &mut [u8], n: usize, text: &[u8], map: &[u8]) -> Result<usize, Refusal>
     requires text_bound { n + length text.now + 5 < 2 ^ 63 }
     requires text_in_bounds { length text.now ≤ length out.old }
     ensures value { result ≡ answer_from n (statement (marked text.now map.now)) }
@@ -109,29 +114,23 @@ fn put_statement(out: &mut [u8], n: usize, text: &[u8], map: &[u8]) -> Pass
 {
     // An empty statement has neither a target nor a name: bodies of many `;` stay quick.
     if text.len() == 0 {
-        return Pass::Done(n);
+        return Ok(n);
     }
-    let target = qualified_assignment_target(text, map);
-    match target {
-        TargetFound::At {
-            qualifier_start,
-            qualifier_len,
-            name_start,
-            name_len,
-        } => put_qualified(
+    match qualified_assignment_target(text, map) {
+        Some(p) => put_qualified(
             out,
             text,
-            qualifier_start,
-            qualifier_len,
-            name_start,
-            name_len,
+            p.qualifier_start,
+            p.qualifier_len,
+            p.name_start,
+            p.name_len,
         ),
-        TargetFound::Nothing => Pass::Done(rewrite_assignment(out, n, text, map)),
+        None => Ok(rewrite_assignment(out, n, text, map)),
     }
 }
 
 // The text with its assignments rewritten, as far as `out` reaches; or refusal 4.
-pub fn transform_assignments(text: &[u8], map: &[u8], out: &mut [u8]) -> Pass
+pub fn transform_assignments(text: &[u8], map: &[u8], out: &mut [u8]) -> Result<usize, Refusal>
     requires text_len_bound { length text.now ≤ 65536 }
     requires text_in_bounds { length text.now ≤ length map.now }
     requires text_in_bounds_2 { length text.now ≤ length out.old }
@@ -142,11 +141,11 @@ pub fn transform_assignments(text: &[u8], map: &[u8], out: &mut [u8]) -> Pass
     let mut from: usize = 0;
     loop {
         let found = find_byte_in(text, map, b';', from);
-        let Found::At(end) = found else {
+        let Some(end) = found else {
             return put_statement(out, n, &text[from..], &map[from..]);
         };
         let pass = put_statement(out, n, &text[from..end], &map[from..end]);
-        let Pass::Done(m) = pass else {
+        let Ok(m) = pass else {
             return pass;
         };
         n = put(out, m, b';');

@@ -7,107 +7,81 @@ ghost use Rattle.spec.specs.Map.{Marked, bytes};
 ghost use Rattle.spec.specs.Assignments.{lone_equals};
 
 // Whether lo <= b <= hi.
+#[tactic(auto, unfolding(spec::specs::Bytes::within))]
 pub fn in_range(lo: u8, hi: u8, b: u8) -> bool
     ensures { result ≡ within lo hi b }
 {
-    if lo <= b { b <= hi } else { false }
+    (lo..=hi).contains(&b)
 }
 
 // A letter, a digit or `_`.
+#[tactic(auto, unfolding(spec::specs::Bytes::is_ident, spec::specs::Bytes::is_lower, spec::specs::Bytes::is_upper, spec::specs::Bytes::is_digit, spec::specs::Bytes::within))]
 pub fn is_ident_byte(b: u8) -> bool
     ensures { result ≡ is_ident b }
 {
-    if in_range(b'a', b'z', b) {
-        true
-    } else if in_range(b'A', b'Z', b) {
-        true
-    } else if in_range(b'0', b'9', b) {
-        true
-    } else {
-        b == b'_'
-    }
+    b.is_ascii_alphanumeric() || b == b'_'
 }
 
 // An identifier byte or `$`.
+#[tactic(auto, unfolding(spec::specs::Bytes::is_word))]
 pub fn is_word_byte(b: u8) -> bool
     ensures { result ≡ is_word b }
 {
-    if is_ident_byte(b) { true } else { b == b'$' }
+    is_ident_byte(b) || b == b'$'
 }
 
 // W: bytes 9 to 13 and 32.
+#[tactic(auto, unfolding(spec::specs::Bytes::is_w))]
 pub fn is_w(b: u8) -> bool
     ensures { result ≡ is_w b }
 {
-    if in_range(9, 13, b) { true } else { b == 32 }
+    in_range(9, 13, b) || b == b' '
 }
 
 // N: W without 11.
+#[tactic(auto, unfolding(spec::specs::Bytes::is_n))]
 pub fn is_n(b: u8) -> bool
     ensures { result ≡ is_n b }
 {
-    if is_w(b) {
-        if b == 11 { false } else { true }
-    } else {
-        false
-    }
+    is_w(b) && b != 11
 }
 
 // A letter in capitals, any other byte as it is.
+#[tactic(auto, unfolding(spec::specs::Bytes::upper, spec::specs::Bytes::is_lower, spec::specs::Bytes::within))]
 pub fn upper_of(b: u8) -> u8
     ensures { result ≡ upper b }
 {
-    if in_range(b'a', b'z', b) { b - 32 } else { b }
+    b.to_ascii_uppercase()
 }
 
 // Whether the bytes b and d are x and y.
+#[tactic(auto, unfolding(spec::specs::Bytes::is_pair))]
 pub fn is_pair(x: u8, y: u8, b: u8, d: u8) -> bool
     ensures { result ≡ is_pair x y b d }
 {
-    if b == x { d == y } else { false }
+    b == x && d == y
 }
 
 // The byte at i, or 0 past the end.
 pub fn byte_at(text: &[u8], i: usize) -> u8
     ensures { result ≡ get_or text.now i 0 }
 {
-    if i < text.len() { text[i] } else { 0 }
+    text.get(i).copied().unwrap_or(0)
 }
 
 // Whether `pat` stands at the front of `text`.
+#[tactic(auto, using(crate::proofs::PrefixLaws::is_prefix_of_library))]
 pub fn starts_with(text: &[u8], pat: &[u8]) -> bool
     ensures { result ≡ is_prefix pat.now text.now }
 {
-    let mut i: usize = 0;
-    while i < pat.len() {
-        if i < text.len() {
-            if text[i] == pat[i] {
-                i += 1;
-            } else {
-                return false;
-            }
-        } else {
-            return false;
-        }
-    }
-    true
+    text.starts_with(pat)
 }
 
 // Whether `=` stands at i, and neither `==` nor `=>`.
+#[tactic(auto, using(spec::proofs::EqualsTargets::lone_bytes))]
 pub fn lone_equals(text: &[u8], i: usize) -> bool
     requires { i ≤ length text.now }
     ensures { (t : List Marked) → bytes t ≡ text.now → result ≡ lone_equals (drop i t) }
 {
-    if byte_at(text, i) == b'=' {
-        let next = byte_at(text, i + 1);
-        if next == b'=' {
-            false
-        } else if next == b'>' {
-            false
-        } else {
-            true
-        }
-    } else {
-        false
-    }
+    byte_at(text, i) == b'=' && !matches!(byte_at(text, i + 1), b'=' | b'>')
 }

@@ -14,9 +14,9 @@ ghost use Rattle.closed.specs.Answer.{closed_answer};
 use classes::{byte_at, is_ident_byte, is_pair};
 use runs::{Set, has, run_end};
 use scanner::starts_ignoring_case;
-use searches::{map_checked, yes_no_answer};
-use spans::{Cursor, Step};
-use spec::{Check, Search};
+use searches::{map_checked, yes_no};
+use spans::Cursor;
+use spec::Refusal;
 
 // Whether the last byte is a live `;`.
 fn ends_live(text: &[u8], map: &[u8]) -> bool
@@ -62,7 +62,7 @@ fn has_plain_spans(text: &[u8]) -> bool
     loop {
         let from = cursor.at;
         let step = cursor.step(text);
-        let Step::Taken(_, next) = step else {
+        let Some((_, next)) = step else {
             return true;
         };
         if is_plain_span(&text[from..], next.at - from) {
@@ -165,13 +165,11 @@ fn is_closed_in(text: &[u8], map: &[u8]) -> bool
 }
 
 // Whether the text is a closed body.
-pub fn is_closed(text: &[u8], map: &mut [u8]) -> Search
+#[tactic(auto, using(searches::proofs::CheckedLaws::passed_marks), unfolding(crate::specs::Answer::closed_answer, spec::specs::Closed::is_closed))]
+pub fn is_closed(text: &[u8], map: &mut [u8]) -> Result<Option<usize>, Refusal>
     ensures value { result ≡ closed_answer text.now map.old }
     ensures map_after { map.new ≡ map_exit text.now map.old [] }
 {
-    let check = map_checked(text, map, &text[..0]);
-    let Check::Refused(r) = check else {
-        return yes_no_answer(is_closed_in(text, map));
-    };
-    Search::Refused(r)
+    map_checked(text, map, b"")?;
+    Ok(yes_no(is_closed_in(text, map)))
 }

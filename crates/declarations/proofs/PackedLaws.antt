@@ -1,7 +1,7 @@
 -- What stands in the lent buffers at the end: the packed texts and all numbers. Assumes nothing.
+use Rattle.std.specs.Prelude.{Option, Some, None}
 use mathlib.Core.Path.{◌≡◌, refl, sym, ap, ◌∙◌}
 use mathlib.Core.List.{List, [], ◌∷◌, ◌++◌}
-use mathlib.Core.Option.{Option, none, some}
 use Prim.Native.Nat.{ℕ, zero, suc, ◌+◌, ◌*◌, ◌≤◌, ◌<◌, zero-le}
 use native.Mathlib.Omega.{arith}
 use borrow.Author.Tests.{ne_eqb, lt-ltb, le-ltb}
@@ -19,7 +19,8 @@ use Rattle.spec.specs.Declarations.{Declared, record_width, declaration, declare
 use Rattle.declared_parts.proofs.SizeLaws.{packed_part}
 use Rattle.declared_records.specs.Held.{record_in, records_from, Gathered}
 use Rattle.declarations.specs.SectionRecords.{records_of_section, next_number, Linked, other_numbers, final_numbers, Holds, parsed_of}
-use Rattle.declarations.specs.declared.Parsed.TheVariants.{Count, TooManyNames}
+use Rattle.spec.specs.declared.Refusal.TheVariants.{TooManyNames}
+use Rattle.std.specs.Prelude.{Ok, Err}
 use Rattle.output.proofs.StoreLaws.{front_stored}
 use Rattle.declared_records.proofs.HeldLaws.{sets_behind, sets_drop, record_other, from_same, from_length}
 
@@ -34,11 +35,11 @@ declare_packed d (e ∷ es) =
     (λ h. rw h (omega (arith, a, length-append (packed_record d) (packed es))))
     (λ h. rw h (omega (arith, a, length-append (packed_record e) (packed (declare d es)), declare_packed d es)))
 
-maybe_packed : (o : Option Declared) (ds : List Declared) (n : ℕ) → ((d : Declared) → o ≡ some d → length (packed_record d) ≤ n)
+maybe_packed : (o : Option Declared) (ds : List Declared) (n : ℕ) → ((d : Declared) → o ≡ Some d → length (packed_record d) ≤ n)
     → length (packed (declare_maybe o ds)) ≤ length (packed ds) + n
 unfolding declare_maybe
-maybe_packed none ds n h = omega arith
-maybe_packed (some d) ds n h = omega (arith, declare_packed d ds, h d refl)
+maybe_packed None ds n h = omega arith
+maybe_packed (Some d) ds n h = omega (arith, declare_packed d ds, h d refl)
 
 all_packed : (ps : List (List Marked)) (ds : List Declared)
     → length (packed (declare_all ps ds)) ≤ length (packed ds) + 2 * total (λ (q : List Marked). length q) ps
@@ -143,11 +144,11 @@ module _ (xs : List ℕ) (t : List Marked) (count : ℕ) (low : count ≤ 512) (
         }
 
 -- the answers
-pub parsed_over : (xs : List ℕ) (t : List Marked) (rs : List ℕ) (r : ℕ) → Gathered xs t rs r → 512 < r → TooManyNames ≡ parsed_of (records_of_section t)
+pub parsed_over : (xs : List ℕ) (t : List Marked) (rs : List ℕ) (r : ℕ) → Gathered xs t rs r → 512 < r → Err TooManyNames ≡ parsed_of (records_of_section t)
 unfolding parsed_of records_of_section
 parsed_over xs t rs r g h = rw (lt-ltb 512 (length (declare_all (pieces (byte_here 59) t) [])) (g.over h)) refl
 
-pub parsed_count : (es : List Declared) (n m : ℕ) → length es ≡ n → m ≡ length (packed es) → n ≤ 512 → Count n m ≡ parsed_of es
+pub parsed_count : (es : List Declared) (n m : ℕ) → length es ≡ n → m ≡ length (packed es) → n ≤ 512 → Ok (record { records = n; bytes = m }) ≡ parsed_of es
 unfolding parsed_of
 parsed_count es n m e f h = rw (e, f, le-ltb 512 n h) refl
 

@@ -1,4 +1,5 @@
 -- The section between DECLARE and BEGIN, and the body. Assumes nothing.
+use Rattle.std.specs.Prelude.{Option, Some, None}
 use mathlib.Core.Path.{◌≡◌, refl, sym, ◌∙◌}
 use mathlib.Core.List.{List, []}
 use Prim.Native.Nat.{ℕ, ◌+◌, ◌-◌, ◌≤◌, ◌<◌, zero-le}
@@ -13,8 +14,6 @@ use Rattle.spec.specs.Map.{Marked, marked_text}
 use Rattle.spec.specs.Search.{first, keyword_here}
 use Rattle.spec.specs.Parts.{part}
 use Rattle.spec.specs.Declarations.{declare_section, records_of}
-use Rattle.spec.specs.declared.Found.{Found}
-use Rattle.spec.specs.declared.Found.TheVariants.{At, Nothing}
 use Rattle.declared_parts.proofs.BetweenLaws.{between_none}
 use Rattle.declarations.specs.SectionRecords.{records_of_section, records_in, declare_end, section_of, SectionIn}
 
@@ -23,31 +22,31 @@ pub records_in_lem : (xs : List ℕ) → records_in (marked_text xs) ≡ records
 unfolding records_in records_of_section records_of
 records_in_lem xs = refl
 
-abbrev declare_at : List Marked → Found
+abbrev declare_at : List Marked → Option ℕ
 declare_at t = first (keyword_here (ascii "DECLARE")) 0 t
 
-abbrev begin_at : List Marked → Found
+abbrev begin_at : List Marked → Option ℕ
 begin_at t = first (keyword_here (ascii "BEGIN")) 0 t
 
-pub declare_end_lem : (t : List Marked) (f : Found) → f ≡ declare_at t → declare_end f ≤ length t + 7
-declare_end_lem t (At d) e = omega (arith, (first_within (keyword_here (ascii "DECLARE")) t 0 d (sym e)).1)
-declare_end_lem t Nothing e = zero-le
+pub declare_end_lem : (t : List Marked) (f : Option ℕ) → f ≡ declare_at t → declare_end f ≤ length t + 7
+declare_end_lem t (Some d) e = omega (arith, (first_within (keyword_here (ascii "DECLARE")) t 0 d (sym e)).1)
+declare_end_lem t None e = zero-le
 
 -- the part that is cut out
-cut : (t : List Marked) (f g : Found) → part (section_of f g).from (section_of f g).to t ≡ declare_section f g t
+cut : (t : List Marked) (f g : Option ℕ) → part (section_of f g).from (section_of f g).to t ≡ declare_section f g t
 unfolding declare_section
-cut t (At d) (At b) =
+cut t (Some d) (Some b) =
     by (leb (d + 7) b)
     (λ e. rw (e, lt-ltb d b (omega (arith, leb-true (d + 7) b e))) refl)
     (λ e. rw e
     (between_none t 0 0 zero-le
     ∙ cond_case (λ l. [] ≡ l) (ltb d b) (take (b - (d + 7)) (drop (d + 7) t)) []
     (λ _. sym (between_none t (d + 7) b (omega (arith, leb-false (d + 7) b e)))) (λ _. refl)))
-cut t (At d) Nothing = between_none t 0 0 zero-le
-cut t Nothing (At b) = between_none t 0 0 zero-le
-cut t Nothing Nothing = between_none t 0 0 zero-le
+cut t (Some d) None = between_none t 0 0 zero-le
+cut t None (Some b) = between_none t 0 0 zero-le
+cut t None None = between_none t 0 0 zero-le
 
-pub section_in : (t : List Marked) (f g : Found) → f ≡ declare_at t → g ≡ begin_at t → SectionIn t (section_of f g)
+pub section_in : (t : List Marked) (f g : Option ℕ) → f ≡ declare_at t → g ≡ begin_at t → SectionIn t (section_of f g)
 unfolding records_in
 section_in t f g p q =
     record {
@@ -56,12 +55,12 @@ section_in t f g p q =
       found = cut t f g ∙ rw (p, q) refl;
     }
   where
-    ordered : (f g : Found) → (section_of f g).from ≤ (section_of f g).to
-    ordered (At d) (At b) = by (leb (d + 7) b) (λ e. rw e (leb-true (d + 7) b e)) (λ e. rw e zero-le)
-    ordered (At d) Nothing = zero-le
-    ordered Nothing g = zero-le
+    ordered : (f g : Option ℕ) → (section_of f g).from ≤ (section_of f g).to
+    ordered (Some d) (Some b) = by (leb (d + 7) b) (λ e. rw e (leb-true (d + 7) b e)) (λ e. rw e zero-le)
+    ordered (Some d) None = zero-le
+    ordered None g = zero-le
 
-    within : (g : Found) → ((b : ℕ) → g ≡ At b → b < length t) → (f : Found) → (section_of f g).to ≤ length t
-    within (At b) h (At d) = by (leb (d + 7) b) (λ e. rw e (omega (arith, h b refl))) (λ e. rw e zero-le)
-    within Nothing h (At d) = zero-le
-    within g h Nothing = zero-le
+    within : (g : Option ℕ) → ((b : ℕ) → g ≡ Some b → b < length t) → (f : Option ℕ) → (section_of f g).to ≤ length t
+    within (Some b) h (Some d) = by (leb (d + 7) b) (λ e. rw e (omega (arith, h b refl))) (λ e. rw e zero-le)
+    within None h (Some d) = zero-le
+    within g h None = zero-le

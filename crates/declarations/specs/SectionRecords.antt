@@ -1,5 +1,5 @@
 -- The records' nexts, their packed texts and their numbers, by the records as they are read. Assumes nothing.
-use Rattle.std.specs.Prelude.{◌≡◌, ℕ, zero, suc, ◌+◌, ◌*◌, ◌≤◌, ◌<◌, cond, List, [], ◌∷◌, ◌++◌, eqb, leb, ltb, length, get_or, take, drop}
+use Rattle.std.specs.Prelude.{◌≡◌, ℕ, zero, suc, ◌+◌, ◌*◌, ◌≤◌, ◌<◌, cond, List, [], ◌∷◌, ◌++◌, eqb, leb, ltb, length, get_or, take, drop, Option, Some, None, Result, Err, Ok}
 use Rattle.std.proofs.lemmas.List.Edits.{sets}
 use Rattle.spec.specs.Bytes.{ascii}
 use Rattle.spec.specs.Map.{Marked}
@@ -7,12 +7,11 @@ use Rattle.spec.specs.Search.{first, keyword_here, byte_here, pieces}
 use Rattle.spec.specs.Declarations.{Declared, declare_all, declare_section, text_or, packed_record, packed, head_next, next_of, default_numbers, mark_numbers, numbers_of}
 use Rattle.spec.specs.Parts.{part}
 use Rattle.declared_records.specs.Held.{record_in, records_from}
-use Rattle.spec.specs.declared.Found.{Found}
-use Rattle.spec.specs.declared.Found.TheVariants.{At, Nothing}
 use Rattle.declarations.specs.declared.Section.{Section}
 use Rattle.declarations.specs.declared.Ends.{Ends}
-use Rattle.declarations.specs.declared.Parsed.{Parsed}
-use Rattle.declarations.specs.declared.Parsed.TheVariants.{Count, TooManyNames}
+use Rattle.declarations.specs.declared.DeclaredSizes.{DeclaredSizes}
+use Rattle.spec.specs.declared.Refusal.{Refusal}
+use Rattle.spec.specs.declared.Refusal.TheVariants.{TooManyNames}
 
 -- the records of a text with its map
 unfoldable pub records_of_section : List Marked → List Declared
@@ -23,14 +22,14 @@ records_in t =
     records_of_section (declare_section (first (keyword_here (ascii "DECLARE")) 0 t) (first (keyword_here (ascii "BEGIN")) 0 t) t)
 
 -- the section by the first DECLARE and the first BEGIN
-abbrev pub declare_end : Found → ℕ
-declare_end (At d) = d + 7
-declare_end Nothing = 0
+abbrev pub declare_end : Option ℕ → ℕ
+declare_end (Some d) = d + 7
+declare_end None = 0
 
-abbrev pub section_of : Found → Found → Section
-section_of (At d) (At b) = record { from = cond (leb (d + 7) b) (d + 7) 0; to = cond (leb (d + 7) b) b 0 }
-section_of (At d) Nothing = record { from = 0; to = 0 }
-section_of Nothing f = record { from = 0; to = 0 }
+abbrev pub section_of : Option ℕ → Option ℕ → Section
+section_of (Some d) (Some b) = record { from = cond (leb (d + 7) b) (d + 7) 0; to = cond (leb (d + 7) b) b 0 }
+section_of (Some d) None = record { from = 0; to = 0 }
+section_of None f = record { from = 0; to = 0 }
 
 -- s is where the section of t stands
 pub record SectionIn (t : List Marked) (s : Section) : Type 0 where
@@ -41,8 +40,8 @@ pub record SectionIn (t : List Marked) (s : Section) : Type 0 where
       ≡ declare_section (first (keyword_here (ascii "DECLARE")) 0 t) (first (keyword_here (ascii "BEGIN")) 0 t) t
 
 -- the answer
-unfoldable pub parsed_of : List Declared → Parsed
-parsed_of ds = cond (ltb 512 (length ds)) TooManyNames (Count (length ds) (length (packed ds)))
+unfoldable pub parsed_of : List Declared → Result DeclaredSizes Refusal
+parsed_of ds = cond (ltb 512 (length ds)) (Err TooManyNames) (Ok (record { records = length ds; bytes = length (packed ds) }))
 
 -- where the texts of a record end that are packed from n on
 unfoldable pub ends_of : ℕ → Declared → Ends

@@ -17,15 +17,13 @@ use declared_parts::{comes_before, piece, put_requoted, put_spaced};
 use declared_records::{RECORD_LIMIT, RECORD_WIDTH, gather, mark_of, name_of, number, put_numbers};
 use output::put_all;
 use scanner::find_keyword_in;
-use spec::Found;
+use spec::Refusal;
 
-// What reading the declarations answers.
+// How many records there are, and how many bytes their texts have.
 #[derive(Clone, Copy)]
-pub enum Parsed {
-    // How many records there are, and how many bytes their texts have.
-    Count(usize, usize),
-    // Over 512 different names are declared.
-    TooManyNames,
+pub struct DeclaredSizes {
+    pub records: usize,
+    pub bytes: usize,
 }
 
 // The text between DECLARE and BEGIN, empty if there is none.
@@ -219,20 +217,20 @@ fn write_records(text: &[u8], declared: &mut [u8], records: &mut [u32], count: u
 }
 
 // The section by the first DECLARE and the first BEGIN.
-fn section_at(declare: Found, begin: Found) -> Section
+fn section_at(declare: Option<usize>, begin: Option<usize>) -> Section
     requires { declare_end declare < 2 ^ 63 }
     ensures { result ≡ section_of declare begin }
 {
     match declare {
-        Found::At(d) => match begin {
-            Found::At(b) => if d + 7 <= b {
+        Some(d) => match begin {
+            Some(b) => if d + 7 <= b {
                 Section { from: d + 7, to: b }
             } else {
                 Section { from: 0, to: 0 }
             },
-            Found::Nothing => Section { from: 0, to: 0 },
+            None => Section { from: 0, to: 0 },
         },
-        Found::Nothing => Section { from: 0, to: 0 },
+        None => Section { from: 0, to: 0 },
     }
 }
 
@@ -252,14 +250,19 @@ pub fn body_start(text: &[u8], map: &[u8]) -> usize
     ensures upper_bound { result ≤ length text.now }
 {
     let begin = find_keyword_in(text, map, b"BEGIN", 0);
-    let Found::At(b) = begin else {
+    let Some(b) = begin else {
         return 0;
     };
     b
 }
 
 // The records of a section's text.
-fn parse_section(text: &[u8], map: &[u8], declared: &mut [u8], records: &mut [u32]) -> Parsed
+fn parse_section(
+    text: &[u8],
+    map: &[u8],
+    declared: &mut [u8],
+    records: &mut [u32],
+) -> Result<DeclaredSizes, Refusal>
     requires text_len_bound { length text.now ≤ 16384 }
     requires text_in_bounds { length text.now ≤ length map.now }
     requires in_bounds { 65536 ≤ length declared.old }
@@ -269,13 +272,16 @@ fn parse_section(text: &[u8], map: &[u8], declared: &mut [u8], records: &mut [u3
 {
     let count = gather(text, map, records);
     if RECORD_LIMIT < count {
-        return Parsed::TooManyNames;
+        return Err(Refusal::TooManyNames);
     }
     link(text, records, count);
     let head = records[0];
     put_numbers(records, 0, head, 0, 0, 0, 0, 0, 0, 0, 0, 0);
-    let n = write_records(text, declared, records, count);
-    Parsed::Count(count, n)
+    let bytes = write_records(text, declared, records, count);
+    Ok(DeclaredSizes {
+        records: count,
+        bytes,
+    })
 }
 
 // The records of a text with its map: the texts in front of `declared`, the numbers in front of `records`.
@@ -284,7 +290,7 @@ pub fn parse_declarations(
     map: &[u8],
     declared: &mut [u8],
     records: &mut [u32],
-) -> Parsed
+) -> Result<DeclaredSizes, Refusal>
     requires text_len_bound { length text.now ≤ 16384 }
     requires text_in_bounds { length text.now ≤ length map.now }
     requires in_bounds { 65536 ≤ length declared.old }

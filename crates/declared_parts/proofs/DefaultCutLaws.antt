@@ -1,5 +1,6 @@
 -- Where a part is cut for its default: the tests of the code decide, byte by byte, whether a default key stands at i; the
 -- cut is at the leftmost and stands within the part. By the predicate of `DefaultLaws`. Assumes nothing.
+use Rattle.std.specs.Prelude.{Option, Some, None}
 use mathlib.Core.Path.{◌≡◌, refl, sym, ap, ◌∙◌}
 use mathlib.Core.Bool.{true, false, not, false≢true}
 use mathlib.Core.List.{List}
@@ -13,8 +14,6 @@ use Rattle.spec.specs.Map.{Marked, marked, bytes, front_byte, front_live}
 use Rattle.spec.specs.Search.{first, word_here, keyword_here, needle_here}
 use Rattle.spec.specs.Assignments.{assign_here, lone_equals}
 use Rattle.spec.specs.Declarations.{is_lone, equals_here, default_here, key_length}
-use Rattle.spec.specs.declared.Found.{Found}
-use Rattle.spec.specs.declared.Found.TheVariants.{At, Nothing}
 use Rattle.spec.proofs.Choice.{by, or_second}
 use Rattle.spec.proofs.AssignTargets.{assign_says}
 use Rattle.spec.proofs.DefaultLaws.{IsDefaultKey, assign, equals, word, equals_says, key_sound, key_complete, key_length_lem}
@@ -88,7 +87,7 @@ module _ (t : List Marked) (i : ℕ) where
           some_bytes _ (equals r) e = omega arith
           some_bytes _ (word r) e = omega arith
 
-  search_stops : (n : ℕ) → n ≡ key_at t i → (n ≡ 0 → ⊥) → i < length t → (first default_here i t ≡ At i) × (n ≡ key_length (drop i t))
+  search_stops : (n : ℕ) → n ≡ key_at t i → (n ≡ 0 → ⊥) → i < length t → (first default_here i t ≡ Some i) × (n ≡ key_length (drop i t))
   unfolding key_at
   search_stops n e z h =
       by (passes_at default_here t i)
@@ -177,12 +176,12 @@ pub cut_fits : (t : List Marked) → Fits (cut_in t) (length t)
 unfolding cut_in
 cut_fits t = go (first default_here 0 t) refl
   where
-    go : (f : Found) → first default_here 0 t ≡ f → Fits (cut_of f t) (length t)
-    go (At i) e =
+    go : (f : Option ℕ) → first default_here 0 t ≡ f → Fits (cut_of f t) (length t)
+    go (Some i) e =
         let k = key_sound t i (first_least default_here t 0 i e).passes in
         let n = key_length_lem t i k.0 k.1 in
         record { ordered = omega arith; within = omega (arith, n, key_fits t i k.0 k.1); flag = omega arith }
-    go Nothing e = record { ordered = omega arith; within = omega arith; flag = omega arith }
+    go None e = record { ordered = omega arith; within = omega arith; flag = omega arith }
 
 -- so is a cut that is the definition's
 pub cut_tells : (xs ms : List ℕ) (c : Cut) → c ≡ cut_in (marked xs ms) → (c ≡ cut_in (marked xs ms)) × ((c.head ≤ c.rest) × (c.rest ≤ length xs) × (c.present ≤ 1))

@@ -1,4 +1,5 @@
 -- What a part declares, by the places that are read in its text. Assumes nothing.
+use Rattle.std.specs.Prelude.{Option, Some, None}
 use mathlib.Core.Path.{◌≡◌, refl, sym, ap, ◌∙◌}
 use mathlib.Core.Bool.{Bool}
 use mathlib.Core.List.{List}
@@ -16,8 +17,6 @@ use Rattle.spec.specs.Map.{Marked, bytes, marked, of_byte}
 use Rattle.spec.specs.Search.{first}
 use Rattle.spec.specs.Parts.{trim, trim_end, part}
 use Rattle.spec.specs.Declarations.{words, declared_of, default_here, part_at, declaration}
-use Rattle.spec.specs.declared.Found.{Found}
-use Rattle.spec.specs.declared.Found.TheVariants.{At, Nothing}
 use Rattle.declared_parts.specs.DeclaredParts.{not_w, cut_of, cut_in, type_in, value_of, default_by, declared_by, part_numbers, read_of}
 use Rattle.declared_parts.specs.declared.Cut.{Cut}
 use Rattle.declared_parts.specs.declared.DeclarationPlaces.{DeclarationPlaces}
@@ -70,11 +69,11 @@ trimmed xs ms a b s e p q h =
 
 -- ---- one part
 
-cut_part : (f : Found) (t : List Marked)
+cut_part : (f : Option ℕ) (t : List Marked)
     → part_at f t ≡ declared_of (words (take (cut_of f t).head t)) (value_of (cut_of f t).present (bytes (trim (drop (cut_of f t).rest t))))
 unfolding part_at
-cut_part (At i) t = refl
-cut_part Nothing t = rw (take_all (length t) t (omega arith)) refl
+cut_part (Some i) t = refl
+cut_part None t = rw (take_all (length t) t (omega arith)) refl
 
 pub cut_declaration : (part t : List Marked) (c : Cut) → trim part ≡ t → c ≡ cut_in t
     → declaration part ≡ declared_of (words (take c.head t)) (value_of c.present (bytes (trim (drop c.rest t))))

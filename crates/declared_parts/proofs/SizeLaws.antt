@@ -1,8 +1,8 @@
 -- The texts of a record are at most twice as long as the part that declares it. Assumes nothing.
+use Rattle.std.specs.Prelude.{Option, Some, None}
 use mathlib.Core.Path.{◌≡◌, refl, sym, ap, ◌∙◌}
 use mathlib.Core.Bool.{false}
 use mathlib.Core.List.{List, ◌++◌}
-use mathlib.Core.Option.{Option, none, some}
 use Prim.Native.Nat.{ℕ, ◌+◌, ◌-◌, ◌*◌, ◌≤◌, zero-le}
 use native.Mathlib.Omega.{arith}
 use lib.Dec.{eqb}
@@ -45,7 +45,7 @@ requoted_le xs =
 
 value_le : (p : ℕ) (t : List Marked) → length (text_or (value_of p (bytes t))) ≤ 2 * length t
 value_le p t =
-    cond_case (λ o. length (text_or o) ≤ 2 * length t) (eqb p 0) none (some (requoted_default (bytes t)))
+    cond_case (λ o. length (text_or o) ≤ 2 * length t) (eqb p 0) None (Some (requoted_default (bytes t)))
     (λ _. zero-le) (λ _. omega (arith, requoted_le (bytes t), bytes_length t))
 
 -- the name and the type stand in the words' text
@@ -53,13 +53,13 @@ record Short (n : ℕ) (o : Option (List ℕ)) (d : Declared) : Type 0 where
   front : length d.name + length d.type ≤ n
   default : d.default ≡ o
 
-words_le : (t : List Marked) (o : Option (List ℕ)) (d : Declared) → declared_of (words t) o ≡ some d → Short (length t) o d
+words_le : (t : List Marked) (o : Option (List ℕ)) (d : Declared) → declared_of (words t) o ≡ Some d → Short (length t) o d
 words_le t o d h =
     let v = drop_while space t in
     let r = drop_while in_word v in
     let p = type_in (bytes r) in
     let xs = part p.from p.to (bytes r) in
-    let q : declared_at o (bytes (take_while in_word v)) (bytes r) p ≡ some d = sym (declared_words o t v r refl refl) ∙ h in
+    let q : declared_at o (bytes (take_while in_word v)) (bytes r) p ≡ Some d = sym (declared_words o t v r refl refl) ∙ h in
     let front : length (bytes (take_while in_word v)) + length (spaced false xs) ≤ length t =
     omega (
       arith,
@@ -73,7 +73,7 @@ words_le t o d h =
     let m = made_some (eqb (p.to - p.from) 0) _ d q in
     rw (← m.1) (record { front = front; default = refl })
 
-pub packed_part : (part : List Marked) (d : Declared) → declaration part ≡ some d → length (packed_record d) ≤ 2 * length part
+pub packed_part : (part : List Marked) (d : Declared) → declaration part ≡ Some d → length (packed_record d) ≤ 2 * length part
 unfolding packed_record
 packed_part part d h =
     let t = trim part in

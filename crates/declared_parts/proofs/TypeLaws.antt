@@ -1,8 +1,8 @@
 -- The type in a text behind a name, by its places, and what a text's words declare. Assumes nothing.
+use Rattle.std.specs.Prelude.{Option, Some, None}
 use mathlib.Core.Path.{◌≡◌, refl, sym, ap, ◌∙◌}
 use mathlib.Core.Bool.{Bool, true, false, cond, not}
 use mathlib.Core.List.{List, [], ◌∷◌}
-use mathlib.Core.Option.{Option, none, some}
 use Prim.Native.Nat.{ℕ, zero, suc, ◌+◌, ◌-◌, ◌≤◌}
 use native.Mathlib.Omega.{arith}
 use borrow.Author.Tests.{eq-eqb}
@@ -94,8 +94,8 @@ abbrev pub declared_at : Option (List ℕ) → List ℕ → List ℕ → TypePla
 declared_at o name xs p =
     cond
     (eqb (p.to - p.from) 0)
-    none
-    (some record {
+    None
+    (Some record {
       name = name;
       type = spaced false (part p.from p.to xs);
       default = o;
@@ -103,7 +103,7 @@ declared_at o name xs p =
       not_null = is_set p.not_null;
     })
 
-no_name : (o : Option (List ℕ)) → declared_of [] o ≡ none
+no_name : (o : Option (List ℕ)) → declared_of [] o ≡ None
 unfolding declared_of
 no_name o = refl
 

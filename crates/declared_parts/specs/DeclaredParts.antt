@@ -1,14 +1,11 @@
 -- One part of the declarations by places in its text. Assumes nothing.
-use Rattle.std.specs.Prelude.{ℕ, ◌+◌, ◌-◌, ◌≤◌, Bool, true, false, cond, not, ◌&&◌, ◌||◌, List, [], ◌∷◌, reverse, eqb, leb, length, get_or, take, drop}
-use Rattle.std.proofs.Math.Option.{Option, none, some}
+use Rattle.std.specs.Prelude.{ℕ, ◌+◌, ◌-◌, ◌≤◌, Bool, true, false, cond, not, ◌&&◌, ◌||◌, List, [], ◌∷◌, reverse, eqb, leb, length, get_or, take, drop, Option, Some, None}
 use Rattle.spec.specs.Bytes.{ascii, is_w, upper, prefix_by, is_prefix, is_same}
 use Rattle.spec.specs.Lists.{take_while, drop_end}
 use Rattle.spec.specs.Parts.{part}
 use Rattle.spec.specs.Map.{Marked}
 use Rattle.spec.specs.Search.{first}
 use Rattle.spec.specs.Declarations.{Declared, requoted_default, default_here, key_length, one_if}
-use Rattle.spec.specs.declared.Found.{Found}
-use Rattle.spec.specs.declared.Found.TheVariants.{At, Nothing}
 use Rattle.declared_parts.specs.declared.Cut.{Cut}
 use Rattle.declared_parts.specs.declared.LastWord.{LastWord}
 use Rattle.declared_parts.specs.declared.TypePlaces.{TypePlaces}
@@ -33,9 +30,9 @@ spaced g (c ∷ cs) =
     cond (is_w c) gap plain
 
 -- the default of t by the place of its key
-abbrev pub cut_of : Found → List Marked → Cut
-cut_of (At i) t = record { head = i; rest = i + key_length (drop i t); present = 1 }
-cut_of Nothing t = record { head = length t; rest = length t; present = 0 }
+abbrev pub cut_of : Option ℕ → List Marked → Cut
+cut_of (Some i) t = record { head = i; rest = i + key_length (drop i t); present = 1 }
+cut_of None t = record { head = length t; rest = length t; present = 0 }
 
 unfoldable pub cut_in : List Marked → Cut
 cut_in t = cut_of (first default_here 0 t) t
@@ -90,7 +87,7 @@ type_in xs =
 
 -- a default that is there if the number is not 0
 abbrev pub value_of : ℕ → List ℕ → Option (List ℕ)
-value_of present text = cond (eqb present 0) none (some (requoted_default text))
+value_of present text = cond (eqb present 0) None (Some (requoted_default text))
 
 -- ten numbers as of a record, but the places are those of the name, the type's words and the default in the text xs
 unfoldable pub default_by : List ℕ → List ℕ → Option (List ℕ)
@@ -112,7 +109,7 @@ part_numbers p =
 
 -- what a part declares; without a type it declares nothing
 unfoldable pub read_of : List ℕ → DeclarationPlaces → Option Declared
-read_of xs p = cond (eqb p.kind_len 0) none (some (declared_by xs (part_numbers p)))
+read_of xs p = cond (eqb p.kind_len 0) None (Some (declared_by xs (part_numbers p)))
 
 -- its places and lengths are at most n, its marks and the default's flag at most 1
 pub record Within (n : ℕ) (p : DeclarationPlaces) : Type 0 where

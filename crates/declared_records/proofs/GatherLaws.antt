@@ -1,4 +1,5 @@
 -- The records of a section, part by part: where a name stands, what a part adds, and what the parts give. Assumes nothing.
+use Rattle.std.specs.Prelude.{Some, None}
 use mathlib.Core.Path.{◌≡◌, refl, sym, ap, ◌∙◌, subst}
 use mathlib.Core.Bool.{true, false}
 use mathlib.Core.List.{List, [], ◌∷◌, ◌++◌}
@@ -17,7 +18,6 @@ use Rattle.spec.specs.Bytes.{is_same}
 use Rattle.spec.specs.Map.{Marked, marked}
 use Rattle.spec.specs.Search.{first, byte_here, pieces}
 use Rattle.spec.specs.Declarations.{Declared, declaration, declare, declare_maybe, declare_all}
-use Rattle.spec.specs.declared.Found.TheVariants.{At, Nothing}
 use Rattle.spec.specs.Parts.{part}
 use Rattle.declared_parts.proofs.DeclaredNameLaws.{not_same}
 use Rattle.declared_parts.specs.DeclaredParts.{declared_by, part_numbers, read_of, Within}
@@ -205,14 +205,14 @@ module _ (xs ms : List ℕ) (at : ℕ) (rs : List ℕ) (count : ℕ) where
   made_from = declare_all (pieces_at (byte_here 59) t at) (records_from xs rs 1 count)
 
   module _ (p : DeclarationPlaces) where
-    last_part : first (byte_here 59) at t ≡ Nothing → declaration (part at (length xs) t) ≡ read_of xs p → made_from ≡ declare_maybe (read_of xs p) (records_from xs rs 1 count)
+    last_part : first (byte_here 59) at t ≡ None → declaration (part at (length xs) t) ≡ read_of xs p → made_from ≡ declare_maybe (read_of xs p) (records_from xs rs 1 count)
     unfolding declare_all
     last_part e d =
         let w : part at (length xs) t ≡ drop at t = rw (← marked_length xs ms) (rest_of t at) in
         let f : declaration (drop at t) ≡ read_of xs p = rw w at d in
         rw (pieces_last (byte_here 59) t at e, f) refl
 
-    next_part : (j : ℕ) → first (byte_here 59) at t ≡ At j → declaration (part at j t) ≡ read_of xs p
+    next_part : (j : ℕ) → first (byte_here 59) at t ≡ Some j → declaration (part at j t) ≡ read_of xs p
         → made_from ≡ declare_all (pieces_at (byte_here 59) t (j + 1)) (declare_maybe (read_of xs p) (records_from xs rs 1 count))
     unfolding declare_all
     next_part j e d =
@@ -221,12 +221,12 @@ module _ (xs ms : List ℕ) (at : ℕ) (rs : List ℕ) (count : ℕ) where
 
     module _ (rs' : List ℕ) (r : ℕ) (add : Added xs rs count p rs' r) (whole : declare_all (pieces (byte_here 59) t) [] ≡ made_from) where
       -- the last part
-      pub gathered_last : first (byte_here 59) at t ≡ Nothing → declaration (part at (length xs) t) ≡ read_of xs p → Gathered xs t rs' r
+      pub gathered_last : first (byte_here 59) at t ≡ None → declaration (part at (length xs) t) ≡ read_of xs p → Gathered xs t rs' r
       gathered_last e d =
           let f = whole ∙ last_part e d in
           record { records = λ h. add.records h ∙ sym f; over = λ h. omega (arith, ap length f, add.number) }
 
-      module _ (j : ℕ) (e : first (byte_here 59) at t ≡ At j) (d : declaration (part at j t) ≡ read_of xs p) where
+      module _ (j : ℕ) (e : first (byte_here 59) at t ≡ Some j) (d : declaration (part at j t) ≡ read_of xs p) where
         -- too many
         pub gathered_over : 512 < r → Gathered xs t rs' r
         gathered_over h =

@@ -2,7 +2,7 @@
 // its name's hash.
 #![tactic(auto)]
 
-ghost use Rattle.std.specs.Prelude.{◌≡◌, ◌∷◌, [], ◌-◌, ◌*◌, ◌^◌, ◌≤◌, ◌<◌, length, get_or, drop, replicate};
+ghost use Rattle.std.specs.Prelude.{◌≡◌, ◌∷◌, [], ◌*◌, ◌^◌, ◌≤◌, ◌<◌, length, get_or, drop};
 ghost use Rattle.std.proofs.lemmas.List.Edits.{sets};
 ghost use Rattle.spec.specs.Bytes.{is_same};
 ghost use Rattle.spec.specs.Map.{marked};
@@ -12,7 +12,6 @@ ghost use Rattle.declared_records.specs.Held.{record_in, records_from, place_of,
 
 use declared_parts::{DeclarationPlaces, piece, read_part, same_bytes};
 use scanner::find_byte_in;
-use spec::Found;
 
 // How many numbers a record has, how many records there may be, and how many numbers they and the head take.
 pub const RECORD_WIDTH: usize = 10;
@@ -86,21 +85,6 @@ pub fn put_numbers(
     records[at + 7] = value_len;
     records[at + 8] = constant;
     records[at + 9] = not_null;
-}
-
-// Zeros in place of the numbers from `from` up to `to`, as far as the buffer reaches.
-pub fn clear(records: &mut [u32], from: usize, to: usize)
-    ensures { records.new ≡ sets records.old from (replicate (to - from) 0) }
-{
-    let mut i = from;
-    while i < to {
-        if i < records.len() {
-            records[i] = 0;
-            i += 1;
-        } else {
-            return;
-        }
-    }
 }
 
 // A hash of a name, with the multiplier of the FNV hashes; below 2 ^ 32, so that a record's number holds it. Names with
@@ -211,7 +195,7 @@ pub fn gather(text: &[u8], map: &[u8], records: &mut [u32]) -> usize
     let mut at: usize = 0;
     loop {
         let found = find_byte_in(text, map, b';', at);
-        let Found::At(end) = found else {
+        let Some(end) = found else {
             let last = read_part(text, map, at, text.len());
             return add_part(text, records, count, last);
         };

@@ -1,5 +1,6 @@
 -- ELSIF rewritten from an offset on: up to the first keyword the text is copied, and behind it the walk goes on. Assumes
 -- nothing.
+use Rattle.std.specs.Prelude.{Some, None}
 use mathlib.Core.Path.{◌≡◌, refl, sym, ap, ◌∙◌}
 use mathlib.Core.Bool.{true, false}
 use mathlib.Core.List.{List, [], ◌∷◌, ◌++◌, append-nil, reverse}
@@ -22,7 +23,6 @@ use Rattle.spec.specs.Bytes.{ascii, is_word}
 use Rattle.spec.specs.Elsif.{elsif_from, elsif}
 use Rattle.spec.specs.Map.{Marked, live, byte, marked, bytes, lives, front_byte}
 use Rattle.spec.specs.Search.{Test, first, word_here, keyword_here}
-use Rattle.spec.specs.declared.Found.TheVariants.{At, Nothing}
 use Rattle.output.proofs.StoreLaws.{sets_more}
 
 abbrev pub keyword : Test
@@ -82,7 +82,7 @@ module _ (t : List Marked) where
       ∙ (ap (λ (b : ℕ). lives (ascii "ELSEIF") ++ elsif_from 4 b (drop (i + 1) t)) (before_next t i h)
       ∙ ap (λ (l : List Marked). lives (ascii "ELSEIF") ++ l) (skipped 4 (i + 1) ∙ ap (elsif_at t) n))
 
-  module _ (i j : ℕ) (e : first keyword i t ≡ At j) where
+  module _ (i j : ℕ) (e : first keyword i t ≡ Some j) where
     -- the text up to the keyword, ELSEIF, and what stands behind the keyword rewritten
     pub elsif_hit : elsif_at t i ≡ take (j - i) (drop i t) ++ (lives (ascii "ELSEIF") ++ elsif_at t (j + 5))
     elsif_hit =
@@ -99,7 +99,7 @@ module _ (t : List Marked) where
         (r.from, omega (arith, length-drop j t, r.inside))
 
   -- without a keyword nothing changes
-  pub elsif_last : (i : ℕ) → first keyword i t ≡ Nothing → elsif_at t i ≡ drop i t
+  pub elsif_last : (i : ℕ) → first keyword i t ≡ None → elsif_at t i ≡ drop i t
   elsif_last i e =
       copied_all (λ (l m : List Marked). l ++ m) (λ b. refl) (λ x l b. refl) keyword t (elsif_at t) copies [] (λ k h. from_end 0 _ (drop k t) (drop_of_length-le t h)) i e
       ∙ append-nil (drop i t)
@@ -114,17 +114,17 @@ module _ (xs ms : List ℕ) where
   abbrev pub rest_at : ℕ → List ℕ
   rest_at i = bytes (elsif_at (marked xs ms) i)
 
-  rest_hit : (i j : ℕ) → first keyword i (marked xs ms) ≡ At j → rest_at i ≡ take (j - i) (drop i xs) ++ (ascii "ELSEIF" ++ rest_at (j + 5))
+  rest_hit : (i j : ℕ) → first keyword i (marked xs ms) ≡ Some j → rest_at i ≡ take (j - i) (drop i xs) ++ (ascii "ELSEIF" ++ rest_at (j + 5))
   unfolding bytes lives
   rest_hit i j e =
       ap bytes (elsif_hit (marked xs ms) i j e)
       ∙ (map_append byte (take (j - i) (drop i (marked xs ms))) (lives (ascii "ELSEIF") ++ elsif_at (marked xs ms) (j + 5))
       ∙ ap (λ (l : List ℕ). l ++ (ascii "ELSEIF" ++ rest_at (j + 5))) (bytes_part i (j - i) xs ms))
 
-  pub rest_last : (i : ℕ) → first keyword i (marked xs ms) ≡ Nothing → rest_at i ≡ drop i xs
+  pub rest_last : (i : ℕ) → first keyword i (marked xs ms) ≡ None → rest_at i ≡ drop i xs
   rest_last i e = ap bytes (elsif_last (marked xs ms) i e) ∙ bytes_drop xs ms i
 
-  pub rest_within : (i j : ℕ) → first keyword i (marked xs ms) ≡ At j → (i ≤ j) × (j + 5 ≤ length xs)
+  pub rest_within : (i j : ℕ) → first keyword i (marked xs ms) ≡ Some j → (i ≤ j) × (j + 5 ≤ length xs)
   rest_within i j e = rw marked_length at (elsif_within (marked xs ms) i j e)
 
 -- what a turn of `transform_elsif` does: n bytes of the result are in d before it, n' are in d' after it
@@ -133,7 +133,7 @@ pub record Turn (xs ms : List ℕ) (i j : ℕ) (d : List ℕ) (n : ℕ) (d' : Li
   pub counted : n + length (rest_at xs ms i) ≡ n' + length (rest_at xs ms (j + 5))
 
 -- the text up to the keyword is stored, then ELSEIF
-pub elsif_turn : (xs ms : List ℕ) (i j : ℕ) → first keyword i (marked xs ms) ≡ At j → (d d₁ d₂ : List ℕ) (n n₁ n₂ : ℕ)
+pub elsif_turn : (xs ms : List ℕ) (i j : ℕ) → first keyword i (marked xs ms) ≡ Some j → (d d₁ d₂ : List ℕ) (n n₁ n₂ : ℕ)
     → n₁ ≡ n + length (take (j - i) (drop i xs))
     → d₁ ≡ sets d n (take (j - i) (drop i xs))
     → n₂ ≡ n₁ + 6

@@ -8,7 +8,6 @@ ghost use Rattle.spec.specs.Elsif.{elsif};
 
 use output::put_all;
 use scanner::find_keyword_in;
-use spec::Found;
 
 // The rewritten text, as far as `out` reaches; the result is how many bytes it has. `map` is the text's map.
 pub fn transform_elsif(text: &[u8], map: &[u8], out: &mut [u8]) -> usize
@@ -20,7 +19,7 @@ pub fn transform_elsif(text: &[u8], map: &[u8], out: &mut [u8]) -> usize
     let mut from: usize = 0;
     loop {
         let found = find_keyword_in(text, map, b"ELSIF", from);
-        let Found::At(at) = found else {
+        let Some(at) = found else {
             return put_all(out, n, &text[from..]);
         };
         n = put_all(out, n, &text[from..at]);

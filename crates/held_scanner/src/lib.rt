@@ -5,7 +5,7 @@
 ghost use Rattle.std.specs.Prelude.{◌≡◌, []};
 ghost use Rattle.spec.specs.Answers.{map_exit, regions_answer, keyword_answer, word_answer, word_part, search_numbers, search_list, unterminated_answer, byte_answer, needle_answer, handler_answer, split_answer, split_map_exit, split_exit, requoted_length_answer, requote_answer, requote_exit};
 
-use spec::{Filled, Search};
+use spec::Refusal;
 
 #[derive(Clone, Copy)]
 pub struct Scanner<'a> {
@@ -21,14 +21,14 @@ impl<'a> Scanner<'a> {
     }
 
     // Whether a dollar literal opens and never closes.
-    pub fn has_unterminated_dollar_quote(self) -> Search
+    pub fn has_unterminated_dollar_quote(self) -> Result<Option<usize>, Refusal>
         ensures { result ≡ unterminated_answer self.entry.text.now }
     {
         searches::has_unterminated_dollar_quote(self.text)
     }
 
     // The region of every byte of the text: 0 live, 1 quoted.
-    pub fn regions(self, map: &mut [u8]) -> Filled
+    pub fn regions(self, map: &mut [u8]) -> Result<usize, Refusal>
         ensures value { result ≡ regions_answer self.entry.text.now map.old }
         ensures map_after { map.new ≡ map_exit self.entry.text.now map.old [] }
     {
@@ -36,7 +36,12 @@ impl<'a> Scanner<'a> {
     }
 
     // The least offset at or after `from` where `keyword` stands live, as a whole word, in any letter case.
-    pub fn find_keyword(self, map: &mut [u8], keyword: &[u8], from: usize) -> Search
+    pub fn find_keyword(
+        self,
+        map: &mut [u8],
+        keyword: &[u8],
+        from: usize,
+    ) -> Result<Option<usize>, Refusal>
         ensures value { result ≡ keyword_answer self.entry.text.now map.old keyword.now from }
         ensures map_after { map.new ≡ map_exit self.entry.text.now map.old keyword.now }
     {
@@ -44,7 +49,7 @@ impl<'a> Scanner<'a> {
     }
 
     // The least offset of the live byte b.
-    pub fn find_in_code(self, map: &mut [u8], b: u8) -> Search
+    pub fn find_in_code(self, map: &mut [u8], b: u8) -> Result<Option<usize>, Refusal>
         ensures value { result ≡ byte_answer self.entry.text.now map.old b }
         ensures map_after { map.new ≡ map_exit self.entry.text.now map.old [] }
     {
@@ -52,7 +57,7 @@ impl<'a> Scanner<'a> {
     }
 
     // The least offset where `needle` stands, its first byte live.
-    pub fn find_str_in_code(self, map: &mut [u8], needle: &[u8]) -> Search
+    pub fn find_str_in_code(self, map: &mut [u8], needle: &[u8]) -> Result<Option<usize>, Refusal>
         ensures value { result ≡ needle_answer self.entry.text.now map.old needle.now }
         ensures map_after { map.new ≡ map_exit self.entry.text.now map.old needle.now }
     {
@@ -70,7 +75,7 @@ impl<'a> Scanner<'a> {
     }
 
     // Whether a live EXCEPTION has WHEN as its next live word.
-    pub fn has_exception_handler(self, map: &mut [u8]) -> Search
+    pub fn has_exception_handler(self, map: &mut [u8]) -> Result<Option<usize>, Refusal>
         ensures value { result ≡ handler_answer self.entry.text.now map.old }
         ensures map_after { map.new ≡ map_exit self.entry.text.now map.old [] }
     {
@@ -78,7 +83,12 @@ impl<'a> Scanner<'a> {
     }
 
     // Where each piece between live bytes `separator` starts; the answer is how many there are.
-    pub fn split_in_code(self, map: &mut [u8], starts: &mut [u32], separator: u8) -> Filled
+    pub fn split_in_code(
+        self,
+        map: &mut [u8],
+        starts: &mut [u32],
+        separator: u8,
+    ) -> Result<usize, Refusal>
         ensures value { result ≡ split_answer self.entry.text.now map.old starts.old separator }
         ensures map_after { map.new ≡ split_map_exit self.entry.text.now map.old starts.old }
         ensures starts_after { starts.new ≡ split_exit self.entry.text.now map.old starts.old separator }
@@ -87,14 +97,14 @@ impl<'a> Scanner<'a> {
     }
 
     // The length of the requoted text, before anything is written.
-    pub fn requoted_length(self) -> Filled
+    pub fn requoted_length(self) -> Result<usize, Refusal>
         ensures { result ≡ requoted_length_answer self.entry.text.now }
     {
         searches::requoted_length(self.text)
     }
 
     // Each dollar literal as a single-quoted one, in a buffer of the requoted length or more; the answer is that length.
-    pub fn requote_dollar_literals(self, output: &mut [u8]) -> Filled
+    pub fn requote_dollar_literals(self, output: &mut [u8]) -> Result<usize, Refusal>
         ensures value { result ≡ requote_answer self.entry.text.now output.old }
         ensures output_after { output.new ≡ requote_exit self.entry.text.now output.old }
     {

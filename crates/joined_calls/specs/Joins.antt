@@ -1,16 +1,17 @@
 -- Demand 3 about three answers of the body call and what its outputs hold. Assumes nothing.
-use Rattle.std.specs.Prelude.{◌≡◌, true, List, ◌++◌, ◌↔◌, ℕ, take}
+use Rattle.std.specs.Prelude.{◌≡◌, true, List, ◌++◌, ◌↔◌, ℕ, take, Result}
 use Rattle.spec.specs.Closed.{is_closed}
 use Rattle.spec.specs.Answers.{call_numbers}
-use Rattle.spec.specs.declared.Rewritten.{Rewritten}
 use Rattle.joined_calls.specs.declared.Joined.{Joined}
+use Rattle.spec.specs.declared.Refusal.{Refusal}
+use Rattle.spec.specs.declared.Accepted.{Accepted}
 
 -- the number handed back
-abbrev pub number : Rewritten → ℕ
+abbrev pub number : Result Accepted Refusal → ℕ
 number r = (call_numbers r).number
 
 -- the output up to the output length
-abbrev pub result : Rewritten → List ℕ → List ℕ
+abbrev pub result : Result Accepted Refusal → List ℕ → List ℕ
 result r output = take (call_numbers r).length output
 
 -- if the first body is closed and the joined one meets no size limit: the joined one is accepted exactly if both are, and

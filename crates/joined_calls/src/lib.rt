@@ -6,14 +6,14 @@ ghost use Rattle.spec.specs.Answers.{body_check, body_answer, body_output, work_
 ghost use Rattle.joined_calls.specs.Joins.{Joins};
 
 use preprocessor::transform_body_by_table;
-use spec::{Rewritten, Table};
+use spec::{Accepted, Actions, Refusal};
 
 // What the body call answers for a text, for its first bytes and for the rest of it.
 #[derive(Clone, Copy)]
 pub struct Joined {
-    pub whole: Rewritten,
-    pub first: Rewritten,
-    pub second: Rewritten,
+    pub whole: Result<Accepted, Refusal>,
+    pub first: Result<Accepted, Refusal>,
+    pub second: Result<Accepted, Refusal>,
 }
 
 // Where to cut the text: at its end if `cut` is past it.
@@ -22,10 +22,7 @@ fn cut_within(text: &[u8], cut: usize) -> usize
     ensures text_value { take result text.now ≡ take cut text.now }
     ensures text_value_2 { drop result text.now ≡ drop cut text.now }
 {
-    if cut < text.len() {
-        return cut;
-    }
-    text.len()
+    cut.min(text.len())
 }
 
 // The body call on a text, on its first `cut` bytes and on the rest of it, with what one table says and each with an output
@@ -33,7 +30,7 @@ fn cut_within(text: &[u8], cut: usize) -> usize
 pub fn transform_joined(
     text: &[u8],
     cut: usize,
-    table: Table,
+    table: Result<Actions, Refusal>,
     whole: &mut [u8],
     first: &mut [u8],
     second: &mut [u8],

@@ -1,5 +1,6 @@
 -- Demand 3 about the whole call: first for a body whose texts between the passes are continuable, then for a closed one.
 -- Assumes nothing.
+use Rattle.std.specs.Prelude.{Result, Ok, Err, ⊤}
 use mathlib.Core.Path.{◌≡◌, refl, sym, ap, ◌∙◌}
 use mathlib.Core.Bool.{true}
 use mathlib.Core.List.{List, [], ◌∷◌, ◌++◌}
@@ -17,13 +18,9 @@ use Rattle.spec.specs.Outcome.{result_too_long, handed_back, accepted, refused, 
 use Rattle.spec.specs.Raise.{action_of}
 use Rattle.spec.specs.Body.{buffer_size, rewriting}
 use Rattle.spec.specs.Answers.{text_limit, refusal_numbers, call_numbers, result_of, body_result, by_table, are_lent, body_check, body_answer, body_output, zeroed_to, call_answer}
-use Rattle.spec.specs.declared.Check.{Check}
-use Rattle.spec.specs.declared.Check.TheVariants.{Passed, Refused}
 use Rattle.spec.specs.declared.Refusal.{Refusal}
 use Rattle.spec.specs.declared.Refusal.TheVariants.{TextTooLong, NotAscii, BufferTooShort, QualifiedTarget, UsingClause, ResultTooLong, TooManyNames, MalformedLine, RepeatedLevel, MissingLevel}
-use Rattle.spec.specs.declared.Actions.{Actions}
-use Rattle.spec.specs.declared.Table.{Table}
-use Rattle.spec.specs.declared.Table.TheVariants as table
+use Rattle.spec.specs.Raise.{Actions}
 use Rattle.spec.proofs.CheckLaws.{NoHigh, too_long, check_only, check_always}
 use Rattle.joining.specs.Continuable.{Continuable}
 use Rattle.joining.specs.Call.{Lent, check_by, number_of, rewritten}
@@ -32,11 +29,11 @@ use Rattle.joining.proofs.Kept.{continuable}
 use Rattle.joining.proofs.Chain.{rewriting_split, rewriting_both}
 
 -- a body is accepted: within the limit, no byte over 127, the table is given, and the passes accept it with its actions
-pub record Taken (levels : Table) (xs zs : List ℕ) : Type 0 where
+pub record Taken (levels : Result Actions Refusal) (xs zs : List ℕ) : Type 0 where
   pub fits : length xs ≤ text_limit
   pub ascii : NoHigh xs
   pub actions : Actions
-  pub given : levels ≡ table.Given actions
+  pub given : levels ≡ Ok actions
   pub result : rewriting (action_of actions) xs ≡ accepted zs
 
 -- no refusal has the number 0
@@ -52,30 +49,30 @@ refusal_number (MalformedLine i) h = omega arith
 refusal_number (RepeatedLevel i) h = omega arith
 refusal_number (MissingLevel i) h = omega arith
 
-module _ (levels : Table) (l : Lent) (xs : List ℕ) where
+module _ (levels : Result Actions Refusal) (l : Lent) (xs : List ℕ) where
   pub lent : are_lent l.output l.work l.spare ≡ true
   unfolding are_lent
   lent =
       rw (le-leb buffer_size (length l.output) l.output_fits, le-leb buffer_size (length l.work) l.work_fits)
       (le-leb buffer_size (length l.spare) l.spare_fits)
 
-  pub passes_check : length xs ≤ text_limit → NoHigh xs → check_by l xs ≡ Passed
+  pub passes_check : length xs ≤ text_limit → NoHigh xs → check_by l xs ≡ Ok tt
   unfolding body_check
-  passes_check f n = rw lent (check_always text_limit true xs [] Passed (f, refl, n, (λ k h. absurd (omega arith))))
+  passes_check f n = rw lent (check_always text_limit true xs [] (Ok tt) (f, refl, n, (λ k h. absurd (omega arith))))
 
   -- what the call gives where the checks pass, and where the table is given too
-  pub number_table : check_by l xs ≡ Passed → number_of levels l xs ≡ (call_numbers (by_table levels (body_result xs)).answer).number
+  pub number_table : check_by l xs ≡ Ok tt → number_of levels l xs ≡ (call_numbers (by_table levels (body_result xs)).answer).number
   unfolding number_of body_answer
-  number_table e = ap (λ (c : Check). (call_numbers (call_answer c (by_table levels (body_result xs)).answer)).number) e
+  number_table e = ap (λ (c : Result ⊤ Refusal). (call_numbers (call_answer c (by_table levels (body_result xs)).answer)).number) e
 
-  pub number_passed : check_by l xs ≡ Passed → (a : Actions) → levels ≡ table.Given a
+  pub number_passed : check_by l xs ≡ Ok tt → (a : Actions) → levels ≡ Ok a
       → number_of levels l xs ≡ (call_numbers (result_of [] (rewriting (action_of a) xs)).answer).number
   unfolding body_result
-  number_passed e a g = number_table e ∙ ap (λ (t : Table). (call_numbers (by_table t (body_result xs)).answer).number) g
+  number_passed e a g = number_table e ∙ ap (λ (t : Result Actions Refusal). (call_numbers (by_table t (body_result xs)).answer).number) g
 
-  pub number_refused : (r : Refusal) → check_by l xs ≡ Refused r → number_of levels l xs ≡ (refusal_numbers r).number
+  pub number_refused : (r : Refusal) → check_by l xs ≡ Err r → number_of levels l xs ≡ (refusal_numbers r).number
   unfolding number_of body_answer
-  number_refused r e = ap (λ (c : Check). (call_numbers (call_answer c (by_table levels (body_result xs)).answer)).number) e
+  number_refused r e = ap (λ (c : Result ⊤ Refusal). (call_numbers (call_answer c (by_table levels (body_result xs)).answer)).number) e
 
   pub taken_text : (zs : List ℕ) → Taken levels xs zs → rewritten levels l xs ≡ zs
   unfolding rewritten body_answer body_output body_result result_of zeroed_to
@@ -90,25 +87,25 @@ module _ (levels : Table) (l : Lent) (xs : List ℕ) where
   unfolding result_of body_check
   zero_taken h = by_check (check_by l xs) refl
     where
-      by_result : check_by l xs ≡ Passed → (a : Actions) → levels ≡ table.Given a → (r : Rewriting) → rewriting (action_of a) xs ≡ r
+      by_result : check_by l xs ≡ Ok tt → (a : Actions) → levels ≡ Ok a → (r : Rewriting) → rewriting (action_of a) xs ≡ r
           → (zs : List ℕ) × Taken levels xs zs
       by_result e a g (accepted zs) q =
-          let c = check_only text_limit _ xs [] Passed e in
+          let c = check_only text_limit _ xs [] (Ok tt) e in
           (zs, record { fits = c.0; ascii = c.2; actions = a; given = g; result = q })
       by_result e a g (refused f) q =
           let z : 0 ≡ (refusal_numbers (handed_back f).refusal).number = sym h ∙ (number_passed e a g ∙ rw q refl) in
           absurd (refusal_number (handed_back f).refusal (sym z))
 
-      by_levels : check_by l xs ≡ Passed → (t : Table) → levels ≡ t → (zs : List ℕ) × Taken levels xs zs
-      by_levels e (table.Given a) g = by_result e a g (rewriting (action_of a) xs) refl
-      by_levels e (table.Refused f) g =
+      by_levels : check_by l xs ≡ Ok tt → (t : Result Actions Refusal) → levels ≡ t → (zs : List ℕ) × Taken levels xs zs
+      by_levels e (Ok a) g = by_result e a g (rewriting (action_of a) xs) refl
+      by_levels e (Err f) g =
           let z : 0 ≡ (refusal_numbers f).number =
-          sym h ∙ (number_table e ∙ ap (λ (t : Table). (call_numbers (by_table t (body_result xs)).answer).number) g) in
+          sym h ∙ (number_table e ∙ ap (λ (t : Result Actions Refusal). (call_numbers (by_table t (body_result xs)).answer).number) g) in
           absurd (refusal_number f (sym z))
 
-      by_check : (c : Check) → check_by l xs ≡ c → (zs : List ℕ) × Taken levels xs zs
-      by_check Passed e = by_levels e levels refl
-      by_check (Refused f) e = absurd (refusal_number f (sym (number_refused f e) ∙ h))
+      by_check : (c : Result ⊤ Refusal) → check_by l xs ≡ c → (zs : List ℕ) × Taken levels xs zs
+      by_check (Ok tt) e = by_levels e levels refl
+      by_check (Err f) e = absurd (refusal_number f (sym (number_refused f e) ∙ h))
 
   -- the call gives 0, and these bytes, exactly if the text is within the limit and ASCII, the table is given, and the passes
   -- accept the text with them
@@ -120,11 +117,11 @@ module _ (levels : Table) (l : Lent) (xs : List ℕ) where
   unfolding body_check
   not_one h = by (ltb text_limit (length xs)) (λ e. absurd (h (number_refused TextTooLong (long e)))) (λ e. ltb-false text_limit (length xs) e)
     where
-      long : ltb text_limit (length xs) ≡ true → check_by l xs ≡ Refused TextTooLong
-      long e = check_always text_limit _ xs [] (Refused TextTooLong) (too_long refl (ltb-true text_limit (length xs) e))
+      long : ltb text_limit (length xs) ≡ true → check_by l xs ≡ Err TextTooLong
+      long e = check_always text_limit _ xs [] (Err TextTooLong) (too_long refl (ltb-true text_limit (length xs) e))
 
   -- nor do the passes exceed the buffer where the checks pass, the table is given and 6 is not
-  not_six : (number_of levels l xs ≡ 6 → ⊥) → check_by l xs ≡ Passed → (a : Actions) → levels ≡ table.Given a
+  not_six : (number_of levels l xs ≡ 6 → ⊥) → check_by l xs ≡ Ok tt → (a : Actions) → levels ≡ Ok a
       → rewriting (action_of a) xs ≡ refused result_too_long → ⊥
   unfolding result_of
   not_six h e a g q = h (number_passed e a g ∙ rw q refl)
@@ -141,7 +138,7 @@ high_both [] b p q k i = q k i
 high_both (x ∷ a) b p q zero i = p zero (suc-le-suc zero-le)
 high_both (x ∷ a) b p q (suc k) i = high_both a b (λ j h. p (suc j) (suc-le-suc h)) q k (le_of_suc-le-suc i)
 
-module _ (levels : Table) (l : Lent) (a : List ℕ) (s : Continuable a) (b : List ℕ) where
+module _ (levels : Result Actions Refusal) (l : Lent) (a : List ℕ) (s : Continuable a) (b : List ℕ) where
   split : (zs : List ℕ) → Taken levels (a ++ b) zs
       → (us : List ℕ) × (vs : List ℕ) × Taken levels a us × Taken levels b vs × (zs ≡ us ++ vs)
   split zs t =
@@ -190,7 +187,7 @@ module _ (levels : Table) (l : Lent) (a : List ℕ) (s : Continuable a) (b : Lis
 -- Demand 3, in its own words and for every table: for a closed body a and any body b, where the call on the joined body meets
 -- no size limit, it gives 0 exactly if it gives 0 for both, and then the joined rewriting is the two rewritings joined. Where
 -- the table is refused, the call gives 0 for none of them.
-pub joined : (levels : Table) (l : Lent) (a b : List ℕ) → is_closed a ≡ true
+pub joined : (levels : Result Actions Refusal) (l : Lent) (a b : List ℕ) → is_closed a ≡ true
     → (number_of levels l (a ++ b) ≡ 1 → ⊥)
     → (number_of levels l (a ++ b) ≡ 6 → ⊥)
     → ((number_of levels l (a ++ b) ≡ 0) ↔ ((number_of levels l a ≡ 0) × (number_of levels l b ≡ 0)))

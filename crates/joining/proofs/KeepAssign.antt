@@ -1,8 +1,8 @@
 -- Pass 3 keeps what a reading reads. Assumes nothing.
+use Rattle.std.specs.Prelude.{Option, Some, None}
 use mathlib.Core.Path.{◌≡◌, refl, sym, ap, ◌∙◌, subst}
 use mathlib.Core.Bool.{Bool, true, false, cond, not, ◌&&◌, ◌||◌, false≢true}
 use mathlib.Core.List.{List, [], ◌∷◌, ◌++◌, reverse, reverse-cons, reverse-append, reverse-reverse, append_assoc}
-use mathlib.Core.Option.{Option, none, some}
 use Prim.Native.Nat.{ℕ, ◌+◌}
 use borrow.Author.Tests.{eqb-true}
 use lib.Dec.{eqb}
@@ -21,8 +21,6 @@ use Rattle.spec.specs.Outcome.{Outcome, accepted, refused, ◌⊕◌}
 use Rattle.spec.specs.Assignments.{Target, assign_here, statement_target, right_side, starts_name, assignment_at, assignment, checked_statement, statement, join_statements, assignments}
 use Rattle.spec.specs.Parts.{trim_end, trim}
 use Rattle.spec.specs.Closed.{ends_live}
-use Rattle.spec.specs.declared.Found.{Found}
-use Rattle.spec.specs.declared.Found.TheVariants.{At, Nothing}
 use Rattle.joining.proofs.Reading.{cut, paste, Reading}
 use Rattle.joining.proofs.Parts.{NoQuote, no_quotes, front_drop, Read, ends, back_over, edge_behind}
 use Rattle.joining.proofs.Statements.{Shut, shut_append, Statements, FirstOf, statements, ends_append}
@@ -191,9 +189,9 @@ module _ (k : Reading) where
   unfolding assignment assignment_at assign_here needle_here
   piece_assignment t p = go (first assign_here 0 t) refl
     where
-      go : (f : Found) → first assign_here 0 t ≡ f → Piece (assignment_at f t)
-      go Nothing e = p
-      go (At i) e =
+      go : (f : Option ℕ) → first assign_here 0 t ≡ f → Piece (assignment_at f t)
+      go None e = p
+      go (Some i) e =
           let l = first_least assign_here t 0 i e in
           let back = reverse (take i t) in
           let d : drop (i + 2) t ≡ drop 2 (drop i t) = sym (drop-drop 2 i t) in
@@ -224,8 +222,8 @@ module _ (k : Reading) where
   statement_kept t p = go (statement_target t)
     where
       go : (r : Option Target) → KeptOne (checked_statement r t)
-      go none = record { reads = piece_assignment t p; ended = ends_append (assignment t) (live 59 ∷ []) refl }
-      go (some r) = tt
+      go None = record { reads = piece_assignment t p; ended = ends_append (assignment t) (live 59 ∷ []) refl }
+      go (Some r) = tt
 
   join_last : (o : Outcome (List Marked)) → KeptOne o → Kept (o ⊕ (accepted (live 59 ∷ []) ⊕ accepted []))
   unfolding ◌⊕◌

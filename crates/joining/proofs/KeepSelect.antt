@@ -1,4 +1,5 @@
 -- Pass 4 keeps what a reading reads. Assumes nothing.
+use Rattle.std.specs.Prelude.{Option, Some, None}
 use mathlib.Core.Path.{◌≡◌, refl, sym, ap, ◌∙◌, subst}
 use mathlib.Core.Bool.{Bool, true, false, cond, not, ◌&&◌, false≢true}
 use mathlib.Core.List.{List, [], ◌∷◌, ◌++◌, map, reverse, reverse-cons, reverse-append, reverse-reverse, append-nil}
@@ -20,8 +21,6 @@ use Rattle.spec.specs.Search.{first, starts_ignoring_case, word_here, byte_here,
 use Rattle.spec.specs.Parts.{trim_end, trim, part}
 use Rattle.spec.specs.SelectInto.{depth_of, top_word_here, comma_here, listed, indentation, has_limit, subquery, set_line, set_lines, pair_up, place_or, from_part, front_place, select_cut, into_at, select_at, select_statement, join_selects, select_into}
 use Rattle.spec.specs.Closed.{ends_live}
-use Rattle.spec.specs.declared.Found.{Found}
-use Rattle.spec.specs.declared.Found.TheVariants.{At, Nothing}
 use Rattle.joining.proofs.Bools.{clash, no}
 use Rattle.joining.proofs.Reading.{reads_more, leaves_append, cut, paste, Takes, takes_append, Reading}
 use Rattle.joining.proofs.Parts.{PlainWord, Read, ends, StandsAlone, BeforeSpace, nil_part, drop_end_lem, before_space_end, at_word, behind_word, part_between, AllBeforeSpace, comma_parts, trim_parts, keep_before_space}
@@ -228,27 +227,27 @@ module _ (k : Reading) where
   unfolding listed
   listed_before_space t p = keep_before_space k _ (map trim (pieces comma_here t)) (trim_parts k (pieces comma_here t) (comma_parts k comma_here comma_live t p))
 
-  from_part_lem : (f : Found) (t : List Marked) → ((j : ℕ) → f ≡ At j → Place (ascii "FROM") j t) → StandsAlone k (from_part f t) × FromFront (from_part f t)
+  from_part_lem : (f : Option ℕ) (t : List Marked) → ((j : ℕ) → f ≡ Some j → Place (ascii "FROM") j t) → StandsAlone k (from_part f t) × FromFront (from_part f t)
   unfolding from_part trim_end
-  from_part_lem Nothing t h = (nil_part k, tt)
-  from_part_lem (At j) t h =
+  from_part_lem None t h = (nil_part k, tt)
+  from_part_lem (Some j) t h =
       let p = h j refl in (
         drop_end_lem k (λ c. eqb c 59) refl refl _ (drop_end_lem k is_w (sign_not_w 39 refl) (sign_not_w 34 refl) (drop j t) p.here),
         from_end (of_byte (λ c. eqb c 59)) _ (from_end (of_byte is_w) (drop j t) (from_front (drop j t) p.matches)),
       )
 
-  vars_part : (f : Found) (i : ℕ) (t : List Marked) → Shut k k.ok t → ((j : ℕ) → f ≡ At j → Place (ascii "FROM") j t)
+  vars_part : (f : Option ℕ) (i : ℕ) (t : List Marked) → Shut k k.ok t → ((j : ℕ) → f ≡ Some j → Place (ascii "FROM") j t)
       → Read k k.start (drop (i + 4) t)
       → StandsAlone k (part (i + 4) (place_or f (length t - 1)) t)
-  vars_part Nothing i t sh h r = part_between k (i + 4) (length t - 1) t r (last_live t sh.ended)
-  vars_part (At j) i t sh h r = part_between k (i + 4) j t r (h j refl).is_live_lem
+  vars_part None i t sh h r = part_between k (i + 4) (length t - 1) t r (last_live t sh.ended)
+  vars_part (Some j) i t sh h r = part_between k (i + 4) j t r (h j refl).is_live_lem
 
   -- the front part and the WITH part
-  front_parts : (f : Found) (s : ℕ) (t : List Marked) → ((j : ℕ) → f ≡ At j → Place (ascii "WITH") j t) → Place (ascii "SELECT") s t
+  front_parts : (f : Option ℕ) (s : ℕ) (t : List Marked) → ((j : ℕ) → f ≡ Some j → Place (ascii "WITH") j t) → Place (ascii "SELECT") s t
       → StandsAlone k (take (front_place f s) t) × StandsAlone k (part (front_place f s) s t)
   unfolding front_place
-  front_parts Nothing s t h p = (p.before, part_between k s s t p.here.reads p.is_live_lem)
-  front_parts (At j) s t h p =
+  front_parts None s t h p = (p.before, part_between k s s t p.here.reads p.is_live_lem)
+  front_parts (Some j) s t h p =
       cond_case (λ (n : ℕ). StandsAlone k (take n t) × StandsAlone k (part n s t)) (ltb j s) j s
       (λ _. let q = h j refl in (q.before, part_between k j s t q.here.reads p.is_live_lem))
       (λ _. (p.before, part_between k s s t p.here.reads p.is_live_lem))
@@ -264,11 +263,11 @@ module _ (k : Reading) where
   unfolding upper is_lower within is_quote
   plain_select = (refl, (refl, (refl, (refl, (refl, (refl, tt))))))
 
-  found_place : (w : List ℕ) (from : ℕ) (t : List Marked) → PlainWord w → Shut k k.ok t → (j : ℕ) → first (top_word_here w) from t ≡ At j → Place w j t
+  found_place : (w : List ℕ) (from : ℕ) (t : List Marked) → PlainWord w → Shut k k.ok t → (j : ℕ) → first (top_word_here w) from t ≡ Some j → Place w j t
   found_place w from t pl sh j e = place w j t pl sh (first_least (top_word_here w) t from j e).passes
 
-  cut_kept : (s i : ℕ) (from : Found) (t : List Marked) → Shut k k.ok t → Place (ascii "SELECT") s t → Place (ascii "INTO") i t
-      → ((j : ℕ) → from ≡ At j → Place (ascii "FROM") j t)
+  cut_kept : (s i : ℕ) (from : Option ℕ) (t : List Marked) → Shut k k.ok t → Place (ascii "SELECT") s t → Place (ascii "INTO") i t
+      → ((j : ℕ) → from ≡ Some j → Place (ascii "FROM") j t)
       → Shut k k.safe (select_cut s i from t)
   unfolding select_cut pair_up
   cut_kept s i from t sh ps pi hf =
@@ -306,15 +305,15 @@ module _ (k : Reading) where
   unfolding select_statement select_at into_at
   select_statement_lem t sh = go (first (top_word_here (ascii "SELECT")) 0 t) refl
     where
-      into : (s : ℕ) → Place (ascii "SELECT") s t → (f : Found) → first (top_word_here (ascii "INTO")) s t ≡ f → Shut k k.safe (into_at s f t)
-      into s ps Nothing e = unchanged t sh
-      into s ps (At i) e =
+      into : (s : ℕ) → Place (ascii "SELECT") s t → (f : Option ℕ) → first (top_word_here (ascii "INTO")) s t ≡ f → Shut k k.safe (into_at s f t)
+      into s ps None e = unchanged t sh
+      into s ps (Some i) e =
           cut_kept s i (first (top_word_here (ascii "FROM")) i t) t sh ps (found_place (ascii "INTO") s t plain_into sh i e)
           (found_place (ascii "FROM") i t plain_from sh)
 
-      go : (f : Found) → first (top_word_here (ascii "SELECT")) 0 t ≡ f → Shut k k.safe (select_at f t)
-      go Nothing e = unchanged t sh
-      go (At s) e = into s (found_place (ascii "SELECT") 0 t plain_select sh s e) (first (top_word_here (ascii "INTO")) s t) refl
+      go : (f : Option ℕ) → first (top_word_here (ascii "SELECT")) 0 t ≡ f → Shut k k.safe (select_at f t)
+      go None e = unchanged t sh
+      go (Some s) e = into s (found_place (ascii "SELECT") 0 t plain_select sh s e) (first (top_word_here (ascii "INTO")) s t) refl
 
   ended_kept : (s : List Marked) → Read k k.start (s ++ (live 59 ∷ [])) → Shut k k.safe (select_statement (s ++ (live 59 ∷ [])))
   unfolding ends_live

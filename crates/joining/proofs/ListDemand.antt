@@ -1,9 +1,9 @@
 -- Demand 3 for a list of closed bodies with any body behind them, for every table. Assumes nothing.
+use Rattle.std.specs.Prelude.{None, Result, Ok, Err, ⊤}
 use mathlib.Core.Path.{◌≡◌, refl, sym, ap, ◌∙◌}
 use mathlib.Core.Bool.{true}
 use mathlib.Core.List.Memᴰ
 use mathlib.Core.List.{List, [], ◌∷◌, ◌++◌, append_assoc, map, Memᴰ}
-use mathlib.Core.Option.{none}
 use mathlib.Core.Logic.{◌↔◌, ⊎_elim}
 use Prim.Native.Nat.{ℕ, ◌≤◌, ◌<◌}
 use native.Mathlib.Omega.{arith}
@@ -24,14 +24,10 @@ use Rattle.spec.specs.Outcome.{qualified_target, using_clause, result_too_long, 
 use Rattle.spec.specs.Raise.{action_of, raise}
 use Rattle.spec.specs.declared.Level.{Level}
 use Rattle.spec.specs.declared.Action.{Action}
-use Rattle.spec.specs.declared.Actions.{Actions}
-use Rattle.spec.specs.declared.Table.{Table}
-use Rattle.spec.specs.declared.Table.TheVariants as table
+use Rattle.spec.specs.Raise.{Actions}
 use Rattle.spec.specs.Body.{buffer_size, assign_pass, raise_pass, rewriting}
 use Rattle.spec.specs.Closed.{is_closed}
 use Rattle.spec.specs.Answers.{text_limit, refusal_numbers, call_numbers, result_of, body_result, by_table, are_lent, body_check}
-use Rattle.spec.specs.declared.Check.{Check}
-use Rattle.spec.specs.declared.Check.TheVariants.{Passed, Refused}
 use Rattle.spec.specs.declared.Refusal.{Refusal}
 use Rattle.spec.specs.declared.Refusal.TheVariants.{TextTooLong, BufferTooShort, NotAscii}
 use Rattle.joining.specs.Continuable.{second_text, fourth_text, Continuable}
@@ -53,7 +49,7 @@ module _ (act : Level → Action) (a : List ℕ) (s : Continuable a) (us : List 
   third = ((limited_exactly act a us).0 r).0.middle
 
   -- pass 3 goes through both if it does so behind
-  third_text : target_in (after2 c) ≡ none → assign_pass (after2 (a ++ c)) ≡ accepted (third ++ after3 c)
+  third_text : target_in (after2 c) ≡ None → assign_pass (after2 (a ++ c)) ≡ accepted (third ++ after3 c)
   unfolding assign_pass third
   third_text e =
       ap assign_pass (second_join a c s.first s.second)
@@ -67,7 +63,7 @@ module _ (act : Level → Action) (a : List ℕ) (s : Continuable a) (us : List 
   fourth_text_lem = fourth_join third (after3 c) (s.behind third ((limited_exactly act a us).0 r).0.third).quotes
 
   -- pass 5 goes through both if it does so behind
-  fifth_text : clause_in act (after4 c) ≡ none → raise_pass act (fourth_text (third ++ after3 c)) ≡ accepted (us ++ after5 act c)
+  fifth_text : clause_in act (after4 c) ≡ None → raise_pass act (fourth_text (third ++ after3 c)) ≡ accepted (us ++ after5 act c)
   unfolding raise_pass third
   fifth_text e =
       let q = s.behind third ((limited_exactly act a us).0 r).0.third in
@@ -77,7 +73,7 @@ module _ (act : Level → Action) (a : List ℕ) (s : Continuable a) (us : List 
       ((limited_exactly act a us).0 r).0.fifth (raise_done act (after4 c) e))
 
   -- where passes 1 and 2 keep both within the buffer size, pass 3 refuses nothing behind
-  no_target_lem : Through2 (a ++ c) → Exceeds act c → target_in (after2 c) ≡ none
+  no_target_lem : Through2 (a ++ c) → Exceeds act c → target_in (after2 c) ≡ None
   no_target_lem t (in1 h) = absurd (back_fits (requoted a) (requoted c) _ (requoted_join a c s.first) t.fits1 h)
   no_target_lem t (in2 f h) = absurd (back_fits (second_text a) (second_text c) _ (second_join a c s.first s.second) t.fits2 h)
   no_target_lem t (in3 u e h) = e
@@ -91,10 +87,10 @@ module _ (act : Level → Action) (a : List ℕ) (s : Continuable a) (us : List 
       let g = third_text (no_target_lem t.before.before x) in
       cc
 
-  no_clause_lem : Through4 (a ++ c) → Exceeds act c → clause_in act (after4 c) ≡ none
+  no_clause_lem : Through4 (a ++ c) → Exceeds act c → clause_in act (after4 c) ≡ None
   no_clause_lem t x = go (after_third t x) x
     where
-      go : after3 (a ++ c) ≡ third ++ after3 c → Exceeds act c → clause_in act (after4 c) ≡ none
+      go : after3 (a ++ c) ≡ third ++ after3 c → Exceeds act c → clause_in act (after4 c) ≡ None
       go m (in1 h) = absurd (back_fits (requoted a) (requoted c) _ (requoted_join a c s.first) t.before.before.fits1 h)
       go m (in2 f h) = absurd (back_fits (second_text a) (second_text c) _ (second_join a c s.first s.second) t.before.before.fits2 h)
       go m (in3 u e h) = absurd (back_fits third (after3 c) _ m t.before.fits3 h)
@@ -125,14 +121,14 @@ module _ (act : Level → Action) (a : List ℕ) (s : Continuable a) (us : List 
 -- ---- the call
 
 -- the checks pass, the table is given, and with its actions the passes give refusal 6
-pub record TooLong (levels : Table) (c : List ℕ) : Type 0 where
+pub record TooLong (levels : Result Actions Refusal) (c : List ℕ) : Type 0 where
   pub fits : length c ≤ text_limit
   pub ascii : NoHigh c
   pub actions : Actions
-  pub given : levels ≡ table.Given actions
+  pub given : levels ≡ Ok actions
   pub exceeds : rewriting (action_of actions) c ≡ refused result_too_long
 
-module _ (levels : Table) (is : IsTable levels) (l : Lent) (c : List ℕ) where
+module _ (levels : Result Actions Refusal) (is : IsTable levels) (l : Lent) (c : List ℕ) where
   -- 1 is given past the limit, 6 where the result is too long, and another number else
   by_limit : {P : Type 0} → (number_of levels l c ≡ 1 → text_limit < length c → P) → (number_of levels l c ≡ 6 → TooLong levels c → P)
       → ((n : ℕ) → number_of levels l c ≡ n → (n ≡ 1 → ⊥) → (n ≡ 6 → ⊥) → P)
@@ -140,26 +136,26 @@ module _ (levels : Table) (is : IsTable levels) (l : Lent) (c : List ℕ) where
   unfolding body_check result_of
   by_limit {P} one six other = by_check (check_by l c) refl
     where
-      by_result : check_by l c ≡ Passed → (a : Actions) → levels ≡ table.Given a → (r : Rewriting) → rewriting (action_of a) c ≡ r → P
+      by_result : check_by l c ≡ Ok tt → (a : Actions) → levels ≡ Ok a → (r : Rewriting) → rewriting (action_of a) c ≡ r → P
       by_result e a g (accepted zs) q = other 0 (number_passed levels l c e a g ∙ rw q refl) (λ z. omega arith) (λ z. omega arith)
       by_result e a g (refused f) q =
           let n : number_of levels l c ≡ pass_number f = number_passed levels l c e a g ∙ rw q refl in
-          let k = check_only text_limit _ c [] Passed e in
+          let k = check_only text_limit _ c [] (Ok tt) e in
           by (eqb (pass_number f) 6)
           (λ h.
           let d = eqb-true (pass_number f) 6 h in
           six (n ∙ d) (record { fits = k.0; ascii = k.2; actions = a; given = g; exceeds = q ∙ ap refused (told 6 f d) }))
           (λ h. other (pass_number f) n (λ z. omega (arith, (pass_number_lem f).0)) (eqb-false (pass_number f) 6 h))
 
-      by_levels : check_by l c ≡ Passed → (t : Table) → levels ≡ t → P
-      by_levels e (table.Given a) g = by_result e a g (rewriting (action_of a) c) refl
-      by_levels e (table.Refused f) g =
-          let n = ap (λ (t : Table). (call_numbers (by_table t (body_result c)).answer).number) g in
+      by_levels : check_by l c ≡ Ok tt → (t : Result Actions Refusal) → levels ≡ t → P
+      by_levels e (Ok a) g = by_result e a g (rewriting (action_of a) c) refl
+      by_levels e (Err f) g =
+          let n = ap (λ (t : Result Actions Refusal). (call_numbers (by_table t (body_result c)).answer).number) g in
           other (refusal_numbers f).number (number_table levels l c e ∙ n) (λ z. omega (arith, (is f g).0)) (λ z. omega (arith, (is f g).0))
 
-      by_check : (k : Check) → check_by l c ≡ k → P
-      by_check Passed e = by_levels e levels refl
-      by_check (Refused f) e = refuses (check_only text_limit _ c [] (Refused f) e)
+      by_check : (k : Result ⊤ Refusal) → check_by l c ≡ k → P
+      by_check (Ok tt) e = by_levels e levels refl
+      by_check (Err f) e = refuses (check_only text_limit _ c [] (Err f) e)
         where
           number : (g : Refusal) → f ≡ g → number_of levels l c ≡ (refusal_numbers g).number
           number g q = number_refused levels l c f e ∙ ap (λ (r : Refusal). (refusal_numbers r).number) q
@@ -174,7 +170,7 @@ module _ (levels : Table) (is : IsTable levels) (l : Lent) (c : List ℕ) where
 
   one_always : text_limit < length c → number_of levels l c ≡ 1
   unfolding body_check
-  one_always h = number_refused levels l c TextTooLong (check_always text_limit _ c [] (Refused TextTooLong) (too_long refl h))
+  one_always h = number_refused levels l c TextTooLong (check_always text_limit _ c [] (Err TextTooLong) (too_long refl h))
 
   six_only : number_of levels l c ≡ 6 → TooLong levels c
   six_only h = by_limit (λ e q. absurd (omega arith)) (λ e q. q) (λ n e p q. absurd (q (sym e ∙ h)))
@@ -192,7 +188,7 @@ module _ (levels : Table) (is : IsTable levels) (l : Lent) (c : List ℕ) where
   six_exactly = (six_only, six_always)
 
 -- what meets a size limit meets one behind an accepted continuable body
-module _ (levels : Table) (l : Lent) (a : List ℕ) (s : Continuable a) (z : number_of levels l a ≡ 0) (c : List ℕ) where
+module _ (levels : Result Actions Refusal) (l : Lent) (a : List ℕ) (s : Continuable a) (z : number_of levels l a ≡ 0) (c : List ℕ) where
   -- as that body is accepted, the table is given
   is_given : IsTable levels
   is_given = let t = (zero_taken levels l a z).1 in given_table levels t.actions t.given
@@ -220,7 +216,7 @@ module _ (levels : Table) (l : Lent) (a : List ℕ) (s : Continuable a) (z : num
 
 -- ---- the list
 
-module _ (levels : Table) (l : Lent) (b : List ℕ) where
+module _ (levels : Result Actions Refusal) (l : Lent) (b : List ℕ) where
   -- every body of the list, and the one behind it, gives 0
   abbrev pub AllZero : List (List ℕ) → Type 0
   AllZero bodies = ((a : List ℕ) → Memᴰ a bodies → number_of levels l a ≡ 0) × (number_of levels l b ≡ 0)
@@ -265,7 +261,7 @@ module _ (levels : Table) (l : Lent) (b : List ℕ) where
 -- Demand 3 for a list, in its own words and for every table: for closed bodies one after the other and any body b behind
 -- them, where the call on the whole meets no size limit, it gives 0 exactly if it gives 0 for each of the bodies and for b,
 -- and then the whole's rewriting is the rewritings one after the other.
-pub joined_list : (levels : Table) (l : Lent) (bodies : List (List ℕ)) (b : List ℕ) → all is_closed bodies ≡ true
+pub joined_list : (levels : Result Actions Refusal) (l : Lent) (bodies : List (List ℕ)) (b : List ℕ) → all is_closed bodies ≡ true
     → (number_of levels l (concat bodies ++ b) ≡ 1 → ⊥)
     → (number_of levels l (concat bodies ++ b) ≡ 6 → ⊥)
     → ((number_of levels l (concat bodies ++ b) ≡ 0) ↔ (((a : List ℕ) → Memᴰ a bodies → number_of levels l a ≡ 0) × (number_of levels l b ≡ 0)))

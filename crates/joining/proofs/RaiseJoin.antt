@@ -1,9 +1,9 @@
 -- Pass 5 over two texts joined, the first with a live `;` at its end and each of its RAISE followed safely: the two outcomes
 -- joined. Assumes nothing.
+use Rattle.std.specs.Prelude.{Option, Some, None}
 use mathlib.Core.Path.{◌≡◌, refl, sym, ap, ◌∙◌}
 use mathlib.Core.Bool.{Bool, true, false, not, ◌&&◌, ◌||◌, false≢true}
 use mathlib.Core.List.{List, [], ◌∷◌, ◌++◌, append_assoc}
-use mathlib.Core.Option.{Option, none, some}
 use Prim.Native.Nat.{ℕ, zero, suc, ◌+◌, ◌-◌, ◌≤◌, ◌<◌, zero-le, suc-le-suc}
 use native.Mathlib.Nat.{le_of_suc-le-suc, not-suc-le-zero}
 use native.Mathlib.Omega.{arith}
@@ -243,19 +243,19 @@ level_keep t u =
 
 -- EXCEPTION is found only where it stands
 never_exception : (ws : List LevelWord) (t : List Marked) → all (λ (w : LevelWord). not (is_exception w.level)) ws ≡ true
-    → level_in ws t ≡ some Exception → ⊥
+    → level_in ws t ≡ Some Exception → ⊥
 unfolding level_in all
 never_exception [] t n h = apart (cc)
 never_exception (w ∷ ws) t n h =
     let more = all (λ (w : LevelWord). not (is_exception w.level)) ws in
     by (starts_ignoring_case w.word t)
     (λ e.
-    let f : some w.level ≡ some Exception = rw e at h in
+    let f : Some w.level ≡ Some Exception = rw e at h in
     let g : w.level ≡ Exception = cc in
     false≢true (rw g at (and_left (not (is_exception w.level)) more n)))
     (λ e. never_exception ws t (and_right (not (is_exception w.level)) more n) (rw e at h))
 
-found_exception : (t : List Marked) → level_in level_words t ≡ some Exception → starts_ignoring_case (ascii "EXCEPTION") t ≡ true
+found_exception : (t : List Marked) → level_in level_words t ≡ Some Exception → starts_ignoring_case (ascii "EXCEPTION") t ≡ true
 unfolding level_words level_in all
 found_exception t h =
     by (starts_ignoring_case (ascii "EXCEPTION") t)
@@ -264,7 +264,7 @@ found_exception t h =
 
 -- the level's length: its bytes open nothing, and it ends before the last `;`
 module _ (xs : List ℕ) (ends : ends_live (marks_from 0 xs) ≡ true) (safe : ends_level_safely (marks_from 0 xs) ≡ true) where
-  level_visits : (l : Level) → level_in level_words (marks_from 0 xs) ≡ some l
+  level_visits : (l : Level) → level_in level_words (marks_from 0 xs) ≡ Some l
       → drop (level_len l (marks_from 0 xs)) (marks_from 0 xs) ≡ marks_from 0 (drop (level_len l (marks_from 0 xs)) xs)
   unfolding level_len all opens_none upper is_lower within
   level_visits Exception h = starts_visits (ascii "EXCEPTION") xs refl (found_exception (marks_from 0 xs) h)
@@ -289,7 +289,7 @@ exception_short t =
     (λ s h. rw length-append (omega (arith, starts_short [] (ascii "EXCEPTION") s refl h)))
     t
 
-len_short : (l : Level) (t : List Marked) → ends_live t ≡ true → level_in level_words t ≡ some l → level_len l t < length t
+len_short : (l : Level) (t : List Marked) → ends_live t ≡ true → level_in level_words t ≡ Some l → level_len l t < length t
 unfolding level_len of_byte
 len_short Exception t h e = exception_short t h (found_exception t e)
 len_short Notice t h e = while_short (of_byte (λ c. not (ends_level c))) (ap not semi_ends) t h
@@ -373,9 +373,9 @@ module _ (act : Level → Action) (xs : List ℕ) (u : List Marked) (ends : ends
   level_known : (o : Option Level) → level_in level_words (marks_from 0 (drop 6 xs)) ≡ o → level_safe o (marks_from 0 (drop 6 xs)) ≡ true
       → (raised_at act o (marks_from 0 xs ++ u) ≡ raised_at act o (marks_from 0 xs)) × ((raised_at act o (marks_from 0 xs)).length ≤ length xs)
   unfolding raised_at
-  level_known none e s =
+  level_known None e s =
       (ap (λ (l : List Marked). record { length = 6; fate = passed l }) (take-append-le 6 (marks_from 0 xs) u six_marks), omega arith)
-  level_known (some l) e s =
+  level_known (Some l) e s =
       let t = marks_from 0 (drop 6 xs) in
       let n = level_len l t in
       let ys = drop n (drop 6 xs) in
@@ -478,8 +478,8 @@ module _ (act : Level → Action) (u : List Marked) where
       let e : ends_live (x ∷ []) ≡ true = rw (marks_nil j) at h in
       rw (marks_nil j) (splits_end (byte x) (last_byte x e))
   splits_behind x j (d ∷ ds) ih h s =
-      let some : 0 < length (marks_from j (d ∷ ds)) = rw (marks_length j (d ∷ ds)) (suc-le-suc zero-le) in
-      ih (byte x) (sym (ends_behind x (marks_from j (d ∷ ds)) some) ∙ h) s
+      let Some : 0 < length (marks_from j (d ∷ ds)) = rw (marks_length j (d ∷ ds)) (suc-le-suc zero-le) in
+      ih (byte x) (sym (ends_behind x (marks_from j (d ∷ ds)) Some) ∙ h) s
 
   splits_walk : (j : ℕ) (xs : List ℕ) (p : ℕ) → ends_live (marks_from j xs) ≡ true → raises_safe p (marks_from j xs) ≡ true → Splits p (marks_from j xs)
   unfolding marks_from

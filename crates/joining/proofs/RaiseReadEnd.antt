@@ -1,9 +1,9 @@
 -- A text that is read from the left with `)` allowed behind RAISE, and that ends in a live `;`, has what pass 5 needs.
 -- Assumes nothing.
+use Rattle.std.specs.Prelude.{Option, Some, None}
 use mathlib.Core.Path.{◌≡◌, refl, sym, ap, ◌∙◌, subst}
 use mathlib.Core.Bool.{true, false, not, ◌&&◌, ◌||◌, false≢true}
 use mathlib.Core.List.{List, [], ◌∷◌, cons≢nil}
-use mathlib.Core.Option.{Option, none, some}
 use Prim.Native.Nat.{ℕ, suc}
 use native.Mathlib.Omega.{arith}
 use borrow.Author.Tests.{eqb-true, le-leb}
@@ -70,7 +70,7 @@ starts_other : (a n : ℕ) (w : List ℕ) (x : Marked) (t : List Marked) → upp
 unfolding starts_ignoring_case
 starts_other a n w x t e f = rw (e, f) refl
 
-no_level : (x : Marked) (t : List Marked) → level_letter (byte x) ≡ false → level_in level_words (x ∷ t) ≡ none
+no_level : (x : Marked) (t : List Marked) → level_letter (byte x) ≡ false → level_in level_words (x ∷ t) ≡ None
 unfolding level_in level_words level_letter
 no_level x t h =
     let c = upper (byte x) in
@@ -96,8 +96,8 @@ no_level x t h =
     ) refl
 
 level_safe_lem : (o : Option Level) (t : List Marked) → ends_level_safely t ≡ true → level_safe o t ≡ true
-level_safe_lem none t h = refl
-level_safe_lem (some l) t h = h
+level_safe_lem None t h = refl
+level_safe_lem (Some l) t h = h
 
 level_skip : (x : Marked) (t : List Marked) → is_ident (byte x) ≡ true → ends_level_safely t ≡ true → ends_level_safely (x ∷ t) ≡ true
 unfolding ends_level_safely drop_while of_byte

@@ -1,6 +1,5 @@
 -- What pass 5 needs of a text so that whatever stands behind it does not matter. Assumes nothing.
-use Rattle.std.specs.Prelude.{ℕ, Bool, true, cond, ◌&&◌, ◌||◌, List, [], ◌∷◌, eqb, leb, length, drop}
-use Rattle.std.proofs.Math.Option.{Option, none, some}
+use Rattle.std.specs.Prelude.{ℕ, Bool, true, cond, ◌&&◌, ◌||◌, List, [], ◌∷◌, eqb, leb, length, drop, Option, Some, None}
 use Rattle.spec.specs.Bytes.{ascii, is_ident, is_word}
 use Rattle.spec.specs.Lists.{drop_while}
 use Rattle.spec.specs.Map.{Marked, byte, front_byte, of_byte}
@@ -15,8 +14,8 @@ ends_level_safely t =
     eqb (front_byte r) 32 || (eqb (front_byte r) 59 || (eqb (front_byte r) 41 && eqb (front_byte (drop 1 r)) 59))
 
 abbrev pub level_safe : Option Level → List Marked → Bool
-level_safe none t = true
-level_safe (some l) t = ends_level_safely t
+level_safe None t = true
+level_safe (Some l) t = ends_level_safely t
 
 -- directly behind RAISE: a space or `)` that is not the last byte, and if a level stands behind it, the level ends safely
 unfoldable pub safe_behind : List Marked → Bool

@@ -1,9 +1,12 @@
 -- The first of some texts that stands in front, and a line as its level, its action and what stands behind each. Assumes
 -- nothing.
+use Rattle.std.specs.Prelude.{Option, Some, None, option_map}
+use Rattle.std.specs.Option.{unwrap_or}
+use Rattle.std.proofs.lemmas.Option.{none-some}
+use Rattle.levels.specs.declared.Line.{Line}
 use mathlib.Core.Path.{◌≡◌, refl, sym, ap, ap₂, ◌∙◌}
 use mathlib.Core.Bool.{Bool, true, false, not, ◌&&◌, false≢true}
 use mathlib.Core.List.{List, [], ◌∷◌, ◌++◌, append_assoc, Memᴰ}
-use mathlib.Core.Option.{Option, none, some}
 use Prim.Native.Nat.{ℕ, ◌+◌, ◌≤◌}
 use native.Mathlib.Omega.{arith}
 use borrow.Author.Tests.{not-true}
@@ -21,34 +24,31 @@ use Rattle.spec.specs.declared.Level.TheVariants.{Debug, Log, Info, Notice, Warn
 use Rattle.spec.specs.declared.RaiseType.TheVariants.{Abort, Fail, Rollback}
 use Rattle.spec.specs.declared.Action.{Action}
 use Rattle.spec.specs.declared.Action.TheVariants.{Drop, Raise}
-use Rattle.levels.specs.Lines.{ahead, level_text, action_text, level_found, action_found, line_found}
-use Rattle.levels.specs.declared.LevelAhead.TheVariants as level
-use Rattle.levels.specs.declared.ActionAhead.TheVariants as action
-use Rattle.levels.specs.declared.LineRead.TheVariants.{Line, Malformed}
+use Rattle.levels.specs.Lines.{ahead, level_text, action_text, with_length, line_of}
 
 -- ---- the first that stands in front
 
 module _ {A : Type 0} (text : A → List ℕ) (xs : List ℕ) where
   -- what is found stands there
-  pub ahead_some : (l : List A) (x : A) → ahead text l xs ≡ some x → is_prefix (text x) xs ≡ true
+  pub ahead_some : (l : List A) (x : A) → ahead text l xs ≡ Some x → is_prefix (text x) xs ≡ true
   unfolding ahead
   ahead_some [] x h = absurd (apart (cc))
   ahead_some (y ∷ l) x h =
       by (is_prefix (text y) xs)
       (λ q.
-      let k : some y ≡ some x = rw q at h in
+      let k : Some y ≡ Some x = rw q at h in
       let i : x ≡ y = cc in
       ap (λ (z : A). is_prefix (text z) xs) i ∙ q)
-      (λ q. let k : ahead text l xs ≡ some x = rw q at h in ahead_some l x k)
+      (λ q. let k : ahead text l xs ≡ Some x = rw q at h in ahead_some l x k)
 
   -- and where none is found, none stands there
-  pub ahead_none : (l : List A) → ahead text l xs ≡ none → all (λ x. not (is_prefix (text x) xs)) l ≡ true
+  pub ahead_none : (l : List A) → ahead text l xs ≡ None → all (λ x. not (is_prefix (text x) xs)) l ≡ true
   unfolding ahead all
   ahead_none [] h = refl
   ahead_none (y ∷ l) h =
       by (is_prefix (text y) xs)
-      (λ q. let k : some y ≡ none = rw q at h in absurd (apart (cc)))
-      (λ q. let k : ahead text l xs ≡ none = rw q at h in simp q (ahead_none l k))
+      (λ q. let k : Some y ≡ None = rw q at h in absurd (apart (cc)))
+      (λ q. let k : ahead text l xs ≡ None = rw q at h in simp q (ahead_none l k))
 
 -- ---- all levels, and all actions
 
@@ -73,42 +73,26 @@ action_in (Raise Abort) = Memᴰ.tail (Memᴰ.head refl)
 action_in (Raise Fail) = Memᴰ.tail (Memᴰ.tail (Memᴰ.head refl))
 action_in (Raise Rollback) = Memᴰ.tail (Memᴰ.tail (Memᴰ.tail (Memᴰ.head refl)))
 
--- ---- what is found, by the answer: there is one, and its end, or there is none
+-- ---- what is found, by the answer: there is one, and the length of its text, or there is none
 
-pub level_found_lem : (o : Option Level) (l : Level) (n : ℕ) → level_found o ≡ level.Level l n → (o ≡ some l) × (n ≡ length (level_text l))
-level_found_lem none l n h = absurd (apart (cc))
-level_found_lem (some k) l n h =
-    let same : k ≡ l = cc in
-    let size : length (level_text k) ≡ n = cc in
-    (ap some same, sym size ∙ ap (λ (j : Level). length (level_text j)) same)
+module _ {A : Type 0} (text : A → List ℕ) where
+  pub found_some : (o : Option A) (p : A × ℕ) → option_map (with_length text) o ≡ Some p → (o ≡ Some p.0) × (p.1 ≡ length (text p.0))
+  found_some None p h = absurd (none-some _ h)
+  found_some (Some x) p h =
+      let same : (x, length (text x)) ≡ p = ap (λ (o : Option (A × ℕ)). unwrap_or o p) h in
+      let front : x ≡ p.0 = ap (λ (q : A × ℕ). q.0) same in
+      (ap Some front, sym (ap (λ (q : A × ℕ). q.1) same) ∙ ap (λ (y : A). length (text y)) front)
 
-pub level_missing : (o : Option Level) → level_found o ≡ level.Nothing → o ≡ none
-level_missing none h = refl
-level_missing (some k) h = absurd (apart (cc))
+pub found_none : {A B : Type 0} (f : A → B) (o : Option A) → option_map f o ≡ None → o ≡ None
+found_none f None h = refl
+found_none f (Some x) h = absurd (none-some _ (sym h))
 
-pub action_found_lem : (o : Option Action) (a : Action) (n : ℕ) → action_found o ≡ action.Action a n → (o ≡ some a) × (n ≡ length (action_text a))
-action_found_lem none a n h = absurd (apart (cc))
-action_found_lem (some b) a n h =
-    let same : b ≡ a = cc in
-    let size : length (action_text b) ≡ n = cc in
-    (ap some same, sym size ∙ ap (λ (j : Action). length (action_text j)) same)
-
-pub action_missing : (o : Option Action) → action_found o ≡ action.Nothing → o ≡ none
-action_missing none h = refl
-action_missing (some b) h = absurd (apart (cc))
-
-pub line_found_lem : (o : Option Entry) (l : Level) (a : Action) (n : ℕ) → line_found o ≡ Line l a n → (o ≡ some (entry l a)) × (n ≡ length (line_text (entry l a)))
-line_found_lem none l a n h = absurd (apart (cc))
-line_found_lem (some e) l a n h =
-    let at_level : e.level ≡ l = cc in
-    let at_action : e.action ≡ a = cc in
-    let size : length (line_text e) ≡ n = cc in
-    let same : e ≡ entry l a = ap₂ entry at_level at_action in
-    (ap some same, sym size ∙ ap (λ (f : Entry). length (line_text f)) same)
-
-pub line_missing : (o : Option Entry) → line_found o ≡ Malformed → o ≡ none
-line_missing none h = refl
-line_missing (some e) h = absurd (apart (cc))
+pub line_found : (o : Option Entry) (l : Line) → option_map line_of o ≡ Some l → (o ≡ Some (entry l.level l.action)) × (l.len ≡ length (line_text (entry l.level l.action)))
+line_found None l h = absurd (none-some _ h)
+line_found (Some e) l h =
+    let made : line_of e ≡ l = ap (λ (o : Option Line). unwrap_or o l) h in
+    let same : e ≡ entry l.level l.action = ap₂ entry (ap (λ (m : Line). m.level) made) (ap (λ (m : Line). m.action) made) in
+    (ap Some same, sym (ap (λ (m : Line). m.len) made) ∙ ap (λ (f : Entry). length (line_text f)) same)
 
 -- ---- a line
 
@@ -149,18 +133,18 @@ module _ (xs : List ℕ) where
   one_line e f h i = text_injective e f (sym (first_ahead e h) ∙ first_ahead f i)
 
   -- no line stands in front
-  pub no_line_lem : ahead line_text all_entries xs ≡ none → (e : Entry) → is_prefix (line_text e) xs ≡ false
+  pub no_line_lem : ahead line_text all_entries xs ≡ None → (e : Entry) → is_prefix (line_text e) xs ≡ false
   no_line_lem h e = not-true (is_prefix (line_text e) xs) (every_entry (λ f. not (is_prefix (line_text f) xs)) (ahead_none line_text xs all_entries h) e)
 
-  all_absent : ((e : Entry) → is_prefix (line_text e) xs ≡ true → ⊥) → ahead line_text all_entries xs ≡ none
+  all_absent : ((e : Entry) → is_prefix (line_text e) xs ≡ true → ⊥) → ahead line_text all_entries xs ≡ None
   all_absent w = go (ahead line_text all_entries xs) refl
     where
-      go : (o : Option Entry) → ahead line_text all_entries xs ≡ o → ahead line_text all_entries xs ≡ none
-      go none h = h
-      go (some e) h = absurd (w e (ahead_some line_text xs all_entries e h))
+      go : (o : Option Entry) → ahead line_text all_entries xs ≡ o → ahead line_text all_entries xs ≡ None
+      go None h = h
+      go (Some e) h = absurd (w e (ahead_some line_text xs all_entries e h))
 
   -- without a level there is no line
-  pub line_no_level : ahead level_text all_levels xs ≡ none → ahead line_text all_entries xs ≡ none
+  pub line_no_level : ahead level_text all_levels xs ≡ None → ahead line_text all_entries xs ≡ None
   line_no_level h =
       all_absent (λ e i.
       let level = is_prefix (level_text e.level) xs in
@@ -168,7 +152,7 @@ module _ (xs : List ℕ) where
       let missing = not-true level (all_at (λ l. not (is_prefix (level_text l) xs)) e.level all_levels (level_in_lem e.level) (ahead_none level_text xs all_levels h)) in
       false≢true (sym missing ∙ there))
 
-  module _ (l : Level) (h : ahead level_text all_levels xs ≡ some l) where
+  module _ (l : Level) (h : ahead level_text all_levels xs ≡ Some l) where
     level_stands : is_prefix (level_text l) xs ≡ true
     level_stands = ahead_some level_text xs all_levels l h
 
@@ -177,7 +161,7 @@ module _ (xs : List ℕ) where
     level_fits = omega (arith, ap length (prefix_split (level_text l) xs level_stands), length-append (level_text l) (drop (length (level_text l)) xs))
 
     -- nor with a level and no action
-    pub line_no_action : ahead action_text all_actions (drop (length (level_text l)) xs) ≡ none → ahead line_text all_entries xs ≡ none
+    pub line_no_action : ahead action_text all_actions (drop (length (level_text l)) xs) ≡ None → ahead line_text all_entries xs ≡ None
     line_no_action m =
         all_absent (λ e i.
         let level = is_prefix (level_text e.level) xs in
@@ -189,13 +173,13 @@ module _ (xs : List ℕ) where
         false≢true (sym missing ∙ there))
 
     -- a level and then an action are the line
-    pub line_whole : (a : Action) → ahead action_text all_actions (drop (length (level_text l)) xs) ≡ some a → ahead line_text all_entries xs ≡ some (entry l a)
+    pub line_whole : (a : Action) → ahead action_text all_actions (drop (length (level_text l)) xs) ≡ Some a → ahead line_text all_entries xs ≡ Some (entry l a)
     line_whole a m =
         go (ahead line_text all_entries xs) refl
       where
         stands : is_prefix (line_text (entry l a)) xs ≡ true
         stands = line_parts l a ∙ and_both _ _ level_stands (ahead_some action_text (drop (length (level_text l)) xs) all_actions a m)
 
-        go : (o : Option Entry) → ahead line_text all_entries xs ≡ o → ahead line_text all_entries xs ≡ some (entry l a)
-        go none i = absurd (false≢true (sym (no_line_lem i (entry l a)) ∙ stands))
-        go (some e) i = i ∙ ap some (one_line e (entry l a) (ahead_some line_text xs all_entries e i) stands)
+        go : (o : Option Entry) → ahead line_text all_entries xs ≡ o → ahead line_text all_entries xs ≡ Some (entry l a)
+        go None i = absurd (false≢true (sym (no_line_lem i (entry l a)) ∙ stands))
+        go (Some e) i = i ∙ ap Some (one_line e (entry l a) (ahead_some line_text xs all_entries e i) stands)

@@ -1,8 +1,8 @@
 -- One turn of the reading: what the table says from an offset on, by the line that stands there. Assumes nothing.
+use Rattle.std.specs.Prelude.{Some, None, Result, Err}
 use mathlib.Core.Path.{◌≡◌, refl, sym, ap, ◌∙◌}
 use mathlib.Core.Bool.{true, false≢true}
 use mathlib.Core.List.{List, [], ◌∷◌, ◌++◌}
-use mathlib.Core.Option.{none, some}
 use Prim.Native.Nat.{ℕ, ◌+◌, ◌≤◌, ◌<◌}
 use native.Mathlib.Omega.{arith}
 use lib.ListN.{length, drop, length-append, length-drop, drop_of_length-le}
@@ -13,13 +13,13 @@ use Rattle.spec.specs.Bytes.{is_prefix}
 use Rattle.spec.specs.Levels.{Entry, line_text, all_entries, lines_of, given_action, or_repeated, table_end, table_from, table_of}
 use Rattle.spec.specs.declared.Action.{Action}
 use Rattle.spec.specs.declared.Refusal.TheVariants.{MalformedLine, RepeatedLevel}
-use Rattle.spec.specs.declared.Table.{Table}
-use Rattle.spec.specs.declared.Table.TheVariants.{Refused}
 use Rattle.levels.specs.Lines.{ahead}
 use Rattle.levels.proofs.AheadLaws.{ahead_some, no_line_lem}
+use Rattle.spec.specs.declared.Refusal.{Refusal}
+use Rattle.spec.specs.Raise.{Actions}
 
 -- what the table xs says by its lines from offset n on, behind those that said es
-abbrev pub says_from : List ℕ → List Entry → ℕ → Table
+abbrev pub says_from : List ℕ → List Entry → ℕ → Result Actions Refusal
 says_from xs es n = table_from es n (lines_of (drop n xs))
 
 -- all of it, at the start
@@ -34,14 +34,14 @@ module _ (xs : List ℕ) (es : List Entry) (n : ℕ) where
   says_end h = rw (drop_of_length-le xs h, no_lines)
 
   -- no well-formed line stands there: 11
-  pub says_malformed : n < length xs → ahead line_text all_entries (drop n xs) ≡ none → says_from xs es n ≡ Refused (MalformedLine n)
+  pub says_malformed : n < length xs → ahead line_text all_entries (drop n xs) ≡ None → says_from xs es n ≡ Err (MalformedLine n)
   says_malformed h m =
       let k : 0 < length (drop n xs) = omega (arith, length-drop n xs) in
       from_malformed es n (drop n xs) k (λ e i.
       let stands : is_prefix (line_text e) (drop n xs) ≡ true = rw (text_first e (drop n xs) i) (prefix_front (line_text e) _) in
       false≢true (sym (no_line_lem (drop n xs) m e) ∙ stands))
 
-  module _ (e : Entry) (m : ahead line_text all_entries (drop n xs) ≡ some e) where
+  module _ (e : Entry) (m : ahead line_text all_entries (drop n xs) ≡ Some e) where
     cut : drop n xs ≡ line_text e ++ drop (n + length (line_text e)) xs
     cut =
         prefix_split (line_text e) (drop n xs) (ahead_some line_text (drop n xs) all_entries e m)
@@ -55,8 +55,8 @@ module _ (xs : List ℕ) (es : List Entry) (n : ℕ) where
     says_line = ap (λ (l : List ℕ). table_from es n (lines_of l)) cut ∙ from_text_lem es n e (drop (n + length (line_text e)) xs)
 
     -- its level has an action: 12, else the lines behind it decide
-    pub says_repeated : (a : Action) → given_action es e.level ≡ some a → says_from xs es n ≡ Refused (RepeatedLevel n)
+    pub says_repeated : (a : Action) → given_action es e.level ≡ Some a → says_from xs es n ≡ Err (RepeatedLevel n)
     says_repeated a g = says_line ∙ ap (λ o. or_repeated n o (says_from xs (e ∷ es) (n + length (line_text e)))) g
 
-    pub says_on : given_action es e.level ≡ none → says_from xs es n ≡ says_from xs (e ∷ es) (n + length (line_text e))
+    pub says_on : given_action es e.level ≡ None → says_from xs es n ≡ says_from xs (e ∷ es) (n + length (line_text e))
     says_on g = says_line ∙ ap (λ o. or_repeated n o (says_from xs (e ∷ es) (n + length (line_text e)))) g

@@ -1,254 +1,111 @@
 // The table of RAISE levels: a line for each level, with its action.
 #![tactic(auto)]
 
-ghost use Rattle.std.specs.Prelude.{◌≡◌, []};
+ghost use Rattle.std.specs.Prelude.{◌≡◌};
 ghost use Rattle.spec.specs.Levels.{table_of, no_table};
-ghost use Rattle.levels.specs.Lines.{level_ahead, action_ahead, line_ahead, given, giving, completed, given_by};
+ghost use Rattle.levels.specs.Lines.{level_ahead, action_ahead, line_ahead, completed};
 
 use classes::starts_with;
-use spec::{Action, Actions, Level, RaiseType, Refusal, Table};
+use spec::{Action, Actions, ByLevel, Level, RaiseType, Refusal};
 
-// A level's name and the space behind it, in front of a text.
+// A line of a table: what it says, and how many bytes it has.
 #[derive(Clone, Copy)]
-enum LevelAhead {
-    Level { level: Level, end: usize },
-    Nothing,
+struct Line {
+    level: Level,
+    action: Action,
+    len: usize,
 }
 
-// An action's name and the newline behind it, in front of a text.
-#[derive(Clone, Copy)]
-enum ActionAhead {
-    Action { action: Action, end: usize },
-    Nothing,
-}
-
-// A line in front of a text: what it says, and where it ends.
-#[derive(Clone, Copy)]
-enum LineRead {
-    Line {
-        level: Level,
-        action: Action,
-        end: usize,
-    },
-    Malformed,
-}
-
-// The action that the lines read so far give a level.
-#[derive(Clone, Copy)]
-enum GivenAction {
-    Is(Action),
-    Missing,
-}
-
-#[derive(Clone, Copy)]
-struct GivenActions {
-    debug: GivenAction,
-    log: GivenAction,
-    info: GivenAction,
-    notice: GivenAction,
-    warning: GivenAction,
-    exception: GivenAction,
-}
-
-// The level in front.
-fn level_ahead(text: &[u8]) -> LevelAhead
+// The level in front whose name has a space behind it, and how many bytes the two have.
+#[tactic(auto, unfolding(crate::specs::Lines::ahead, spec::specs::Levels::all_levels, crate::specs::Lines::level_text, spec::specs::Levels::level_name))]
+fn level_ahead(text: &[u8]) -> Option<(Level, usize)>
     ensures { result ≡ level_ahead text.now }
 {
     if starts_with(text, b"DEBUG ") {
-        LevelAhead::Level {
-            level: Level::Debug,
-            end: 6,
-        }
+        Some((Level::Debug, 6))
     } else if starts_with(text, b"LOG ") {
-        LevelAhead::Level {
-            level: Level::Log,
-            end: 4,
-        }
+        Some((Level::Log, 4))
     } else if starts_with(text, b"INFO ") {
-        LevelAhead::Level {
-            level: Level::Info,
-            end: 5,
-        }
+        Some((Level::Info, 5))
     } else if starts_with(text, b"NOTICE ") {
-        LevelAhead::Level {
-            level: Level::Notice,
-            end: 7,
-        }
+        Some((Level::Notice, 7))
     } else if starts_with(text, b"WARNING ") {
-        LevelAhead::Level {
-            level: Level::Warning,
-            end: 8,
-        }
+        Some((Level::Warning, 8))
     } else if starts_with(text, b"EXCEPTION ") {
-        LevelAhead::Level {
-            level: Level::Exception,
-            end: 10,
-        }
+        Some((Level::Exception, 10))
     } else {
-        LevelAhead::Nothing
+        None
     }
 }
 
-// The action in front.
-fn action_ahead(text: &[u8]) -> ActionAhead
+// The action in front whose name has a newline behind it, and how many bytes the two have.
+#[tactic(auto, unfolding(crate::specs::Lines::ahead, spec::specs::Levels::all_actions, crate::specs::Lines::action_text, spec::specs::Raise::action_name))]
+fn action_ahead(text: &[u8]) -> Option<(Action, usize)>
     ensures { result ≡ action_ahead text.now }
 {
     if starts_with(text, b"drop\n") {
-        ActionAhead::Action {
-            action: Action::Drop,
-            end: 5,
-        }
+        Some((Action::Drop, 5))
     } else if starts_with(text, b"abort\n") {
-        ActionAhead::Action {
-            action: Action::Raise(RaiseType::Abort),
-            end: 6,
-        }
+        Some((Action::Raise(RaiseType::Abort), 6))
     } else if starts_with(text, b"fail\n") {
-        ActionAhead::Action {
-            action: Action::Raise(RaiseType::Fail),
-            end: 5,
-        }
+        Some((Action::Raise(RaiseType::Fail), 5))
     } else if starts_with(text, b"rollback\n") {
-        ActionAhead::Action {
-            action: Action::Raise(RaiseType::Rollback),
-            end: 9,
-        }
+        Some((Action::Raise(RaiseType::Rollback), 9))
     } else {
-        ActionAhead::Nothing
+        None
     }
 }
 
 // The line in front. No more of it is read than a well-formed line can have.
-fn read_line(text: &[u8]) -> LineRead
+fn read_line(text: &[u8]) -> Option<Line>
     ensures { result ≡ line_ahead text.now }
 {
-    let l = level_ahead(text);
-    let LevelAhead::Level { level, end } = l else {
-        return LineRead::Malformed;
-    };
-    let a = action_ahead(&text[end..]);
-    let ActionAhead::Action { action, end: n } = a else {
-        return LineRead::Malformed;
-    };
-    LineRead::Line {
+    let (level, n) = level_ahead(text)?;
+    let (action, m) = action_ahead(&text[n..])?;
+    Some(Line {
         level,
         action,
-        end: end + n,
-    }
-}
-
-// The action given to a level.
-fn given_action(g: GivenActions, level: Level) -> GivenAction
-    ensures { result ≡ given g level }
-{
-    match level {
-        Level::Debug => g.debug,
-        Level::Log => g.log,
-        Level::Info => g.info,
-        Level::Notice => g.notice,
-        Level::Warning => g.warning,
-        Level::Exception => g.exception,
-    }
-}
-
-// The same with this action for a level.
-fn give(g: GivenActions, level: Level, action: Action) -> GivenActions
-    ensures { result ≡ giving g level action }
-{
-    let is = GivenAction::Is(action);
-    match level {
-        Level::Debug => GivenActions { debug: is, ..g },
-        Level::Log => GivenActions { log: is, ..g },
-        Level::Info => GivenActions { info: is, ..g },
-        Level::Notice => GivenActions { notice: is, ..g },
-        Level::Warning => GivenActions { warning: is, ..g },
-        Level::Exception => GivenActions { exception: is, ..g },
-    }
-}
-
-// What a table of n bytes says that has no bad line.
-fn complete(g: GivenActions, n: usize) -> Table
-    ensures { result ≡ completed g n }
-{
-    let debug = g.debug;
-    let GivenAction::Is(debug) = debug else {
-        return Table::Refused(Refusal::MissingLevel(n));
-    };
-    let log = g.log;
-    let GivenAction::Is(log) = log else {
-        return Table::Refused(Refusal::MissingLevel(n));
-    };
-    let info = g.info;
-    let GivenAction::Is(info) = info else {
-        return Table::Refused(Refusal::MissingLevel(n));
-    };
-    let notice = g.notice;
-    let GivenAction::Is(notice) = notice else {
-        return Table::Refused(Refusal::MissingLevel(n));
-    };
-    let warning = g.warning;
-    let GivenAction::Is(warning) = warning else {
-        return Table::Refused(Refusal::MissingLevel(n));
-    };
-    let exception = g.exception;
-    let GivenAction::Is(exception) = exception else {
-        return Table::Refused(Refusal::MissingLevel(n));
-    };
-    Table::Given(Actions {
-        debug,
-        log,
-        info,
-        notice,
-        warning,
-        exception,
+        len: n + m,
     })
 }
 
-// No line was read.
-fn none_given() -> GivenActions
-    ensures { result ≡ given_by [] }
+// What a table of n bytes says that has no bad line, by what its lines give.
+fn complete(given: ByLevel<Option<Action>>, n: usize) -> Result<Actions, Refusal>
+    ensures { result ≡ completed given n }
 {
-    GivenActions {
-        debug: GivenAction::Missing,
-        log: GivenAction::Missing,
-        info: GivenAction::Missing,
-        notice: GivenAction::Missing,
-        warning: GivenAction::Missing,
-        exception: GivenAction::Missing,
-    }
+    let missing = Refusal::MissingLevel(n);
+    Ok(ByLevel {
+        debug: given.debug.ok_or(missing)?,
+        log: given.log.ok_or(missing)?,
+        info: given.info.ok_or(missing)?,
+        notice: given.notice.ok_or(missing)?,
+        warning: given.warning.ok_or(missing)?,
+        exception: given.exception.ok_or(missing)?,
+    })
 }
 
 // What a table says. The first bad line decides, and nothing behind it is read.
-pub fn read_table(table: &[u8]) -> Table
+pub fn read_table(table: &[u8]) -> Result<Actions, Refusal>
     ensures { result ≡ table_of table.now }
 {
-    let mut g = none_given();
+    let mut given = ByLevel::all(None);
     let mut at: usize = 0;
     while at < table.len() {
-        let line = read_line(&table[at..]);
-        let LineRead::Line { level, action, end } = line else {
-            return Table::Refused(Refusal::MalformedLine(at));
+        let Some(line) = read_line(&table[at..]) else {
+            return Err(Refusal::MalformedLine(at));
         };
-        let before = given_action(g, level);
-        let GivenAction::Missing = before else {
-            return Table::Refused(Refusal::RepeatedLevel(at));
-        };
-        g = give(g, level, action);
-        at += end;
+        if given.get(line.level).is_some() {
+            return Err(Refusal::RepeatedLevel(at));
+        }
+        given = given.with(line.level, Some(line.action));
+        at += line.len;
     }
-    complete(g, at)
+    complete(given, at)
 }
 
 // What stands for a table where there is none: EXCEPTION aborts, the others vanish.
-pub fn no_table() -> Table
+pub fn no_table() -> Result<Actions, Refusal>
     ensures { result ≡ no_table }
 {
-    Table::Given(Actions {
-        debug: Action::Drop,
-        log: Action::Drop,
-        info: Action::Drop,
-        notice: Action::Drop,
-        warning: Action::Drop,
-        exception: Action::Raise(RaiseType::Abort),
-    })
+    Ok(ByLevel::all(Action::Drop).with(Level::Exception, Action::Raise(RaiseType::Abort)))
 }

@@ -1,8 +1,8 @@
 -- A RAISE read off its bytes: its level, and with each level its end and what it becomes. Assumes nothing.
+use Rattle.std.specs.Prelude.{Option, Some, None}
 use mathlib.Core.Path.{◌≡◌, refl, sym, ap, ◌∙◌}
 use mathlib.Core.Bool.{Bool, true, false, cond, not}
 use mathlib.Core.List.{List, []}
-use mathlib.Core.Option.{Option, none, some}
 use Prim.Native.Nat.{ℕ, ◌+◌, ◌-◌, ◌≤◌, min}
 use native.Mathlib.Omega.{arith}
 use borrow.Author.Tests.{leb-true, leb-false}
@@ -25,9 +25,8 @@ use Rattle.spec.specs.declared.Level.TheVariants.{Exception}
 use Rattle.spec.specs.declared.RaiseType.{RaiseType}
 use Rattle.spec.specs.declared.Action.{Action}
 use Rattle.spec.specs.declared.Action.TheVariants.{Drop, Raise}
-use Rattle.messages.specs.declared.LevelFound.TheVariants.{At, Nothing}
 use Rattle.messages.specs.declared.RaiseFate.TheVariants.{Passed}
-use Rattle.messages.specs.Readings.{level_found, level_end, content_in, raised_as, fate_of, fate_in, FateWithin, Reads}
+use Rattle.messages.specs.Readings.{level_end, content_in, raised_as, fate_of, fate_in, FateWithin, Reads}
 use Rattle.runs.specs.Sets.{trimmed}
 use Rattle.runs.proofs.RunLaws.{trim_bytes}
 use Rattle.messages.proofs.ContentLaws.{content_bytes}
@@ -36,22 +35,13 @@ use Rattle.messages.proofs.UsingLaws.{raise_marks}
 -- ---- the level
 
 module _ (t : List Marked) (xs : List ℕ) (e : bytes t ≡ xs) where
-  pub level_first : prefix_by upper (ascii "EXCEPTION") xs ≡ true → level_in level_words t ≡ some Exception
+  pub level_first : prefix_by upper (ascii "EXCEPTION") xs ≡ true → level_in level_words t ≡ Some Exception
   unfolding level_in level_words
   level_first p = simp (starts_case, e, p)
 
   pub level_rest : prefix_by upper (ascii "EXCEPTION") xs ≡ false → level_in level_words t ≡ level_in (drop 1 level_words) t
   unfolding level_in level_words
   level_rest p = rw (starts_case (ascii "EXCEPTION") t, e, p)
-
--- the level from what was found
-pub found_level : (o : Option Level) (l : Level) → At l ≡ level_found o → o ≡ some l
-found_level none l e = absurd (apart (cc))
-found_level (some k) l e = let z : k ≡ l = cc in ap some z
-
-pub found_nothing : (o : Option Level) → Nothing ≡ level_found o → o ≡ none
-found_nothing none e = refl
-found_nothing (some l) e = absurd (apart (cc))
 
 -- where a level ends
 pub exception_ends : (l : Level) (xs : List ℕ) → is_exception l ≡ true → level_end l xs ≡ 15
@@ -71,7 +61,7 @@ fate_within Drop lo s e hi p q r = tt
 fate_within (Raise w) lo s e hi p q r = (p, q, r)
 
 -- nothing stands behind the separator
-pub level_none : (t : List Marked) → length t ≤ 6 → level_in level_words (drop 6 t) ≡ none
+pub level_none : (t : List Marked) → length t ≤ 6 → level_in level_words (drop 6 t) ≡ None
 unfolding level_in level_words starts_ignoring_case
 level_none t h = rw (drop_of_length-le t h)
 
@@ -88,7 +78,7 @@ raised_text_lem w u ys e = raise_marks w (trim u) (trim (lives ys)) e
 
 module _ (t : List Marked) (xs : List ℕ) (e : bytes t ≡ xs) where
   -- no level: the RAISE and its separator pass
-  pub reads_none : (act : Level → Action) (n : ℕ) → n ≡ min 6 (length xs) → Reads act t none xs (record { end = n; fate = Passed })
+  pub reads_none : (act : Level → Action) (n : ℕ) → n ≡ min 6 (length xs) → Reads act t None xs (record { end = n; fate = Passed })
   unfolding raised_at forget fate_text
   reads_none act n h =
       record {
@@ -125,7 +115,7 @@ module _ (t : List Marked) (xs : List ℕ) (e : bytes t ≡ xs) where
   pub reads_level : (act : Level → Action) (l : Level) (k n : ℕ)
       → k ≡ level_end l xs
       → n ≡ min (k + length (content_in (drop k xs)) + 1) (length xs)
-      → Reads act t (some l) xs (record { end = n; fate = fate_of (act l) k (k + length (content_in (drop k xs))) })
+      → Reads act t (Some l) xs (record { end = n; fate = fate_of (act l) k (k + length (content_in (drop k xs))) })
   unfolding raised_at
   reads_level act l k n p h =
       record {

@@ -1,7 +1,6 @@
 -- What a reading of a RAISE says: the definition's level, fate and length, by offsets in the text that was read. Assumes
 -- nothing.
-use Rattle.std.specs.Prelude.{◌≡◌, Bool, false, cond, not, ◌&&◌, List, [], ◌++◌, ℕ, ◌+◌, ◌-◌, ◌≤◌, min, eqb, length, take, drop, get_or}
-use Rattle.std.proofs.Math.Option.{Option, none, some}
+use Rattle.std.specs.Prelude.{◌≡◌, Bool, false, cond, not, ◌&&◌, List, [], ◌++◌, ℕ, ◌+◌, ◌-◌, ◌≤◌, min, eqb, length, take, drop, get_or, Option, Some, None}
 use Rattle.spec.specs.Bytes.{ascii}
 use Rattle.spec.specs.Lists.{take_while}
 use Rattle.spec.specs.Map.{Marked, lives, marked_text, is_live_byte}
@@ -13,21 +12,14 @@ use Rattle.spec.specs.declared.Level.{Level}
 use Rattle.spec.specs.declared.RaiseType.{RaiseType}
 use Rattle.spec.specs.declared.Action.{Action}
 use Rattle.spec.specs.declared.Action.TheVariants.{Drop, Raise}
-use Rattle.messages.specs.declared.LevelFound.{LevelFound}
-use Rattle.messages.specs.declared.LevelFound.TheVariants.{At, Nothing}
 use Rattle.messages.specs.declared.RaiseFate.{RaiseFate}
 use Rattle.messages.specs.declared.RaiseFate.TheVariants.{Raises, Dropped, Passed}
 use Rattle.messages.specs.declared.RaiseRead.{RaiseRead}
 
--- the level as the reader tells it
-abbrev pub level_found : Option Level → LevelFound
-level_found none = Nothing
-level_found (some l) = At l
-
 -- how long the text is at least where this level stands: EXCEPTION has its letters
-abbrev pub level_reach : LevelFound → ℕ
-level_reach Nothing = 0
-level_reach (At l) = cond (is_exception l) 9 0
+abbrev pub level_reach : Option Level → ℕ
+level_reach None = 0
+level_reach (Some l) = cond (is_exception l) 9 0
 
 -- where a level ends in xs, a text from the RAISE on
 abbrev pub level_end : Level → List ℕ → ℕ

@@ -1,29 +1,20 @@
 // Pass 5's reading of a RAISE: its level, its statement's content, and the message in it.
 #![tactic(auto)]
 
-ghost use Rattle.std.specs.Prelude.{◌≡◌, List, ◌+◌, ◌≤◌, ◌<◌, min, length, drop};
-ghost use Rattle.std.proofs.Math.Option.{some};
+ghost use Rattle.std.specs.Prelude.{◌≡◌, List, ◌+◌, ◌≤◌, ◌<◌, min, length, drop, Some};
 ghost use Rattle.spec.specs.Map.{Marked, bytes, lives};
 ghost use Rattle.spec.specs.Outcome.{forget};
 ghost use Rattle.spec.specs.Raise.{close_len, message, using_fate, level_words, level_in, is_exception, action_of, fate_text};
 ghost use Rattle.spec.specs.declared.Level.{Level};
 ghost use Rattle.spec.specs.declared.RaiseType.{RaiseType};
 ghost use Rattle.spec.specs.declared.Action.{Action};
-ghost use Rattle.messages.specs.declared.LevelFound.TheVariants.{At};
-ghost use Rattle.messages.specs.Readings.{level_found, level_reach, level_end, ends_statement, content_in, literal_len, raised_as, raised_in, fate_of, FateWithin, Reads};
+ghost use Rattle.messages.specs.Readings.{level_reach, level_end, ends_statement, content_in, literal_len, raised_as, raised_in, fate_of, FateWithin, Reads};
 
 use classes::byte_at;
 use runs::{Set, run_end, trim};
 use scanner::starts_ignoring_case;
-use spans::{Cursor, Step};
+use spans::Cursor;
 use spec::{Action, Actions, Level, RaiseType, Span};
-
-// The level behind a RAISE and its separator.
-#[derive(Clone, Copy)]
-enum LevelFound {
-    At(Level),
-    Nothing,
-}
 
 // What becomes of a RAISE, by offsets in the text from the RAISE on.
 #[derive(Clone, Copy)]
@@ -47,36 +38,36 @@ pub struct RaiseRead {
 }
 
 // The level in front other than EXCEPTION, in any letter case.
-fn other_level_at(rest: &[u8]) -> LevelFound
-    ensures value { (t : List Marked) → bytes t ≡ rest.now → result ≡ level_found (level_in (drop 1 level_words) t) }
+fn other_level_at(rest: &[u8]) -> Option<Level>
+    ensures value { (t : List Marked) → bytes t ≡ rest.now → result ≡ level_in (drop 1 level_words) t }
     ensures result_value { level_reach result ≡ 0 }
 {
     if starts_ignoring_case(rest, b"NOTICE") {
-        LevelFound::At(Level::Notice)
+        Some(Level::Notice)
     } else if starts_ignoring_case(rest, b"WARNING") {
-        LevelFound::At(Level::Warning)
+        Some(Level::Warning)
     } else if starts_ignoring_case(rest, b"DEBUG") {
-        LevelFound::At(Level::Debug)
+        Some(Level::Debug)
     } else if starts_ignoring_case(rest, b"LOG") {
-        LevelFound::At(Level::Log)
+        Some(Level::Log)
     } else if starts_ignoring_case(rest, b"INFO ") {
-        LevelFound::At(Level::Info)
+        Some(Level::Info)
     } else if starts_ignoring_case(rest, b"INFO\n") {
-        LevelFound::At(Level::Info)
+        Some(Level::Info)
     } else if starts_ignoring_case(rest, b"INFO;") {
-        LevelFound::At(Level::Info)
+        Some(Level::Info)
     } else {
-        LevelFound::Nothing
+        None
     }
 }
 
 // The level in front, in any letter case.
-fn level_at(rest: &[u8]) -> LevelFound
-    ensures value { (t : List Marked) → bytes t ≡ rest.now → result ≡ level_found (level_in level_words t) }
+fn level_at(rest: &[u8]) -> Option<Level>
+    ensures value { (t : List Marked) → bytes t ≡ rest.now → result ≡ level_in level_words t }
     ensures result_in_bounds { level_reach result ≤ length rest.now }
 {
     if starts_ignoring_case(rest, b"EXCEPTION") {
-        LevelFound::At(Level::Exception)
+        Some(Level::Exception)
     } else {
         other_level_at(rest)
     }
@@ -101,7 +92,7 @@ fn content_len(rest: &[u8]) -> usize
     loop {
         let from = cursor.at;
         let step = cursor.step(rest);
-        let Step::Taken(s, next) = step else {
+        let Some((s, next)) = step else {
             return from;
         };
         if ends_statement(s, byte_at(rest, from)) {
@@ -214,20 +205,6 @@ fn behind(stop: usize, n: usize) -> usize
     if stop < n { stop + 1 } else { n }
 }
 
-// The action of a level.
-fn action_of(actions: Actions, level: Level) -> Action
-    ensures { result ≡ action_of actions level }
-{
-    match level {
-        Level::Debug => actions.debug,
-        Level::Log => actions.log,
-        Level::Info => actions.info,
-        Level::Notice => actions.notice,
-        Level::Warning => actions.warning,
-        Level::Exception => actions.exception,
-    }
-}
-
 // The fate of a statement with this action, whose content lies from `start` to `stop`.
 fn fate_of(action: Action, start: usize, stop: usize) -> RaiseFate
     ensures { result ≡ fate_of action start stop }
@@ -254,7 +231,7 @@ fn is_exception(level: Level) -> bool
 
 // Where the level ends, from the RAISE on: EXCEPTION has its nine letters, the others run to W or `;`.
 fn level_end(rest: &[u8], level: Level) -> usize
-    requires { 6 + level_reach (At level) ≤ length rest.now }
+    requires { 6 + level_reach (Some level) ≤ length rest.now }
     ensures value { result ≡ level_end level rest.now }
     ensures lower_bound { 6 ≤ result }
     ensures upper_bound { result ≤ length rest.now }
@@ -268,9 +245,9 @@ fn level_end(rest: &[u8], level: Level) -> usize
 
 // A RAISE of this level, from the RAISE on, with this action.
 fn read_statement(rest: &[u8], level: Level, action: Action) -> RaiseRead
-    requires level_in_bounds { 6 + level_reach (At level) ≤ length rest.now }
+    requires level_in_bounds { 6 + level_reach (Some level) ≤ length rest.now }
     requires rest_len_bound { length rest.now ≤ 65536 }
-    ensures reads { (act : Level → Action) (t : List Marked) → bytes t ≡ rest.now → act level ≡ action → Reads act t (some level) rest.now result }
+    ensures reads { (act : Level → Action) (t : List Marked) → bytes t ≡ rest.now → act level ≡ action → Reads act t (Some level) rest.now result }
     ensures fate_within { FateWithin result.fate 6 result.end }
 {
     let k = level_end(rest, level);
@@ -293,10 +270,9 @@ pub fn read_raise(rest: &[u8], actions: Actions) -> RaiseRead
             fate: RaiseFate::Passed,
         };
     }
-    let level = level_at(&rest[6..]);
-    match level {
-        LevelFound::At(l) => read_statement(rest, l, action_of(actions, l)),
-        LevelFound::Nothing => RaiseRead {
+    match level_at(&rest[6..]) {
+        Some(l) => read_statement(rest, l, actions.get(l)),
+        None => RaiseRead {
             end: 6,
             fate: RaiseFate::Passed,
         },

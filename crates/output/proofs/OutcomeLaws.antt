@@ -1,4 +1,5 @@
 -- An outcome as it is written from some count on: a turn of a loop writes the front of what is left. Assumes nothing.
+use Rattle.std.specs.Prelude.{Ok, Err}
 use mathlib.Core.Path.{◌≡◌, refl, sym, ap, ◌∙◌}
 use mathlib.Core.List.{List, [], ◌++◌}
 use Prim.Native.Nat.{ℕ, ◌+◌}
@@ -13,7 +14,6 @@ use Rattle.spec.specs.declared.Refusal.{Refusal}
 use Rattle.spec.proofs.Apart.{apart}
 use Rattle.output.proofs.StoreLaws.{sets_more}
 use Rattle.output.specs.Passes.{pass_answer, Leaves, answer_from, LeavesFrom}
-use Rattle.output.specs.declared.Pass.TheVariants.{Done, Refused}
 
 -- with o left and n bytes written into d, it comes to the same as with o' left and n' bytes written into d'
 pub record Turn (d : List ℕ) (n : ℕ) (o : Outcome (List Marked)) (d' : List ℕ) (n' : ℕ) (o' : Outcome (List Marked)) : Type 0 where
@@ -33,7 +33,7 @@ turn_front u ys d d' n n' (accepted v) e p q =
     let whole : bytes (u ++ v) ≡ ys ++ bytes v = bytes_append u v ∙ ap (λ (l : List ℕ). l ++ bytes v) e in
     let long : n + length (u ++ v) ≡ n' + length v = omega (arith, length-append u v, bytes_length u, ap length e) in
     record {
-      answers = ap Done long;
+      answers = ap Ok long;
       leaves = λ x h. h ∙ sym (sets_more d d' _ ys (bytes v) n n' whole p q);
     }
 turn_front u ys d d' n n' (refused r) e p q = record { answers = refl; leaves = λ x h. h }
@@ -53,7 +53,7 @@ refusal_first u (refused f) o' r e = let q : f ≡ r = cc in ap refused q
 -- and all that counts of what is left
 pub turn_refused : (d d' : List ℕ) (n n' : ℕ) (o f more : Outcome (List Marked)) (g : Refusal)
     → Turn d n o d' n' (f ⊕ more)
-    → answer_from n' f ≡ Refused g
+    → answer_from n' f ≡ Err g
     → Turn d n o d' n' f
 unfolding ◌⊕◌
 turn_refused d d' n n' o (accepted t) more g r e = absurd (apart (cc))
@@ -61,7 +61,7 @@ turn_refused d d' n n' o (refused f) more g r e = r
 
 -- from the start on
 pub from_start : (o : Outcome (List Marked)) → answer_from 0 o ≡ pass_answer o
-from_start (accepted t) = let z : 0 + length t ≡ length t = omega arith in ap Done z
+from_start (accepted t) = let z : 0 + length t ≡ length t = omega arith in ap Ok z
 from_start (refused r) = refl
 
 pub leaves_start : (o : Outcome (List Marked)) (d e : List ℕ) → LeavesFrom 0 o d e → Leaves o d e
@@ -76,11 +76,11 @@ pub turn_leaves : {d d' : List ℕ} {n : ℕ} {o o' : Outcome (List Marked)} →
 turn_leaves {d} {d'} {n} {o} {o'} t e h = leaves_start o d e (t.leaves e h)
 
 -- all is written
-pub turn_done : (d d' : List ℕ) (n : ℕ) (o : Outcome (List Marked)) → Turn d 0 o d' n (accepted []) → (Done n ≡ pass_answer o) × Leaves o d d'
+pub turn_done : (d d' : List ℕ) (n : ℕ) (o : Outcome (List Marked)) → Turn d 0 o d' n (accepted []) → (Ok n ≡ pass_answer o) × Leaves o d d'
 unfolding bytes
 turn_done d d' n o t =
     let z : n ≡ n + 0 = omega arith in
-    (ap Done z ∙ sym (turn_answer t), turn_leaves t d' refl)
+    (ap Ok z ∙ sym (turn_answer t), turn_leaves t d' refl)
 
 -- it is refused
 pub turn_stopped : (d d' e : List ℕ) (n : ℕ) (o o' : Outcome (List Marked)) (r : PassRefusal) → Turn d 0 o d' n o' → o' ≡ refused r

@@ -1,14 +1,17 @@
 -- Stores one after the other, as a loop makes them. Assumes nothing.
 use mathlib.Core.Path.{◌≡◌, refl, sym, ap, ◌∙◌}
 use mathlib.Core.List.{List, [], ◌∷◌, ◌++◌}
-use Prim.Native.Nat.{ℕ, suc, ◌+◌, ◌-◌, ◌≤◌, ◌<◌}
+use Prim.Native.Nat.{ℕ, suc, ◌+◌, ◌-◌, ◌≤◌, ◌<◌, min}
 use native.Mathlib.Nat.{add-zero}
 use native.Mathlib.Numerals.{add-one}
 use native.Mathlib.Omega.{arith}
-use borrow.Author.Tests.{eq-eqb, ne_eqb}
+use borrow.Author.Tests.{eq-eqb, ne_eqb, ltb-true, ltb-false}
+use lib.Dec.{ltb}
 use lib.ListN.{length, take, drop, get_or, set, replicate, drop_of_length-le}
 use lib.Seq.{sets, set_out, sets-eq, take_at}
 use Rattle.spec.proofs.AheadLaws.{drop_one}
+use Rattle.spec.proofs.Choice.{by}
+use Rattle.spec.proofs.RequotedLength.{doubled_le, long_quoted}
 use Rattle.spec.specs.Requote.{doubled, single_quoted}
 
 -- u and then v
@@ -27,24 +30,19 @@ pub sets_out : {A : Type 0} (vs d : List A) (i : ℕ) → length d ≤ i → set
 sets_out [] d i h = refl
 sets_out (v ∷ vs) d i h = rw (set_out d i v h) (sets_out vs d (suc i) (omega arith))
 
--- one element of src
-pub store_step : (d d' src : List ℕ) (o o' j : ℕ) → j < length src → d' ≡ set d o (get_or src j 0) → o' ≡ o + 1 → sets d o (drop j src) ≡ sets d' o' (drop (j + 1) src)
-store_step d d' src o o' j h e k = rw (drop_one src j 0 h, e, k, add-one o)
-
--- nothing is left
-pub store_end : {A : Type 0} (d src : List A) (o j : ℕ) → length src ≤ j → sets d o (drop j src) ≡ d
-store_end d src o j h = rw (drop_of_length-le src h)
-
--- one more of the same byte, and none left
-pub fill_step : (d : List ℕ) (i to b : ℕ) → i < to → sets d i (replicate (to - i) b) ≡ sets (set d i b) (i + 1) (replicate (to - (i + 1)) b)
-fill_step d i to b h =
+-- one more of the same item, and none left or no room
+pub fill_step : {A : Type 0} (d : List A) (i to : ℕ) (x : A) → i < to → sets d i (replicate (to - i) x) ≡ sets (set d i x) (i + 1) (replicate (to - (i + 1)) x)
+fill_step d i to x h =
     let k : to - i ≡ suc (to - (i + 1)) = omega arith in
     rw (k, add-one i)
 
-pub fill_end : (d : List ℕ) (i to b : ℕ) → to ≤ i → sets d i (replicate (to - i) b) ≡ d
-fill_end d i to b h =
-    let k : to - i ≡ 0 = omega arith in
-    rw k
+pub fill_end : {A : Type 0} (d : List A) (i to : ℕ) (x : A) → min to (length d) ≤ i → sets d i (replicate (to - i) x) ≡ d
+fill_end d i to x h =
+    by (ltb i to)
+    (λ q. sets_out (replicate (to - i) x) d i (omega (arith, ltb-true i to q)))
+    (λ q.
+    let k : to - i ≡ 0 = omega (arith, ltb-false i to q) in
+    rw k)
 
 module _ (c : ℕ) (cs : List ℕ) where
   two_front : c ≡ 39 → doubled (c ∷ cs) ≡ c ∷ c ∷ doubled cs
@@ -89,3 +87,9 @@ pub front_stored : (d d' c : List ℕ) (n : ℕ) → length c ≡ n → n ≤ le
 front_stored d d' c n e h p =
     let k : 0 + length c ≤ length d = omega arith in
     ap (take n) (p ∙ sets-eq c d 0 k) ∙ take_at c (drop (0 + length c) d) n e
+
+-- a store past the end
+pub ruleset store_laws = (set_out)
+
+-- a quote, the doubled text and a quote, and how long it is
+pub ruleset quoted_laws = (doubled_le, long_quoted, stored_quoted)

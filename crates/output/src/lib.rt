@@ -6,24 +6,14 @@ ghost use Rattle.std.specs.Prelude.{◌≡◌, ◌+◌, ◌-◌, ◌*◌, ◌^�
 ghost use Rattle.std.proofs.lemmas.List.Edits.{sets};
 ghost use Rattle.spec.specs.Requote.{doubled, single_quoted};
 
-use spec::Refusal;
-
 // The bytes of each lent byte buffer that a call fills: the most that a pass's result may have.
 pub const BUFFER_SIZE: usize = 65536;
 
 // The length that stands for every longer one.
 pub const TOO_LONG: usize = BUFFER_SIZE + 1;
 
-// What a pass that may refuse answers.
-#[derive(Clone, Copy)]
-pub enum Pass {
-    // The length of its result.
-    Done(usize),
-    // The output then holds what is handed back with the refusal.
-    Refused(Refusal),
-}
-
 // One byte.
+#[tactic(auto, using(crate::proofs::StoreLaws::store_laws))]
 pub fn put(out: &mut [u8], n: usize, b: u8) -> usize
     requires { n < 2 ^ 63 }
     ensures value { result ≡ n + 1 }
@@ -31,10 +21,8 @@ pub fn put(out: &mut [u8], n: usize, b: u8) -> usize
 {
     if n < out.len() {
         out[n] = b;
-        n + 1
-    } else {
-        n + 1
     }
+    n + 1
 }
 
 // All of src.
@@ -44,10 +32,8 @@ pub fn put_all(out: &mut [u8], n: usize, src: &[u8]) -> usize
     ensures out_after { out.new ≡ sets out.old n src.now }
 {
     let mut o = n;
-    let mut j: usize = 0;
-    while j < src.len() {
-        o = put(out, o, src[j]);
-        j += 1;
+    for &b in src {
+        o = put(out, o, b);
     }
     o
 }
@@ -59,22 +45,17 @@ fn put_doubled(out: &mut [u8], n: usize, src: &[u8]) -> usize
     ensures out_after { out.new ≡ sets out.old n (doubled src.now) }
 {
     let mut o = n;
-    let mut j: usize = 0;
-    while j < src.len() {
-        let b = src[j];
+    for &b in src {
+        o = put(out, o, b);
         if b == b'\'' {
             o = put(out, o, b);
-            o = put(out, o, b);
-            j += 1;
-        } else {
-            o = put(out, o, b);
-            j += 1;
         }
     }
     o
 }
 
 // All of src between single quotes, each `'` in it twice.
+#[tactic(auto, using(crate::proofs::StoreLaws::quoted_laws))]
 pub fn put_single_quoted(out: &mut [u8], n: usize, src: &[u8]) -> usize
     requires { n + 2 * length src.now + 2 < 2 ^ 63 }
     ensures value { result ≡ n + length (single_quoted src.now) }
@@ -85,17 +66,12 @@ pub fn put_single_quoted(out: &mut [u8], n: usize, src: &[u8]) -> usize
     put(out, q, b'\'')
 }
 
-// The byte b from offset `from` up to offset `to`, as far as the buffer reaches.
-pub fn fill(out: &mut [u8], from: usize, to: usize, b: u8)
-    ensures { out.new ≡ sets out.old from (replicate (to - from) b) }
+// The item x from offset `from` up to offset `to`, as far as the buffer reaches.
+pub fn fill<T: Copy>(out: &mut [T], from: usize, to: usize, x: T)
+    ensures { out.new ≡ sets out.old from (replicate (to - from) x) }
 {
-    let mut i = from;
-    while i < to {
-        if i < out.len() {
-            out[i] = b;
-            i += 1;
-        } else {
-            return;
-        }
+    // The library's `fill` asks that a clone cannot fail, which `Copy` does not say.
+    for i in from..to.min(out.len()) {
+        out[i] = x;
     }
 }

@@ -1,5 +1,6 @@
 -- The passes in a row: what a pass answers and leaves gives what the definition says of it, and one pass after the other gives
 -- the rewriting. Assumes nothing.
+use Rattle.std.specs.Prelude.{Result, Ok, Err}
 use mathlib.Core.Path.{◌≡◌, refl, sym, ap, ◌∙◌}
 use mathlib.Core.List.{List, []}
 use Prim.Native.Nat.{ℕ, ◌≤◌}
@@ -24,17 +25,14 @@ use Rattle.spec.specs.declared.Action.{Action}
 use Rattle.spec.specs.Body.{buffer_size, limited, and_then, requote_pass, elsif_pass, assign_pass, select_pass, raise_pass, rewriting}
 use Rattle.spec.specs.Answers.{text_limit, call_numbers, result_of, kept_behind}
 use Rattle.spec.specs.declared.Refusal.{Refusal}
-use Rattle.spec.specs.declared.Rewritten.{Rewritten}
-use Rattle.spec.specs.declared.Rewritten.TheVariants as rewritten
 use Rattle.output.specs.Passes.{pass_answer, Leaves}
-use Rattle.output.specs.declared.Pass.{Pass}
-use Rattle.output.specs.declared.Pass.TheVariants.{Done, Refused}
 use Rattle.output.proofs.StoreLaws.{front_stored}
 use Rattle.quotes.specs.QuoteMap.{quote_map}
 use Rattle.quotes.proofs.QuoteMapLaws.{quote_marks}
 use Rattle.set_lines.specs.Writes.{counted}
 use Rattle.passes.specs.Gives.{Gives, finished, limited_answer}
 use Rattle.passes.proofs.BufferEndLaws.{answer_length}
+use Rattle.spec.specs.declared.Accepted.{Accepted}
 
 -- ---- the map that a pass reads
 
@@ -58,7 +56,7 @@ front_copied d d' f k a b e = front_stored d d' (take k f) k (length-take-le k f
 
 -- ---- one pass, within the buffer size or refusal 6
 
-pub limited_gives : (o : Outcome (List Marked)) (p : Pass) (d e : List ℕ) → p ≡ pass_answer o → Leaves o d e → length d ≡ 65536
+pub limited_gives : (o : Outcome (List Marked)) (p : Result ℕ Refusal) (d e : List ℕ) → p ≡ pass_answer o → Leaves o d e → length d ≡ 65536
     → Gives (result_of [] (limited (forget o))) (finished (limited_answer p)) e
 unfolding result_of limited forget buffer_size
 limited_gives (accepted t) p d e a l h =
@@ -68,7 +66,7 @@ limited_gives (accepted t) p d e a l h =
     (λ q.
     let fits = ltb-false 65536 (length t) q in
     record {
-      answered = rw (a, n, q) (ap (λ (k : ℕ). rewritten.Accepted k 0) (sym n));
+      answered = rw (a, n, q) (ap (λ (k : ℕ). Ok (record { length = k; records = 0 })) (sym n));
       held = rw (n, q) (front_stored d e (bytes t) (length (bytes t)) refl (omega arith) l);
     })
 limited_gives (refused f) p d e a l h = record { answered = rw a refl; held = l }
@@ -78,7 +76,7 @@ pub counted_gives : (ys d e : List ℕ) (k : ℕ)
     → k ≡ counted (length ys)
     → (length ys ≤ 65536 → e ≡ sets d 0 ys)
     → length d ≡ 65536
-    → Gives (result_of [] (limited (accepted ys))) (finished (limited_answer (Done k))) e
+    → Gives (result_of [] (limited (accepted ys))) (finished (limited_answer (Ok k))) e
 unfolding result_of limited buffer_size counted
 counted_gives ys d e k a s h =
     by (leb (length ys) 65536)
@@ -95,50 +93,49 @@ counted_gives ys d e k a s h =
 -- ---- from one pass to the next
 
 -- what is given within a buffer has at most its length
-pub given_fits : (w : Rewriting) (r : Rewritten) (d : List ℕ) → Gives (result_of [] w) r d → length d ≡ 65536
+pub given_fits : (w : Rewriting) (r : Result Accepted Refusal) (d : List ℕ) → Gives (result_of [] w) r d → length d ≡ 65536
     → (call_numbers r).length ≤ 65536
 given_fits w r d g h =
     let out = (result_of [] w).output in
-    let n = ap (λ (a : Rewritten). (call_numbers a).length) g.answered ∙ answer_length [] w in
+    let n = ap (λ (a : Result Accepted Refusal). (call_numbers a).length) g.answered ∙ answer_length [] w in
     omega (arith, n, ap length g.held, length-take (length out) d)
 
 -- given an answer that is equal
-pub given_as : (w : Rewriting) (p q : Pass) (d : List ℕ) → Gives (result_of [] w) (finished p) d → p ≡ q → Gives (result_of [] w) (finished q) d
+pub given_as : (w : Rewriting) (p q : Result ℕ Refusal) (d : List ℕ) → Gives (result_of [] w) (finished p) d → p ≡ q → Gives (result_of [] w) (finished q) d
 given_as w p q d g e = rw e at g
 
 -- a pass that is done was accepted, and its text stands in front
-pub done_accepted : (w : Rewriting) (k : ℕ) (d : List ℕ) → Gives (result_of [] w) (finished (Done k)) d → w ≡ accepted (take k d)
+pub done_accepted : (w : Rewriting) (k : ℕ) (d : List ℕ) → Gives (result_of [] w) (finished (Ok k)) d → w ≡ accepted (take k d)
 unfolding result_of
 done_accepted (accepted ys) k d g =
-    let a = g.answered in
-    let n : k ≡ length ys = cc in
+    let n : k ≡ length ys = ap (λ (b : Result Accepted Refusal). (call_numbers b).length) g.answered in
     ap accepted (sym g.held ∙ ap (λ (i : ℕ). take i d) (sym n))
 done_accepted (refused f) k d g = let a = g.answered in absurd (apart (cc))
 
 -- a pass that refuses is what all the passes come to
-pub stopped : (w : Rewriting) (q : Refusal) (d : List ℕ) → Gives (result_of [] w) (finished (Refused q)) d
+pub stopped : (w : Rewriting) (q : Refusal) (d : List ℕ) → Gives (result_of [] w) (finished (Err q)) d
     → (pass : List ℕ → Rewriting) → and_then w pass ≡ w
 unfolding result_of and_then
 stopped (accepted ys) q d g pass = let a = g.answered in absurd (apart (cc))
 stopped (refused f) q d g pass = refl
 
 -- what a pass gives in one buffer is given in another that has its bytes in front
-pub gives_copied : (w : Rewriting) (p : Pass) (r : Rewritten) (d out : List ℕ) → Gives (result_of [] w) (finished p) d
+pub gives_copied : (w : Rewriting) (p : Result ℕ Refusal) (r : Result Accepted Refusal) (d out : List ℕ) → Gives (result_of [] w) (finished p) d
     → r ≡ finished p
     → take (call_numbers (finished p)).length out ≡ take (call_numbers (finished p)).length d
     → Gives (result_of [] w) r out
 gives_copied w p r d out g a s =
     let n : (call_numbers (finished p)).length ≡ length (result_of [] w).output =
-    ap (λ (b : Rewritten). (call_numbers b).length) g.answered ∙ answer_length [] w in
+    ap (λ (b : Result Accepted Refusal). (call_numbers b).length) g.answered ∙ answer_length [] w in
     record {
       answered = a ∙ g.answered;
       held = ap (λ (i : ℕ). take i out) (sym n) ∙ (s ∙ (ap (λ (i : ℕ). take i d) n ∙ g.held));
     }
 
 -- pass 4 refuses by 6 alone, which hands no bytes back
-pub too_long_gives : (ys : List ℕ) (q : Refusal) (d out : List ℕ) (r : Rewritten)
-    → Gives (result_of [] (limited (select_pass ys))) (finished (Refused q)) d
-    → r ≡ finished (Refused q)
+pub too_long_gives : (ys : List ℕ) (q : Refusal) (d out : List ℕ) (r : Result Accepted Refusal)
+    → Gives (result_of [] (limited (select_pass ys))) (finished (Err q)) d
+    → r ≡ finished (Err q)
     → Gives (result_of [] (limited (select_pass ys))) r out
 unfolding result_of limited select_pass
 too_long_gives ys q d out r g a =
@@ -174,14 +171,14 @@ from_third act xs zs h e = rw (accepted_same (requoted xs) (one_fits xs h), acce
 module _ (act : Level → Action) (xs zs : List ℕ) (h : length xs ≤ 16384) (e : zs ≡ bytes (elsif (marked_text (requoted xs))))
     (d : List ℕ) where
   -- pass 3 refuses
-  pub third_stops : (q : Refusal) → Gives (result_of [] (limited (assign_pass zs))) (finished (Refused q)) d
+  pub third_stops : (q : Refusal) → Gives (result_of [] (limited (assign_pass zs))) (finished (Err q)) d
       → rewriting act xs ≡ limited (assign_pass zs)
   third_stops q g =
       let w = limited (assign_pass zs) in
       let s = stopped w q d g in
       from_third act xs zs h e ∙ (ap (λ (v : Rewriting). and_then v (raise_pass act)) (s select_pass) ∙ s (raise_pass act))
 
-  module _ (n : ℕ) (g : Gives (result_of [] (limited (assign_pass zs))) (finished (Done n)) d) where
+  module _ (n : ℕ) (g : Gives (result_of [] (limited (assign_pass zs))) (finished (Ok n)) d) where
     from_fourth : rewriting act xs ≡ and_then (limited (select_pass (take n d))) (raise_pass act)
     unfolding and_then
     from_fourth =
@@ -189,12 +186,12 @@ module _ (act : Level → Action) (xs zs : List ℕ) (h : length xs ≤ 16384) (
         ∙ ap (λ (v : Rewriting). and_then (and_then v select_pass) (raise_pass act)) (done_accepted (limited (assign_pass zs)) n d g)
 
     -- pass 4 gives too much
-    pub fourth_stops : (d' : List ℕ) (q : Refusal) → Gives (result_of [] (limited (select_pass (take n d)))) (finished (Refused q)) d'
+    pub fourth_stops : (d' : List ℕ) (q : Refusal) → Gives (result_of [] (limited (select_pass (take n d)))) (finished (Err q)) d'
         → rewriting act xs ≡ limited (select_pass (take n d))
     fourth_stops d' q f = from_fourth ∙ stopped (limited (select_pass (take n d))) q d' f (raise_pass act)
 
     -- pass 5 is reached
-    pub fifth_gives : (d' : List ℕ) (k : ℕ) → Gives (result_of [] (limited (select_pass (take n d)))) (finished (Done k)) d'
+    pub fifth_gives : (d' : List ℕ) (k : ℕ) → Gives (result_of [] (limited (select_pass (take n d)))) (finished (Ok k)) d'
         → rewriting act xs ≡ limited (raise_pass act (take k d'))
     unfolding and_then
     fifth_gives d' k f =

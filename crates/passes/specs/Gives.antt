@@ -1,23 +1,21 @@
 -- What the passes answer and leave. Assumes nothing.
-use Rattle.std.specs.Prelude.{◌≡◌, cond, List, ℕ, ltb, length, take}
-use Rattle.spec.specs.Answers.{Result}
+use Rattle.std.specs.Prelude.{◌≡◌, cond, List, ℕ, ltb, length, take, Result, Ok, Err}
+use Rattle.spec.specs.Answers.{CallResult}
 use Rattle.spec.specs.declared.Refusal.TheVariants.{ResultTooLong}
-use Rattle.spec.specs.declared.Rewritten.{Rewritten}
-use Rattle.spec.specs.declared.Rewritten.TheVariants as rewritten
-use Rattle.output.specs.declared.Pass.{Pass}
-use Rattle.output.specs.declared.Pass.TheVariants.{Done, Refused}
+use Rattle.spec.specs.declared.Refusal.{Refusal}
+use Rattle.spec.specs.declared.Accepted.{Accepted}
 
 -- r is the result's answer, and the output has the result's bytes in front
-pub record Gives (result : Result) (r : Rewritten) (output : List ℕ) : Type 0 where
+pub record Gives (result : CallResult) (r : Result Accepted Refusal) (output : List ℕ) : Type 0 where
   pub answered : r ≡ result.answer
   pub held : take (length result.output) output ≡ result.output
 
 -- the call's answer where the passes end in this one
-abbrev pub finished : Pass → Rewritten
-finished (Done k) = rewritten.Accepted k 0
-finished (Refused r) = rewritten.Refused r
+abbrev pub finished : Result ℕ Refusal → Result Accepted Refusal
+finished (Ok k) = Ok (record { length = k; records = 0 })
+finished (Err r) = Err r
 
 -- refusal 6 if the result exceeds the buffer size
-abbrev pub limited_answer : Pass → Pass
-limited_answer (Done k) = cond (ltb 65536 k) (Refused ResultTooLong) (Done k)
-limited_answer (Refused r) = Refused r
+abbrev pub limited_answer : Result ℕ Refusal → Result ℕ Refusal
+limited_answer (Ok k) = cond (ltb 65536 k) (Err ResultTooLong) (Ok k)
+limited_answer (Err r) = Err r

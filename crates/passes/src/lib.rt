@@ -11,15 +11,14 @@ ghost use Rattle.spec.specs.Map.{marked_text, bytes};
 ghost use Rattle.spec.specs.Elsif.{elsif};
 
 use assignments::transform_assignments;
-use checks::refusal_numbers;
 use elsif::transform_elsif;
-use output::{BUFFER_SIZE, Pass, fill, put_all};
+use output::{BUFFER_SIZE, fill, put_all};
 use quotes::map_quotes;
 use raise::transform_raise_statements;
 use requote::requote;
 use scanner::map_text;
 use select_into::transform_select_into;
-use spec::{Actions, Refusal, Rewritten};
+use spec::{Accepted, Actions, Refusal, RefusalNumbers};
 
 // The k bytes at the front of `from` go to the front of `out`.
 fn copy_front(out: &mut [u8], from: &[u8], k: usize)
@@ -31,49 +30,36 @@ fn copy_front(out: &mut [u8], from: &[u8], k: usize)
     put_all(out, 0, &from[..k]);
 }
 
-// The length of what the output holds with a refusal.
-fn refusal_length(r: Refusal) -> usize
-    ensures { result ≡ (refusal_numbers r).length }
-{
-    let numbers = refusal_numbers(r);
-    numbers.length
-}
-
 // How many bytes the output holds with this answer.
-fn output_length(r: Rewritten) -> usize
+fn output_length(r: Result<Accepted, Refusal>) -> usize
     ensures { result ≡ (call_numbers r).length }
 {
     match r {
-        Rewritten::Accepted { length, records } => length,
-        Rewritten::Refused(f) => refusal_length(f),
+        Ok(accepted) => accepted.length,
+        Err(refusal) => RefusalNumbers::from(refusal).length,
     }
 }
 
 // A pass's answer, refusal 6 if its result exceeds the buffer size.
-fn limit(p: Pass) -> Pass
+fn limit(p: Result<usize, Refusal>) -> Result<usize, Refusal>
     ensures { result ≡ limited_answer p }
 {
-    let Pass::Done(k) = p else {
-        return p;
-    };
-    if BUFFER_SIZE < k {
-        return Pass::Refused(Refusal::ResultTooLong);
+    match p {
+        Ok(k) if BUFFER_SIZE < k => Err(Refusal::ResultTooLong),
+        _ => p,
     }
-    p
 }
 
 // The call's answer where the passes end in p.
-fn answer_of(p: Pass) -> Rewritten
+fn answer_of(p: Result<usize, Refusal>) -> Result<Accepted, Refusal>
     ensures { result ≡ finished p }
 {
-    match p {
-        Pass::Done(length) => Rewritten::Accepted { length, records: 0 },
-        Pass::Refused(r) => Rewritten::Refused(r),
-    }
+    let length = p?;
+    Ok(Accepted { length, records: 0 })
 }
 
 // The passes end in p; the bytes that it hands back, if any, stand in `from`.
-fn finish(out: &mut [u8], from: &[u8], p: Pass) -> Rewritten
+fn finish(out: &mut [u8], from: &[u8], p: Result<usize, Refusal>) -> Result<Accepted, Refusal>
     requires out_len { length out.old ≡ 65536 }
     requires from_len { length from.now ≡ 65536 }
     requires p_bound { (call_numbers (finished p)).length ≤ 65536 }
@@ -98,7 +84,7 @@ fn elsif_pass(text: &[u8], map: &mut [u8], out: &mut [u8]) -> usize
 }
 
 // Pass 3 of a text; `map` takes its map.
-fn assign_pass(text: &[u8], map: &mut [u8], out: &mut [u8]) -> Pass
+fn assign_pass(text: &[u8], map: &mut [u8], out: &mut [u8]) -> Result<usize, Refusal>
     requires text_len_bound { length text.now ≤ 65536 }
     requires text_in_bounds { length text.now ≤ length map.old }
     requires out_len { length out.old ≡ 65536 }
@@ -110,7 +96,7 @@ fn assign_pass(text: &[u8], map: &mut [u8], out: &mut [u8]) -> Pass
 }
 
 // Pass 4 of a text; `map` takes its map of quotes.
-fn select_pass(text: &[u8], map: &mut [u8], out: &mut [u8]) -> Pass
+fn select_pass(text: &[u8], map: &mut [u8], out: &mut [u8]) -> Result<usize, Refusal>
     requires text_len_bound { length text.now ≤ 65536 }
     requires text_in_bounds { length text.now ≤ length map.old }
     requires out_len { length out.old ≡ 65536 }
@@ -118,11 +104,16 @@ fn select_pass(text: &[u8], map: &mut [u8], out: &mut [u8]) -> Pass
 {
     let n = text.len();
     map_quotes(text, map);
-    limit(Pass::Done(transform_select_into(text, &map[..n], out)))
+    limit(Ok(transform_select_into(text, &map[..n], out)))
 }
 
 // Pass 5 of a text; `map` takes its map.
-fn raise_pass(text: &[u8], actions: Actions, map: &mut [u8], out: &mut [u8]) -> Pass
+fn raise_pass(
+    text: &[u8],
+    actions: Actions,
+    map: &mut [u8],
+    out: &mut [u8],
+) -> Result<usize, Refusal>
     requires text_len_bound { length text.now ≤ 65536 }
     requires text_in_bounds { length text.now ≤ length map.old }
     requires out_len { length out.old ≡ 65536 }
@@ -140,7 +131,7 @@ fn run_passes(
     output: &mut [u8],
     work: &mut [u8],
     spare: &mut [u8],
-) -> Rewritten
+) -> Result<Accepted, Refusal>
     requires text_len_bound { length text.now ≤ 16384 }
     requires output_len { length output.old ≡ 65536 }
     requires work_len { length work.old ≡ 65536 }
@@ -150,11 +141,11 @@ fn run_passes(
     let requoted = requote(text, work);
     let spelled = elsif_pass(&work[..requoted], spare, output);
     let assigned = assign_pass(&output[..spelled], work, spare);
-    let Pass::Done(n) = assigned else {
+    let Ok(n) = assigned else {
         return finish(output, spare, assigned);
     };
     let selected = select_pass(&spare[..n], work, output);
-    let Pass::Done(k) = selected else {
+    let Ok(k) = selected else {
         // Pass 4 refuses by 6 alone, which hands no bytes back.
         return finish(output, spare, selected);
     };
@@ -170,7 +161,7 @@ pub fn run_body(
     work: &mut [u8],
     spare: &mut [u8],
     size: usize,
-) -> Rewritten
+) -> Result<Accepted, Refusal>
     requires size_value { size ≡ 65536 }
     requires text_len_bound { length text.now ≤ 16384 }
     requires size_in_bounds { size ≤ length output.old }

@@ -1,10 +1,8 @@
 -- The four numbers that a function of the C interface hands back. Assumes nothing.
-use Rattle.std.specs.Prelude.{ℕ, cond, List, [], ◌∷◌, ltb}
+use Rattle.std.specs.Prelude.{ℕ, cond, List, [], ◌∷◌, ltb, Option, Result, Ok, Err}
 use Rattle.spec.specs.Answers.{SearchNumbers, search_numbers, filled_numbers, call_numbers}
-use Rattle.spec.specs.declared.Rewritten.{Rewritten}
-use Rattle.spec.specs.declared.Search.{Search}
-use Rattle.spec.specs.declared.Filled.{Filled}
-use Rattle.spec.specs.declared.Filled.TheVariants.{Count, Refused}
+use Rattle.spec.specs.declared.Refusal.{Refusal}
+use Rattle.spec.specs.declared.Accepted.{Accepted}
 
 -- a number in 32 bits; a larger one is the largest
 unfoldable pub narrow : ℕ → ℕ
@@ -14,17 +12,17 @@ narrow n = cond (ltb n 4294967296) n 4294967295
 abbrev pub four : SearchNumbers → ℕ → List ℕ
 four n len = n.number ∷ n.found ∷ narrow n.place ∷ narrow len ∷ []
 
-abbrev pub four_found : Search → List ℕ
+abbrev pub four_found : Result (Option ℕ) Refusal → List ℕ
 four_found s = four (search_numbers s) 0
 
 -- how much was written
-abbrev pub count_of : Filled → ℕ
-count_of (Count n) = n
-count_of (Refused r) = 0
+abbrev pub count_of : Result ℕ Refusal → ℕ
+count_of (Ok n) = n
+count_of (Err r) = 0
 
-abbrev pub four_filled : Filled → List ℕ
+abbrev pub four_filled : Result ℕ Refusal → List ℕ
 four_filled f = four (filled_numbers f) (count_of f)
 
 -- of a call: number, place, output length, records
-abbrev pub four_called : Rewritten → List ℕ
+abbrev pub four_called : Result Accepted Refusal → List ℕ
 four_called r = (call_numbers r).number ∷ narrow (call_numbers r).place ∷ narrow (call_numbers r).length ∷ narrow (call_numbers r).records ∷ []

@@ -9,70 +9,70 @@ ghost use Rattle.spec.specs.Levels.{table_of, no_table};
 ghost use Rattle.closed.specs.Answer.{closed_answer};
 ghost use Rattle.plpgsql_rewriter.specs.Four.{narrow, four, four_found, four_filled, four_called};
 
-use checks::refusal_numbers;
-use spec::{Filled, Refusal, Rewritten, Search};
+use spec::{Accepted, Refusal, RefusalNumbers};
 
-// A number in 32 bits.
+// A number in 32 bits; a larger one is the largest.
+#[tactic(auto, unfolding(crate::specs::Four::narrow))]
 fn narrowed(n: usize) -> u32
     ensures { result ≡ narrow n }
 {
-    if n < 4294967296 { n as u32 } else { 4294967295 }
+    u32::try_from(n).unwrap_or(u32::MAX)
 }
 
 // The four numbers.
-fn put_four(answer: &mut [u32; 4], number: u32, second: usize, third: usize, fourth: usize)
-    ensures { answer.new ≡ number ∷ narrow second ∷ narrow third ∷ narrow fourth ∷ [] }
+fn four(number: u32, second: usize, third: usize, fourth: usize) -> [u32; 4]
+    ensures { result ≡ number ∷ narrow second ∷ narrow third ∷ narrow fourth ∷ [] }
 {
-    let a = narrowed(second);
-    let b = narrowed(third);
-    let c = narrowed(fourth);
-    *answer = [number, a, b, c];
+    [number, narrowed(second), narrowed(third), narrowed(fourth)]
 }
 
 // The four numbers of a refused search.
-fn put_search_refusal(answer: &mut [u32; 4], r: Refusal)
-    ensures { answer.new ≡ (refusal_numbers r).number ∷ 0 ∷ narrow (refusal_numbers r).place ∷ 0 ∷ [] }
+fn of_search_refusal(r: Refusal) -> [u32; 4]
+    ensures { result ≡ (refusal_numbers r).number ∷ 0 ∷ narrow (refusal_numbers r).place ∷ 0 ∷ [] }
 {
-    let n = refusal_numbers(r);
-    put_four(answer, n.number, 0, n.place, 0);
+    let n = RefusalNumbers::from(r);
+    [n.number, 0, narrowed(n.place), 0]
 }
 
 // The four numbers of a search that seeks something.
-fn put_found(answer: &mut [u32; 4], s: Search)
-    ensures { answer.new ≡ four_found s }
+#[tactic(auto, unfolding(crate::specs::Four::narrow))]
+fn of_search(s: Result<Option<usize>, Refusal>) -> [u32; 4]
+    ensures { result ≡ four_found s }
 {
     match s {
-        Search::Found(i) => put_four(answer, 0, 1, i, 0),
-        Search::NotFound => put_four(answer, 0, 0, 0, 0),
-        Search::Refused(r) => put_search_refusal(answer, r),
+        Ok(Some(i)) => four(0, 1, i, 0),
+        Ok(None) => four(0, 0, 0, 0),
+        Err(r) => of_search_refusal(r),
     }
 }
 
 // The four numbers of a search that fills a buffer.
-fn put_filled(answer: &mut [u32; 4], f: Filled)
-    ensures { answer.new ≡ four_filled f }
+#[tactic(auto, unfolding(crate::specs::Four::narrow))]
+fn of_filled(f: Result<usize, Refusal>) -> [u32; 4]
+    ensures { result ≡ four_filled f }
 {
     match f {
-        Filled::Count(n) => put_four(answer, 0, 0, 0, n),
-        Filled::Refused(r) => put_search_refusal(answer, r),
+        Ok(n) => four(0, 0, 0, n),
+        Err(r) => of_search_refusal(r),
     }
 }
 
 // The four numbers of a refused call.
-fn put_call_refusal(answer: &mut [u32; 4], r: Refusal)
-    ensures { answer.new ≡ (refusal_numbers r).number ∷ narrow (refusal_numbers r).place ∷ narrow (refusal_numbers r).length ∷ narrow 0 ∷ [] }
+fn of_call_refusal(r: Refusal) -> [u32; 4]
+    ensures { result ≡ (refusal_numbers r).number ∷ narrow (refusal_numbers r).place ∷ narrow (refusal_numbers r).length ∷ narrow 0 ∷ [] }
 {
-    let n = refusal_numbers(r);
-    put_four(answer, n.number, n.place, n.length, 0);
+    let n = RefusalNumbers::from(r);
+    four(n.number, n.place, n.length, 0)
 }
 
 // The four numbers of a call.
-fn put_called(answer: &mut [u32; 4], r: Rewritten)
-    ensures { answer.new ≡ four_called r }
+#[tactic(auto, unfolding(crate::specs::Four::narrow))]
+fn of_call(r: Result<Accepted, Refusal>) -> [u32; 4]
+    ensures { result ≡ four_called r }
 {
     match r {
-        Rewritten::Accepted { length, records } => put_four(answer, 0, 0, length, records),
-        Rewritten::Refused(f) => put_call_refusal(answer, f),
+        Ok(accepted) => four(0, 0, accepted.length, accepted.records),
+        Err(r) => of_call_refusal(r),
     }
 }
 
@@ -81,8 +81,7 @@ pub fn plpgsql_regions(text: &[u8], map: &mut [u8], answer: &mut [u32; 4])
     ensures map_after { map.new ≡ map_exit text.now map.old [] }
     ensures answer_after { answer.new ≡ four_filled (regions_answer text.now map.old) }
 {
-    let f = searches::regions(text, map);
-    put_filled(answer, f);
+    *answer = of_filled(searches::regions(text, map));
 }
 
 // `find_keyword`.
@@ -96,8 +95,7 @@ pub fn plpgsql_find_keyword(
     ensures map_after { map.new ≡ map_exit text.now map.old keyword.now }
     ensures answer_after { answer.new ≡ four_found (keyword_answer text.now map.old keyword.now from) }
 {
-    let s = searches::find_keyword(text, map, keyword, from);
-    put_found(answer, s);
+    *answer = of_search(searches::find_keyword(text, map, keyword, from));
 }
 
 // `find_in_code`.
@@ -105,8 +103,7 @@ pub fn plpgsql_find_in_code(text: &[u8], map: &mut [u8], byte: u8, answer: &mut 
     ensures map_after { map.new ≡ map_exit text.now map.old [] }
     ensures answer_after { answer.new ≡ four_found (byte_answer text.now map.old byte) }
 {
-    let s = searches::find_in_code(text, map, byte);
-    put_found(answer, s);
+    *answer = of_search(searches::find_in_code(text, map, byte));
 }
 
 // `find_str_in_code`.
@@ -114,17 +111,7 @@ pub fn plpgsql_find_str_in_code(text: &[u8], map: &mut [u8], needle: &[u8], answ
     ensures map_after { map.new ≡ map_exit text.now map.old needle.now }
     ensures answer_after { answer.new ≡ four_found (needle_answer text.now map.old needle.now) }
 {
-    let s = searches::find_str_in_code(text, map, needle);
-    put_found(answer, s);
-}
-
-// The three numbers of a word's answer, and the word's length.
-fn put_word(answer: &mut [u32; 4], three: [u32; 3], len: usize)
-    ensures { answer.new ≡ get_or three 0 0 ∷ get_or three 1 0 ∷ narrow (get_or three 2 0) ∷ narrow len ∷ [] }
-{
-    let p = narrowed(three[2] as usize);
-    let l = narrowed(len);
-    *answer = [three[0], three[1], p, l];
+    *answer = of_search(searches::find_str_in_code(text, map, needle));
 }
 
 // `next_word_in_code`: place and length stand for the part that it hands back.
@@ -134,7 +121,12 @@ pub fn plpgsql_next_word_in_code(text: &[u8], map: &mut [u8], from: usize, answe
 {
     let mut three = [0u32, 0u32, 0u32];
     let word = searches::next_word_in_code(text, map, from, &mut three);
-    put_word(answer, three, word.len());
+    *answer = [
+        three[0],
+        three[1],
+        narrowed(three[2] as usize),
+        narrowed(word.len()),
+    ];
 }
 
 // `split_in_code`; the fourth number counts the pieces.
@@ -149,16 +141,14 @@ pub fn plpgsql_split_in_code(
     ensures starts_after { starts.new ≡ split_exit text.now map.old starts.old separator }
     ensures answer_after { answer.new ≡ four_filled (split_answer text.now map.old starts.old separator) }
 {
-    let f = searches::split_in_code(text, map, starts, separator);
-    put_filled(answer, f);
+    *answer = of_filled(searches::split_in_code(text, map, starts, separator));
 }
 
 // `requoted_length`; the fourth number is that length.
 pub fn plpgsql_requoted_length(text: &[u8], answer: &mut [u32; 4])
     ensures { answer.new ≡ four_filled (requoted_length_answer text.now) }
 {
-    let f = searches::requoted_length(text);
-    put_filled(answer, f);
+    *answer = of_filled(searches::requoted_length(text));
 }
 
 // `requote_dollar_literals`; the fourth number is the length of the result.
@@ -166,16 +156,14 @@ pub fn plpgsql_requote_dollar_literals(text: &[u8], output: &mut [u8], answer: &
     ensures output_after { output.new ≡ requote_exit text.now output.old }
     ensures answer_after { answer.new ≡ four_filled (requote_answer text.now output.old) }
 {
-    let f = searches::requote_dollar_literals(text, output);
-    put_filled(answer, f);
+    *answer = of_filled(searches::requote_dollar_literals(text, output));
 }
 
 // `has_unterminated_dollar_quote`.
 pub fn plpgsql_has_unterminated_dollar_quote(text: &[u8], answer: &mut [u32; 4])
     ensures { answer.new ≡ four_found (unterminated_answer text.now) }
 {
-    let s = searches::has_unterminated_dollar_quote(text);
-    put_found(answer, s);
+    *answer = of_search(searches::has_unterminated_dollar_quote(text));
 }
 
 // `has_exception_handler`.
@@ -183,8 +171,7 @@ pub fn plpgsql_has_exception_handler(text: &[u8], map: &mut [u8], answer: &mut [
     ensures map_after { map.new ≡ map_exit text.now map.old [] }
     ensures answer_after { answer.new ≡ four_found (handler_answer text.now map.old) }
 {
-    let s = searches::has_exception_handler(text, map);
-    put_found(answer, s);
+    *answer = of_search(searches::has_exception_handler(text, map));
 }
 
 // The body call.
@@ -200,8 +187,7 @@ pub fn plpgsql_transform_body(
     ensures spare_after { spare.new ≡ work_exit (body_check text.now output.old work.old spare.old) spare.old }
     ensures answer_after { answer.new ≡ four_called (body_answer no_table text.now output.old work.old spare.old) }
 {
-    let r = preprocessor::transform_body(text, output, work, spare);
-    put_called(answer, r);
+    *answer = of_call(preprocessor::transform_body(text, output, work, spare));
 }
 
 // The body call with the actions of a table.
@@ -218,8 +204,7 @@ pub fn plpgsql_transform_body_by_levels(
     ensures spare_after { spare.new ≡ work_exit (body_check text.now output.old work.old spare.old) spare.old }
     ensures answer_after { answer.new ≡ four_called (body_answer (table_of table.now) text.now output.old work.old spare.old) }
 {
-    let r = preprocessor::transform_body_by_levels(text, table, output, work, spare);
-    put_called(answer, r);
+    *answer = of_call(preprocessor::transform_body_by_levels(text, table, output, work, spare));
 }
 
 // The function call.
@@ -239,8 +224,7 @@ pub fn plpgsql_preprocess(
     ensures records_after { records.new ≡ function_records no_table text.now output.old work.old spare.old declared.old records.old }
     ensures answer_after { answer.new ≡ four_called (function_answer no_table text.now output.old work.old spare.old declared.old records.old) }
 {
-    let r = preprocessor::preprocess(text, output, work, spare, declared, records);
-    put_called(answer, r);
+    *answer = of_call(preprocessor::preprocess(text, output, work, spare, declared, records));
 }
 
 // The function call with the actions of a table.
@@ -261,8 +245,9 @@ pub fn plpgsql_preprocess_by_levels(
     ensures records_after { records.new ≡ function_records (table_of table.now) text.now output.old work.old spare.old declared.old records.old }
     ensures answer_after { answer.new ≡ four_called (function_answer (table_of table.now) text.now output.old work.old spare.old declared.old records.old) }
 {
-    let r = preprocessor::preprocess_by_levels(text, table, output, work, spare, declared, records);
-    put_called(answer, r);
+    *answer = of_call(preprocessor::preprocess_by_levels(
+        text, table, output, work, spare, declared, records,
+    ));
 }
 
 // `is_closed`: whether a body may be rewritten apart from what stands behind it.
@@ -270,6 +255,5 @@ pub fn plpgsql_is_closed(text: &[u8], map: &mut [u8], answer: &mut [u32; 4])
     ensures map_after { map.new ≡ map_exit text.now map.old [] }
     ensures answer_after { answer.new ≡ four_found (closed_answer text.now map.old) }
 {
-    let s = closed::is_closed(text, map);
-    put_found(answer, s);
+    *answer = of_search(closed::is_closed(text, map));
 }

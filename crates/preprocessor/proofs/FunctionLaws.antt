@@ -1,4 +1,5 @@
 -- What the function call answers and leaves, from its declarations and its passes. Assumes nothing.
+use Rattle.std.specs.Prelude.{Err, Ok, Result}
 use mathlib.Core.Path.{◌≡◌, refl, sym, ap, subst, ◌∙◌}
 use mathlib.Core.List.{List, [], ◌++◌}
 use Prim.Native.Nat.{ℕ, ◌+◌, ◌-◌, ◌*◌, ◌≤◌, ◌<◌}
@@ -18,33 +19,44 @@ use Rattle.spec.specs.Search.{first, keyword_here}
 use Rattle.spec.specs.Map.{map_of, marked, marked_text}
 use Rattle.spec.specs.Outcome.{accepted, refused, Rewriting}
 use Rattle.spec.specs.Raise.{action_of}
-use Rattle.spec.specs.declared.Actions.{Actions}
+use Rattle.spec.specs.Raise.{Actions}
 use Rattle.spec.specs.Body.{rewriting}
 use Rattle.spec.specs.Declarations.{Declared, record_limit, record_width, records_of, body_from, body_of, packed, numbers_of}
-use Rattle.spec.specs.Answers.{Result, result_of, body_result, function_result, without_records, kept_behind, zeroed_to}
-use Rattle.spec.specs.declared.Rewritten.{Rewritten}
-use Rattle.spec.specs.declared.Rewritten.TheVariants as rewritten
+use Rattle.spec.specs.Answers.{CallResult, result_of, body_result, function_result, without_records, kept_behind, zeroed_to}
 use Rattle.spec.specs.Parts.{part}
 use Rattle.declared_parts.proofs.BetweenLaws.{between_length}
 use Rattle.declared_records.proofs.HeldLaws.{sets_drop}
 use Rattle.declarations.proofs.SectionLaws.{records_in_lem, section_in}
 use Rattle.declarations.proofs.PackedLaws.{packed_small}
 use Rattle.declarations.specs.SectionRecords.{records_of_section, records_in, section_of, parsed_of, Packed, Holds}
-use Rattle.declarations.specs.declared.Parsed.TheVariants.{Count, TooManyNames}
+use Rattle.declarations.specs.declared.DeclaredSizes.{DeclaredSizes}
 use Rattle.spec.specs.declared.Refusal.TheVariants as refusal
 use Rattle.preprocessor.specs.AnswerRecords.{with_records, if_accepted}
+use Rattle.spec.specs.declared.Refusal.{Refusal}
+use Rattle.spec.specs.declared.Accepted.{Accepted}
 
 -- what the declarations' answer tells
-pub told_count : (ds : List Declared) (c n : ℕ) → parsed_of ds ≡ Count c n → (length ds ≤ 512) × (length ds ≡ c) × (length (packed ds) ≡ n)
+pub told_count : (ds : List Declared) (p : DeclaredSizes) → parsed_of ds ≡ Ok p → (length ds ≤ 512) × (length ds ≡ p.records) × (length (packed ds) ≡ p.bytes)
 unfolding parsed_of
-told_count ds c n e =
+told_count ds p e =
     by (ltb 512 (length ds))
-    (λ p. let q : TooManyNames ≡ Count c n = rw p at e in absurd (apart (cc)))
-    (λ p. let q : Count (length ds) (length (packed ds)) ≡ Count c n = rw p at e in (ltb-false 512 (length ds) p, cc, cc))
+    (λ h. let q : Err refusal.TooManyNames ≡ Ok p = rw h at e in absurd (apart (cc)))
+    (λ h.
+    let made : DeclaredSizes = record { records = length ds; bytes = length (packed ds) } in
+    let q : Ok made ≡ Ok p = rw h at e in
+    let same : made ≡ p = ap (λ (r : Result DeclaredSizes Refusal). unwrap_ok r p) q in
+    (ltb-false 512 (length ds) h, ap (λ (r : DeclaredSizes). r.records) same, ap (λ (r : DeclaredSizes). r.bytes) same))
+  where
+    unwrap_ok : Result DeclaredSizes Refusal → DeclaredSizes → DeclaredSizes
+    unwrap_ok (Ok r) d = r
+    unwrap_ok (Err r) d = d
 
-pub parsed_names : (ds : List Declared) → parsed_of ds ≡ TooManyNames → 512 < length ds
+pub parsed_names : (ds : List Declared) (r : Refusal) → parsed_of ds ≡ Err r → (512 < length ds) × (r ≡ refusal.TooManyNames)
 unfolding parsed_of
-parsed_names ds e = by (ltb 512 (length ds)) (λ p. ltb-true 512 (length ds) p) (λ p. let q : Count (length ds) (length (packed ds)) ≡ TooManyNames = rw p at e in absurd (apart (cc)))
+parsed_names ds r e =
+    by (ltb 512 (length ds))
+    (λ h. let q : Err refusal.TooManyNames ≡ Err r = rw h at e in (ltb-true 512 (length ds) h, cc))
+    (λ h. let made : DeclaredSizes = record { records = length ds; bytes = length (packed ds) } in let q : Ok made ≡ Err r = rw h at e in absurd (apart (cc)))
 
 -- the call's result with too many names
 pub names_refused : (xs : List ℕ) (a : Actions) → 512 < length (records_of xs) → function_result xs a ≡ without_records refusal.TooManyNames []
@@ -77,9 +89,9 @@ numbers_held ds (accepted ys) rs h =
     rw n h
 numbers_held ds (refused f) rs h = refl
 
-pub at_most : (r : Rewritten) (n m : ℕ) → n ≤ m → if_accepted r n ≤ m
-at_most (rewritten.Accepted l k) n m h = h
-at_most (rewritten.Refused f) n m h = omega arith
+pub at_most : (r : Result Accepted Refusal) (n m : ℕ) → n ≤ m → if_accepted r n ≤ m
+at_most (Ok a) n m h = h
+at_most (Err f) n m h = omega arith
 
 -- what is behind the size stays
 pub kept_drop : (ms d : List ℕ) (n : ℕ) → length ms ≤ n → drop n (kept_behind ms d) ≡ drop n d
@@ -117,10 +129,10 @@ module _ (xs work work' : List ℕ) (m : work' ≡ kept_behind (map_of xs) work)
   the_records = ap records_in mapped ∙ records_in_lem xs
 
   -- there are c records, whose texts have n bytes, and the passes ran over the body, which starts at `start`
-  module _ (k : Actions) (start c n : ℕ) (b : drop start xs ≡ body_from (first (keyword_here (ascii "BEGIN")) 0 (marked xs work')) xs)
-      (q : parsed_of (records_in (marked xs work')) ≡ Count c n) where
-    told : (length (records_of xs) ≤ 512) × (length (records_of xs) ≡ c) × (length (packed (records_of xs)) ≡ n)
-    told = told_count (records_of xs) c n (ap parsed_of (sym the_records) ∙ q)
+  module _ (k : Actions) (start : ℕ) (p : DeclaredSizes) (b : drop start xs ≡ body_from (first (keyword_here (ascii "BEGIN")) 0 (marked xs work')) xs)
+      (q : parsed_of (records_in (marked xs work')) ≡ Ok p) where
+    told : (length (records_of xs) ≤ 512) × (length (records_of xs) ≡ p.records) × (length (packed (records_of xs)) ≡ p.bytes)
+    told = told_count (records_of xs) p (ap parsed_of (sym the_records) ∙ q)
 
     the_body : body_of xs ≡ drop start xs
     unfolding body_of
@@ -130,51 +142,51 @@ module _ (xs work work' : List ℕ) (m : work' ≡ kept_behind (map_of xs) work)
     unfolding record_limit
     result = function_passes xs k told.0 ∙ ap (λ ys. result_of (records_of xs) (rewriting (action_of k) ys)) the_body
 
-    pub count_small : c ≤ 512
+    pub count_small : p.records ≤ 512
     count_small = omega (arith, told.0, told.1)
 
-    pub numbers_small : 10 * c + 10 ≤ 5130
+    pub numbers_small : 10 * p.records + 10 ≤ 5130
     numbers_small = omega (arith, count_small)
 
-    pub texts_small : length xs ≤ 16384 → n ≤ 65536
+    pub texts_small : length xs ≤ 16384 → p.bytes ≤ 65536
     texts_small h = omega (arith, packed_fits xs, told.2, h)
 
     pub output_is : (body_result (drop start xs) k).output ≡ (function_result xs k).output
     unfolding body_result
-    output_is = records_output (records_of xs) (rewriting (action_of k) (drop start xs)) ∙ sym (ap (λ (f : Result). f.output) result)
+    output_is = records_output (records_of xs) (rewriting (action_of k) (drop start xs)) ∙ sym (ap (λ (f : CallResult). f.output) result)
 
-    module _ (r : Rewritten) (a : r ≡ (body_result (drop start xs) k).answer) where
-      pub answer_is : with_records c r ≡ (function_result xs k).answer
+    module _ (r : Result Accepted Refusal) (a : r ≡ (body_result (drop start xs) k).answer) where
+      pub answer_is : with_records p.records r ≡ (function_result xs k).answer
       unfolding body_result
       answer_is =
-          rw (← told.1, a) (records_answer (records_of xs) (rewriting (action_of k) (drop start xs)) ∙ sym (ap (λ (f : Result). f.answer) result))
+          rw (← told.1, a) (records_answer (records_of xs) (rewriting (action_of k) (drop start xs)) ∙ sym (ap (λ (f : CallResult). f.answer) result))
 
       module _ (d d' rs rs' : List ℕ) (held : Holds (records_in (marked xs work')) d d' rs rs') where
         packed_as : Packed (records_of xs) d d' rs'
         packed_as = (subst (λ (ds : List Declared). Holds ds d d' rs rs') the_records held).accepted told.0
 
-        pub texts_are : take (if_accepted r n) d' ≡ (function_result xs k).declared
+        pub texts_are : take (if_accepted r p.bytes) d' ≡ (function_result xs k).declared
         unfolding body_result
         texts_are =
             rw (← told.2, a)
-            (texts_held (records_of xs) (rewriting (action_of k) (drop start xs)) d' packed_as.front ∙ sym (ap (λ (f : Result). f.declared) result))
+            (texts_held (records_of xs) (rewriting (action_of k) (drop start xs)) d' packed_as.front ∙ sym (ap (λ (f : CallResult). f.declared) result))
 
-        pub numbers_are : take (if_accepted r (10 * c + 10)) rs' ≡ (function_result xs k).records
+        pub numbers_are : take (if_accepted r (10 * p.records + 10)) rs' ≡ (function_result xs k).records
         unfolding body_result
         numbers_are =
             rw (← told.1, a)
-            (numbers_held (records_of xs) (rewriting (action_of k) (drop start xs)) rs' packed_as.numbers ∙ sym (ap (λ (f : Result). f.records) result))
+            (numbers_held (records_of xs) (rewriting (action_of k) (drop start xs)) rs' packed_as.numbers ∙ sym (ap (λ (f : CallResult). f.records) result))
 
         pub texts_kept : length xs ≤ 16384 → drop 65536 d' ≡ drop 65536 d
         texts_kept h = ap (drop 65536) packed_as.texts ∙ sets_drop (packed (records_of xs)) d 0 65536 (omega (arith, packed_fits xs, h))
 
   -- there are too many names
-  module _ (k : Actions) (q : parsed_of (records_in (marked xs work')) ≡ TooManyNames) where
-    many : 512 < length (records_of xs)
-    many = parsed_names (records_of xs) (ap parsed_of (sym the_records) ∙ q)
+  module _ (k : Actions) (r : Refusal) (q : parsed_of (records_in (marked xs work')) ≡ Err r) where
+    many : (512 < length (records_of xs)) × (r ≡ refusal.TooManyNames)
+    many = parsed_names (records_of xs) r (ap parsed_of (sym the_records) ∙ q)
 
-    pub refused_is : function_result xs k ≡ without_records refusal.TooManyNames []
-    refused_is = names_refused xs k many
+    pub refused_is : function_result xs k ≡ without_records r []
+    refused_is = names_refused xs k many.0 ∙ ap (λ (f : Refusal). without_records f []) (sym many.1)
 
     pub texts_same : (d d' rs rs' : List ℕ) → Holds (records_in (marked xs work')) d d' rs rs' → d' ≡ d
-    texts_same d d' rs rs' held = (subst (λ (ds : List Declared). Holds ds d d' rs rs') the_records held).refused many
+    texts_same d d' rs rs' held = (subst (λ (ds : List Declared). Holds ds d d' rs rs') the_records held).refused many.0

@@ -1,20 +1,19 @@
 // The two rewriting calls, with a table of levels and without one.
 #![tactic(auto)]
 
-ghost use Rattle.std.specs.Prelude.{◌≡◌, ◌&&◌, [], ◌≤◌, leb, length};
+ghost use Rattle.std.specs.Prelude.{◌≡◌, ◌&&◌, [], ◌≤◌, leb, length, Err};
 ghost use Rattle.spec.specs.Levels.{table_of, no_table};
 ghost use Rattle.spec.specs.Answers.{zeroed_to, body_result, function_result, by_table, body_check, body_answer, body_output, work_exit, function_check, function_answer, function_output, function_text, function_records};
-ghost use Rattle.spec.specs.declared.Rewritten.TheVariants.{Refused};
 ghost use Rattle.preprocessor.specs.AnswerRecords.{with_records, if_accepted};
 
 use checks::check_texts;
-use declarations::{Parsed, body_start, parse_declarations};
-use declared_records::{RECORD_NUMBERS, RECORD_WIDTH, clear};
+use declarations::{body_start, parse_declarations};
+use declared_records::{RECORD_NUMBERS, RECORD_WIDTH};
 use levels::{no_table, read_table};
 use output::{BUFFER_SIZE, fill};
 use passes::run_body;
 use scanner::map_text;
-use spec::{Actions, Check, Refusal, Rewritten, Table};
+use spec::{Accepted, Actions, Refusal};
 
 // The most bytes that a call's text may have.
 const TEXT_LIMIT: usize = 16384;
@@ -23,13 +22,7 @@ const TEXT_LIMIT: usize = 16384;
 fn are_lent(output: usize, work: usize, spare: usize) -> bool
     ensures { result ≡ (leb 65536 output && (leb 65536 work && leb 65536 spare)) }
 {
-    if output < BUFFER_SIZE {
-        return false;
-    }
-    if work < BUFFER_SIZE {
-        return false;
-    }
-    BUFFER_SIZE <= spare
+    BUFFER_SIZE <= output && BUFFER_SIZE <= work && BUFFER_SIZE <= spare
 }
 
 // This refusal, with zeros in the output and the work buffers.
@@ -39,11 +32,11 @@ fn refuse_body(
     spare: &mut [u8],
     size: usize,
     refusal: Refusal,
-) -> Rewritten
+) -> Result<Accepted, Refusal>
     requires size_in_bounds { size ≤ length output.old }
     requires size_in_bounds_2 { size ≤ length work.old }
     requires size_in_bounds_3 { size ≤ length spare.old }
-    ensures value { result ≡ Refused refusal }
+    ensures value { result ≡ Err refusal }
     ensures output_after { output.new ≡ zeroed_to size [] output.old }
     ensures work_after { work.new ≡ zeroed_to size [] work.old }
     ensures spare_after { spare.new ≡ zeroed_to size [] spare.old }
@@ -51,18 +44,18 @@ fn refuse_body(
     fill(output, 0, size, 0);
     fill(work, 0, size, 0);
     fill(spare, 0, size, 0);
-    Rewritten::Refused(refusal)
+    Err(refusal)
 }
 
 // The body call with what a table says, once the checks have passed: a table's refusal comes before the passes.
 fn run_table(
     text: &[u8],
-    table: Table,
+    table: Result<Actions, Refusal>,
     output: &mut [u8],
     work: &mut [u8],
     spare: &mut [u8],
     size: usize,
-) -> Rewritten
+) -> Result<Accepted, Refusal>
     requires size_value { size ≡ 65536 }
     requires text_len_bound { length text.now ≤ 16384 }
     requires size_in_bounds { size ≤ length output.old }
@@ -74,30 +67,28 @@ fn run_table(
     ensures spare_after { spare.new ≡ zeroed_to size [] spare.old }
 {
     match table {
-        Table::Given(actions) => run_body(text, actions, output, work, spare, size),
-        Table::Refused(r) => refuse_body(output, work, spare, size, r),
+        Ok(actions) => run_body(text, actions, output, work, spare, size),
+        Err(r) => refuse_body(output, work, spare, size, r),
     }
 }
 
 // The body call with what a table says, once it is read.
+#[tactic(auto, using(crate::proofs::LentLaws::body_lent), unfolding(spec::specs::Answers::body_answer, spec::specs::Answers::body_output, spec::specs::Answers::work_exit, spec::specs::Answers::body_check, spec::specs::Answers::are_lent, spec::specs::Answers::text_limit, spec::specs::Body::buffer_size))]
 pub fn transform_body_by_table(
     text: &[u8],
-    table: Table,
+    table: Result<Actions, Refusal>,
     output: &mut [u8],
     work: &mut [u8],
     spare: &mut [u8],
-) -> Rewritten
+) -> Result<Accepted, Refusal>
     ensures value { result ≡ body_answer table text.now output.old work.old spare.old }
     ensures output_after { output.new ≡ body_output table text.now output.old work.old spare.old }
     ensures work_after { work.new ≡ work_exit (body_check text.now output.old work.old spare.old) work.old }
     ensures spare_after { spare.new ≡ work_exit (body_check text.now output.old work.old spare.old) spare.old }
 {
     let enough = are_lent(output.len(), work.len(), spare.len());
-    let check = check_texts(TEXT_LIMIT, enough, text, &text[..0]);
-    let Check::Refused(r) = check else {
-        return run_table(text, table, output, work, spare, BUFFER_SIZE);
-    };
-    Rewritten::Refused(r)
+    check_texts(TEXT_LIMIT, enough, text, b"")?;
+    run_table(text, table, output, work, spare, BUFFER_SIZE)
 }
 
 // The body call: the five passes over a trigger's body. The output holds the result and then zeros; the work buffers
@@ -107,7 +98,7 @@ pub fn transform_body(
     output: &mut [u8],
     work: &mut [u8],
     spare: &mut [u8],
-) -> Rewritten
+) -> Result<Accepted, Refusal>
     ensures value { result ≡ body_answer no_table text.now output.old work.old spare.old }
     ensures output_after { output.new ≡ body_output no_table text.now output.old work.old spare.old }
     ensures work_after { work.new ≡ work_exit (body_check text.now output.old work.old spare.old) work.old }
@@ -123,7 +114,7 @@ pub fn transform_body_by_levels(
     output: &mut [u8],
     work: &mut [u8],
     spare: &mut [u8],
-) -> Rewritten
+) -> Result<Accepted, Refusal>
     ensures value { result ≡ body_answer (table_of table.now) text.now output.old work.old spare.old }
     ensures output_after { output.new ≡ body_output (table_of table.now) text.now output.old work.old spare.old }
     ensures work_after { work.new ≡ work_exit (body_check text.now output.old work.old spare.old) work.old }
@@ -136,37 +127,25 @@ pub fn transform_body_by_levels(
 fn all_lent(output: usize, work: usize, spare: usize, declared: usize, records: usize) -> bool
     ensures { result ≡ ((leb 65536 output && (leb 65536 work && leb 65536 spare)) && (leb 65536 declared && leb 5130 records)) }
 {
-    if are_lent(output, work, spare) {
-        if declared < BUFFER_SIZE {
-            return false;
-        }
-        RECORD_NUMBERS <= records
-    } else {
-        false
-    }
+    are_lent(output, work, spare) && BUFFER_SIZE <= declared && RECORD_NUMBERS <= records
 }
 
 // The answer with this number of records, if it is accepted.
-fn with_records(r: Rewritten, count: usize) -> Rewritten
+fn with_records(r: Result<Accepted, Refusal>, count: usize) -> Result<Accepted, Refusal>
     ensures { result ≡ with_records count r }
 {
-    match r {
-        Rewritten::Accepted { length, records } => Rewritten::Accepted {
-            length,
-            records: count,
-        },
-        Rewritten::Refused(f) => r,
-    }
+    let accepted = r?;
+    Ok(Accepted {
+        records: count,
+        ..accepted
+    })
 }
 
 // n if the answer is accepted, else 0: a refusal leaves no records.
-fn if_accepted(r: Rewritten, n: usize) -> usize
+fn if_accepted(r: Result<Accepted, Refusal>, n: usize) -> usize
     ensures { result ≡ if_accepted r n }
 {
-    match r {
-        Rewritten::Accepted { length, records } => n,
-        Rewritten::Refused(f) => 0,
-    }
+    if r.is_ok() { n } else { 0 }
 }
 
 // This refusal, with zeros in all buffers.
@@ -179,13 +158,13 @@ fn refuse_function(
     size: usize,
     numbers: usize,
     refusal: Refusal,
-) -> Rewritten
+) -> Result<Accepted, Refusal>
     requires size_in_bounds { size ≤ length output.old }
     requires size_in_bounds_2 { size ≤ length work.old }
     requires size_in_bounds_3 { size ≤ length spare.old }
     requires size_in_bounds_4 { size ≤ length declared.old }
     requires numbers_in_bounds { numbers ≤ length records.old }
-    ensures value { result ≡ Refused refusal }
+    ensures value { result ≡ Err refusal }
     ensures output_after { output.new ≡ zeroed_to size [] output.old }
     ensures work_after { work.new ≡ zeroed_to size [] work.old }
     ensures spare_after { spare.new ≡ zeroed_to size [] spare.old }
@@ -194,7 +173,7 @@ fn refuse_function(
 {
     let r = refuse_body(output, work, spare, size, refusal);
     fill(declared, 0, size, 0);
-    clear(records, 0, numbers);
+    fill(records, 0, numbers, 0);
     r
 }
 
@@ -209,7 +188,7 @@ fn run_function(
     records: &mut [u32],
     size: usize,
     numbers: usize,
-) -> Rewritten
+) -> Result<Accepted, Refusal>
     requires size_value { size ≡ 65536 }
     requires numbers_value { numbers ≡ 5130 }
     requires text_len_bound { length text.now ≤ 16384 }
@@ -227,31 +206,25 @@ fn run_function(
 {
     map_text(text, work);
     let start = body_start(text, work);
-    let parsed = parse_declarations(text, work, declared, records);
-    let Parsed::Count(count, packed) = parsed else {
-        return refuse_function(
-            output,
-            work,
-            spare,
-            declared,
-            records,
-            size,
-            numbers,
-            Refusal::TooManyNames,
-        );
-    };
-    let r = run_body(&text[start..], actions, output, work, spare, size);
-    let n = if_accepted(r, packed);
-    let k = if_accepted(r, RECORD_WIDTH * count + RECORD_WIDTH);
-    fill(declared, n, size, 0);
-    clear(records, k, numbers);
-    with_records(r, count)
+    match parse_declarations(text, work, declared, records) {
+        Ok(sizes) => {
+            let r = run_body(&text[start..], actions, output, work, spare, size);
+            let n = if_accepted(r, sizes.bytes);
+            let k = if_accepted(r, RECORD_WIDTH * sizes.records + RECORD_WIDTH);
+            fill(declared, n, size, 0);
+            fill(records, k, numbers, 0);
+            with_records(r, sizes.records)
+        }
+        Err(refusal) => refuse_function(
+            output, work, spare, declared, records, size, numbers, refusal,
+        ),
+    }
 }
 
 // The function call with what a table says, once the checks have passed: a table's refusal comes before 7.
 fn run_function_table(
     text: &[u8],
-    table: Table,
+    table: Result<Actions, Refusal>,
     output: &mut [u8],
     work: &mut [u8],
     spare: &mut [u8],
@@ -259,7 +232,7 @@ fn run_function_table(
     records: &mut [u32],
     size: usize,
     numbers: usize,
-) -> Rewritten
+) -> Result<Accepted, Refusal>
     requires size_value { size ≡ 65536 }
     requires numbers_value { numbers ≡ 5130 }
     requires text_len_bound { length text.now ≤ 16384 }
@@ -276,25 +249,24 @@ fn run_function_table(
     ensures records_after { records.new ≡ zeroed_to numbers (by_table table (function_result text.now)).records records.old }
 {
     match table {
-        Table::Given(actions) => run_function(
+        Ok(actions) => run_function(
             text, actions, output, work, spare, declared, records, size, numbers,
         ),
-        Table::Refused(r) => refuse_function(
-            output, work, spare, declared, records, size, numbers, r,
-        ),
+        Err(r) => refuse_function(output, work, spare, declared, records, size, numbers, r),
     }
 }
 
 // The function call with what a table says, once it is read.
+#[tactic(auto, using(crate::proofs::LentLaws::function_lent), unfolding(spec::specs::Answers::function_answer, spec::specs::Answers::function_output, spec::specs::Answers::function_text, spec::specs::Answers::function_records, spec::specs::Answers::work_exit, spec::specs::Answers::function_check, spec::specs::Answers::are_lent, spec::specs::Answers::text_limit, spec::specs::Body::buffer_size, spec::specs::Declarations::record_numbers, spec::specs::Declarations::record_width, spec::specs::Declarations::record_limit))]
 fn preprocess_by_table(
     text: &[u8],
-    table: Table,
+    table: Result<Actions, Refusal>,
     output: &mut [u8],
     work: &mut [u8],
     spare: &mut [u8],
     declared: &mut [u8],
     records: &mut [u32],
-) -> Rewritten
+) -> Result<Accepted, Refusal>
     ensures value { result ≡ function_answer table text.now output.old work.old spare.old declared.old records.old }
     ensures output_after { output.new ≡ function_output table text.now output.old work.old spare.old declared.old records.old }
     ensures work_after { work.new ≡ work_exit (function_check text.now output.old work.old spare.old declared.old records.old) work.old }
@@ -309,21 +281,18 @@ fn preprocess_by_table(
         declared.len(),
         records.len(),
     );
-    let check = check_texts(TEXT_LIMIT, enough, text, &text[..0]);
-    let Check::Refused(r) = check else {
-        return run_function_table(
-            text,
-            table,
-            output,
-            work,
-            spare,
-            declared,
-            records,
-            BUFFER_SIZE,
-            RECORD_NUMBERS,
-        );
-    };
-    Rewritten::Refused(r)
+    check_texts(TEXT_LIMIT, enough, text, b"")?;
+    run_function_table(
+        text,
+        table,
+        output,
+        work,
+        spare,
+        declared,
+        records,
+        BUFFER_SIZE,
+        RECORD_NUMBERS,
+    )
 }
 
 // The function call: the declarations' records, and the five passes over the body. The output holds the result and then
@@ -335,7 +304,7 @@ pub fn preprocess(
     spare: &mut [u8],
     declared: &mut [u8],
     records: &mut [u32],
-) -> Rewritten
+) -> Result<Accepted, Refusal>
     ensures value { result ≡ function_answer no_table text.now output.old work.old spare.old declared.old records.old }
     ensures output_after { output.new ≡ function_output no_table text.now output.old work.old spare.old declared.old records.old }
     ensures work_after { work.new ≡ work_exit (function_check text.now output.old work.old spare.old declared.old records.old) work.old }
@@ -355,7 +324,7 @@ pub fn preprocess_by_levels(
     spare: &mut [u8],
     declared: &mut [u8],
     records: &mut [u32],
-) -> Rewritten
+) -> Result<Accepted, Refusal>
     ensures value { result ≡ function_answer (table_of table.now) text.now output.old work.old spare.old declared.old records.old }
     ensures output_after { output.new ≡ function_output (table_of table.now) text.now output.old work.old spare.old declared.old records.old }
     ensures work_after { work.new ≡ work_exit (function_check text.now output.old work.old spare.old declared.old records.old) work.old }

@@ -1,5 +1,6 @@
 -- How many parentheses are open at an offset, and the searches for keywords and commas outside them, one step at an offset.
 -- Assumes nothing.
+use Rattle.std.specs.Prelude.{Option, Some, None}
 use mathlib.Core.Path.{◌≡◌, refl, sym, ap, ◌∙◌}
 use mathlib.Core.Bool.{Bool, true, false, cond, not, ◌&&◌}
 use mathlib.Core.List.{List, [], ◌∷◌, reverse}
@@ -15,8 +16,6 @@ use Rattle.spec.specs.Bytes.{upper, is_ident, prefix_by}
 use Rattle.spec.specs.Map.{Marked, live, quoted, mark, marked, front_byte}
 use Rattle.spec.specs.Search.{first, byte_here, word_here}
 use Rattle.spec.specs.SelectInto.{depth_after, depth_of, top_word_here, comma_here, place_or}
-use Rattle.spec.specs.declared.Found.{Found}
-use Rattle.spec.specs.declared.Found.TheVariants.{At, Nothing}
 
 -- the depth behind a byte beside its map byte
 pub depth_mark : (m c d : ℕ) → depth_after (mark m c) d ≡ cond (eqb m 0) (cond (eqb c 40) (suc d) (cond (eqb c 41) (d - 1) d)) d
@@ -78,7 +77,7 @@ module _ (xs ms : List ℕ) where
 
   -- the search for a keyword outside parentheses, d being open at i
   module _ (w : List ℕ) (i : ℕ) where
-    pub top_end : length xs ≤ i → first (top_word_here w) i (marked xs ms) ≡ Nothing
+    pub top_end : length xs ≤ i → first (top_word_here w) i (marked xs ms) ≡ None
     top_end h = first_end (top_word_here w) (marked xs ms) i (rw marked_length h)
 
     module _ (d : ℕ) (h : i < length xs) (e : d ≡ depth_at i) where
@@ -92,17 +91,17 @@ module _ (xs ms : List ℕ) where
       top_miss q = first_miss (top_word_here w) (marked xs ms) i (rw marked_length h) (top_at ∙ q)
 
       pub top_hit : (word_here is_ident w (front_byte (reverse (take i (marked xs ms)))) (drop i (marked xs ms)) && eqb d 0) ≡ true
-          → first (top_word_here w) i (marked xs ms) ≡ At i
+          → first (top_word_here w) i (marked xs ms) ≡ Some i
       top_hit q = first_hit (top_word_here w) (marked xs ms) i (rw marked_length h) (top_at ∙ q)
 
   -- ---- a comma
 
-  abbrev pub comma_from : ℕ → Found
+  abbrev pub comma_from : ℕ → Option ℕ
   comma_from i = first comma_here i (marked xs ms)
 
   module _ (i : ℕ) where
     pub comma_end : length xs ≤ i → place_or (comma_from i) (length xs) ≡ length xs
-    comma_end h = ap (λ (f : Found). place_or f (length xs)) (first_end comma_here (marked xs ms) i (rw marked_length h))
+    comma_end h = ap (λ (f : Option ℕ). place_or f (length xs)) (first_end comma_here (marked xs ms) i (rw marked_length h))
 
     module _ (m d : ℕ) (h : i < length xs) (g : m ≡ get_or ms i 0) (e : d ≡ depth_at i) where
       comma_at_lem : passes_at comma_here (marked xs ms) i ≡ (eqb m 0 && (eqb (get_or xs i 0) 44 && eqb d 0))
@@ -115,7 +114,7 @@ module _ (xs ms : List ℕ) where
 
       pub comma_hit : (eqb m 0 && (eqb (get_or xs i 0) 44 && eqb d 0)) ≡ true → place_or (comma_from i) (length xs) ≡ i
       comma_hit q =
-          ap (λ (f : Found). place_or f (length xs)) (first_hit comma_here (marked xs ms) i (rw marked_length h) (comma_at_lem ∙ q))
+          ap (λ (f : Option ℕ). place_or f (length xs)) (first_hit comma_here (marked xs ms) i (rw marked_length h) (comma_at_lem ∙ q))
 
       pub comma_miss : (eqb m 0 && (eqb (get_or xs i 0) 44 && eqb d 0)) ≡ false → comma_from i ≡ comma_from (i + 1)
       comma_miss q = first_miss comma_here (marked xs ms) i (rw marked_length h) (comma_at_lem ∙ q)

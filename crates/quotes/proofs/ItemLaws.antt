@@ -1,5 +1,6 @@
 -- The parts of a list one after the other: behind a comma outside parentheses the list starts afresh, so its first part and
 -- what stands behind that part's comma make up the list. Assumes nothing.
+use Rattle.std.specs.Prelude.{Option, Some, None}
 use mathlib.Core.Path.{◌≡◌, refl, sym, ap, ◌∙◌}
 use mathlib.Core.Bool.{Bool, true, false, not, ◌&&◌, false≢true}
 use mathlib.Core.List.{List, [], ◌∷◌, map, reverse}
@@ -24,8 +25,6 @@ use Rattle.spec.specs.Lists.{is_empty, take_while, drop_while, drop_end, keep}
 use Rattle.spec.specs.Map.{Marked, live, quoted, is_live_byte, marked, of_byte}
 use Rattle.spec.specs.Search.{first, byte_here, pieces_from, pieces}
 use Rattle.spec.specs.SelectInto.{depth_after, depth_of, comma_here, listed, place_or}
-use Rattle.spec.specs.declared.Found.{Found}
-use Rattle.spec.specs.declared.Found.TheVariants.{At, Nothing}
 use Rattle.quotes.specs.Items.{Listed}
 
 -- the pieces depend on what stands before only by how many parentheses are open there
@@ -75,25 +74,25 @@ module _ (t : List Marked) where
   comma_le : comma_at t ≤ length t
   comma_le = go (first comma_here 0 t) refl
     where
-      go : (f : Found) → first comma_here 0 t ≡ f → place_or f (length t) ≤ length t
-      go (At j) e = let r = first_least comma_here t 0 j e in omega (arith, r.inside)
-      go Nothing e = omega arith
+      go : (f : Option ℕ) → first comma_here 0 t ≡ f → place_or f (length t) ≤ length t
+      go (Some j) e = let r = first_least comma_here t 0 j e in omega (arith, r.inside)
+      go None e = omega arith
 
   -- a list is its first piece and the list of what stands behind the first comma
   listed_front : listed t ≡ listed_of (take (comma_at t) t ∷ pieces comma_here (drop (comma_at t + 1) t))
   unfolding listed pieces depth_of pieces_from keep trim trim_end drop_while drop_end is_empty
   listed_front = go (first comma_here 0 t) refl
     where
-      go : (f : Found) → first comma_here 0 t ≡ f
+      go : (f : Option ℕ) → first comma_here 0 t ≡ f
           → listed_of (pieces_from comma_here [] t) ≡ listed_of (take (place_or f (length t)) t ∷ pieces_from comma_here [] (drop (place_or f (length t) + 1) t))
-      go (At j) e =
+      go (Some j) e =
           let r = first_least comma_here t 0 j e in
           let n : j - 0 ≡ j = omega arith in
           let cut : pieces_from comma_here [] t ≡ take (j - 0) t ∷ pieces_from comma_here (reverse (take (j + 1) t)) (drop (j + 1) t) = pieces_cut comma_here t 0 j e in
           ap listed_of
           ((rw n at cut)
           ∙ ap (λ (ps : List (List Marked)). take j t ∷ ps) (same_pieces (reverse (take (j + 1) t)) [] (drop (j + 1) t) (comma_depth t j r.inside r.passes)))
-      go Nothing e =
+      go None e =
           let n : length t ≤ length t + 1 = omega arith in
           let whole : pieces_from comma_here [] t ≡ t ∷ [] = pieces_last comma_here t 0 e in
           rw (whole, take-length t, drop_of_length-le t n) refl

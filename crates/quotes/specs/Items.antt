@@ -1,9 +1,8 @@
 -- The parts of a list, one after the other. Assumes nothing.
-use Rattle.std.specs.Prelude.{◌≡◌, List, [], ◌∷◌, ℕ, ◌+◌, ◌≤◌, ◌<◌, length, take, drop}
+use Rattle.std.specs.Prelude.{◌≡◌, List, [], ◌∷◌, ℕ, ◌+◌, ◌≤◌, ◌<◌, length, take, drop, Option, Some, None}
 use Rattle.spec.specs.Map.{Marked}
 use Rattle.spec.specs.SelectInto.{listed}
 use Rattle.quotes.specs.declared.Item.{Item}
-use Rattle.quotes.specs.declared.Item.TheVariants.{Next, Over}
 
 -- the first of the listed parts of what stands from offset i on is the k bytes at offset a, and the others are those of what
 -- stands from offset n on
@@ -16,6 +15,6 @@ pub record Listed (t : List Marked) (i a k n : ℕ) : Type 0 where
   pub within : n ≤ length t + 1
 
 -- the first of those parts, or none
-abbrev pub FirstItem : List Marked → ℕ → Item → Type 0
-FirstItem t i (Next a k n) = Listed t i a k n
-FirstItem t i Over = listed (drop i t) ≡ []
+abbrev pub FirstItem : List Marked → ℕ → Option Item → Type 0
+FirstItem t i (Some p) = Listed t i p.start p.len p.next
+FirstItem t i None = listed (drop i t) ≡ []

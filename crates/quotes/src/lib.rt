@@ -1,14 +1,13 @@
 // What pass 4 reads: a map that knows `'` and `"` only, and keywords and lists outside parentheses and those quotes.
 #![tactic(auto)]
 
-ghost use Rattle.std.specs.Prelude.{◌≡◌, cond, ◌&&◌, reverse, ◌+◌, ◌-◌, ◌^◌, ◌≤◌, ◌<◌, eqb, length, get_or, take, drop};
+ghost use Rattle.std.specs.Prelude.{◌≡◌, cond, ◌&&◌, reverse, ◌+◌, ◌-◌, ◌^◌, ◌≤◌, ◌<◌, eqb, length, get_or, take, drop, None};
 ghost use Rattle.spec.specs.Bytes.{is_ident, is_quote};
 ghost use Rattle.spec.specs.Lists.{is_empty};
 ghost use Rattle.spec.specs.Map.{mark, marked, front_byte};
 ghost use Rattle.spec.specs.Search.{first, word_here};
 ghost use Rattle.spec.specs.SelectInto.{quote_after, depth_after, depth_of, top_word_here, comma_here, place_or};
 ghost use Rattle.spec.specs.Answers.{kept_behind};
-ghost use Rattle.spec.specs.declared.Found.TheVariants.{Nothing};
 ghost use Rattle.quotes.specs.QuoteMap.{quote_flag, quote_map};
 ghost use Rattle.quotes.specs.Items.{FirstItem};
 ghost use Rattle.quotes.specs.Limits.{limit_next, limit_from};
@@ -16,14 +15,13 @@ ghost use Rattle.quotes.specs.Limits.{limit_next, limit_from};
 use classes::{byte_at, is_ident_byte, upper_of};
 use runs::{Set, run_end, run_start};
 use scanner::starts_ignoring_case;
-use spec::Found;
 
-// The next part of a list.
+// A part of a list: where it starts, how long it is, and where the search for the one behind it starts.
 #[derive(Clone, Copy)]
-pub enum Item {
-    // Where it starts, how long it is, and where the search for the one behind it starts.
-    Next(usize, usize, usize),
-    Over,
+pub struct Item {
+    pub start: usize,
+    pub len: usize,
+    pub next: usize,
 }
 
 // A single or a double quote.
@@ -148,22 +146,22 @@ fn top_word_at(text: &[u8], map: &[u8], word: &[u8], d: usize, i: usize) -> bool
 }
 
 // The least place at or after `from` where `word` stands so.
-pub fn find_top_keyword(text: &[u8], map: &[u8], word: &[u8], from: usize) -> Found
-    ensures { result ≡ cond (is_empty word.now) Nothing (first (top_word_here word.now) from (marked text.now map.now)) }
+pub fn find_top_keyword(text: &[u8], map: &[u8], word: &[u8], from: usize) -> Option<usize>
+    ensures { result ≡ cond (is_empty word.now) None (first (top_word_here word.now) from (marked text.now map.now)) }
 {
     if word.len() == 0 {
-        return Found::Nothing;
+        return None;
     }
     let mut depth = depth_before(text, map, from);
     let mut i = from;
     while i < text.len() {
         if top_word_at(text, map, word, depth, i) {
-            return Found::At(i);
+            return Some(i);
         }
         depth = depth_after(byte_at(map, i), text[i], depth);
         i += 1;
     }
-    Found::Nothing
+    None
 }
 
 // Whether the byte b with the map byte m is a live comma outside parentheses, d being open before it.
@@ -195,7 +193,7 @@ fn comma_at(text: &[u8], map: &[u8]) -> usize
 
 // The first part from offset `from` on of the list that the text is: its parts stand between commas outside parentheses and
 // quotes, are trimmed of W, and are not empty.
-pub fn next_item(text: &[u8], map: &[u8], from: usize) -> Item
+pub fn next_item(text: &[u8], map: &[u8], from: usize) -> Option<Item>
     requires { length text.now ≤ length map.now }
     ensures { FirstItem (marked text.now map.now) from result }
 {
@@ -206,11 +204,15 @@ pub fn next_item(text: &[u8], map: &[u8], from: usize) -> Item
         if start < end {
             let rest = &text[start..end];
             let k = run_start(rest, Set::W, rest.len());
-            return Item::Next(start, k, end + 1);
+            return Some(Item {
+                start,
+                len: k,
+                next: end + 1,
+            });
         }
         at = end + 1;
     }
-    Item::Over
+    None
 }
 
 // How many bytes of ` LIMIT ` stand matched behind b, k being matched before it.

@@ -1,4 +1,5 @@
 -- A turn of pass 5: the bytes up to a RAISE and what becomes of it are written, or its clause is refused. Assumes nothing.
+use Rattle.std.specs.Prelude.{Some, None, Err}
 use mathlib.Core.Path.{◌≡◌, refl, ap, ◌∙◌}
 use mathlib.Core.Bool.{true, false}
 use mathlib.Core.List.{List, []}
@@ -16,12 +17,10 @@ use Rattle.spec.specs.Outcome.{using_clause, Outcome, accepted}
 use Rattle.spec.specs.Raise.{level_words, level_in, fate_text}
 use Rattle.spec.specs.declared.Level.{Level}
 use Rattle.spec.specs.declared.Action.{Action}
-use Rattle.spec.specs.declared.Found.TheVariants.{At, Nothing}
 use Rattle.messages.specs.Readings.{fate_in, Reads}
 use Rattle.messages.specs.declared.RaiseRead.{RaiseRead}
 use Rattle.output.proofs.StoreLaws.{front_stored}
 use Rattle.output.specs.Passes.{pass_answer, Leaves}
-use Rattle.output.specs.declared.Pass.TheVariants.{Refused}
 use Rattle.spec.specs.declared.Refusal.TheVariants.{UsingClause}
 use Rattle.raise.specs.Texts.{Put}
 use Rattle.output.proofs.OutcomeLaws.{Turn, turn_both, turn_front, turn_text, turn_stopped, refusal_first}
@@ -31,12 +30,12 @@ use Rattle.spec.proofs.RaiseWalk.{raised_pos, raise_here}
 
 module _ (act : Level → Action) (xs ms : List ℕ) (from : ℕ) where
   -- no RAISE is left
-  pub last_turn : (d d' : List ℕ) (n n' : ℕ) → first raise_here from (marked xs ms) ≡ Nothing
+  pub last_turn : (d d' : List ℕ) (n n' : ℕ) → first raise_here from (marked xs ms) ≡ None
       → d' ≡ sets d n (drop from xs) → n' ≡ n + length (drop from xs) → Turn d n (left_at act (marked xs ms) from) d' n' (accepted [])
   last_turn d d' n n' e p q =
       rw (raise_last act (marked xs ms) from e) (turn_front (drop from (marked xs ms)) (drop from xs) d d' n n' (accepted []) (bytes_drop xs ms from) p q)
 
-  module _ (at : ℕ) (e : first raise_here from (marked xs ms) ≡ At at) where
+  module _ (at : ℕ) (e : first raise_here from (marked xs ms) ≡ Some at) where
     -- the RAISE stands within the text
     pub raise_within : (from ≤ at) × (at < length xs)
     raise_within =
@@ -84,10 +83,10 @@ module _ (act : Level → Action) (xs ms : List ℕ) (from : ℕ) where
       -- it is refused: its clause stands in front
       pub raise_clause : (d₀ d d₁ d₂ : List ℕ) (n n₁ n₂ : ℕ) (o : Outcome (List Marked)) → Turn d₀ 0 o d n (left_at act (marked xs ms) from)
           → Put (fate_in r.fate r.end (drop at xs)) d₁ n₁ true d₂ n₂ → n₂ ≤ length d₁
-          → (Refused (UsingClause n₂) ≡ pass_answer o) × Leaves o d₀ d₂
+          → (Err (UsingClause n₂) ≡ pass_answer o) × Leaves o d₀ d₂
       raise_clause d₀ d d₁ d₂ n n₁ n₂ o t s h =
           let c = s.text in
           let k : n₂ ≡ length c = omega (arith, s.counted) in
           let left = raise_step act (marked xs ms) from at e ∙ refusal_first (take (at - from) (drop from (marked xs ms))) _ _ (using_clause c) (here.text ∙ s.becomes) in
           let w = turn_stopped d₀ d d₂ n o _ (using_clause c) t left (front_stored d₁ d₂ c (length c) refl (omega arith) s.stored) in
-          (ap (λ (l : ℕ). Refused (UsingClause l)) k ∙ w.0, w.1)
+          (ap (λ (l : ℕ). Err (UsingClause l)) k ∙ w.0, w.1)

@@ -1,5 +1,6 @@
 -- What pass 5 makes of a text from an offset on: the bytes up to the next RAISE, then that RAISE, then what is behind it.
 -- Assumes nothing.
+use Rattle.std.specs.Prelude.{Some, None}
 use mathlib.Core.Path.{◌≡◌, refl, sym, ap, ◌∙◌}
 use mathlib.Core.Bool.{false}
 use mathlib.Core.List.{List, [], ◌∷◌}
@@ -21,7 +22,6 @@ use Rattle.spec.specs.Outcome.{Outcome, accepted, refused, ◌⊕◌}
 use Rattle.spec.specs.Raise.{Token, fate_text, token_text, join_tokens, raise}
 use Rattle.spec.specs.declared.Level.{Level}
 use Rattle.spec.specs.declared.Action.{Action}
-use Rattle.spec.specs.declared.Found.TheVariants.{At, Nothing}
 
 module _ (act : Level → Action) (t : List Marked) where
   accepted_more : (x : Marked) (u : List Marked) (o : Outcome (List Marked)) → accepted (x ∷ u) ⊕ o ≡ accepted (x ∷ []) ⊕ (accepted u ⊕ o)
@@ -41,7 +41,7 @@ module _ (act : Level → Action) (t : List Marked) where
   unfolding join_tokens
   left_end i h = ap join_tokens (raises_end act t i h)
 
-  pub raise_step : (i j : ℕ) → first raise_here i t ≡ At j
+  pub raise_step : (i j : ℕ) → first raise_here i t ≡ Some j
       → left_at i ≡ accepted (take (j - i) (drop i t)) ⊕ (fate_text (raise_of act (drop j t)).fate ⊕ left_at (j + (raise_of act (drop j t)).length))
   unfolding join_tokens token_text
   raise_step i j e =
@@ -49,7 +49,7 @@ module _ (act : Level → Action) (t : List Marked) where
       copied (λ (l : List Marked) (o : Outcome (List Marked)). accepted l ⊕ o) outcome_none accepted_more raise_here t left_at left_kept i j e
       ∙ ap (λ (ps : List Token). accepted (take (j - i) (drop i t)) ⊕ join_tokens ps) (raise_goes act t j b.inside b.passes)
 
-  pub raise_last : (i : ℕ) → first raise_here i t ≡ Nothing → left_at i ≡ accepted (drop i t) ⊕ accepted []
+  pub raise_last : (i : ℕ) → first raise_here i t ≡ None → left_at i ≡ accepted (drop i t) ⊕ accepted []
   raise_last =
       copied_all (λ (l : List Marked) (o : Outcome (List Marked)). accepted l ⊕ o) outcome_none accepted_more raise_here t left_at left_kept (accepted []) left_end
 

@@ -10,9 +10,9 @@ ghost use Rattle.messages.specs.Readings.{raise_front, raising, raised_as, fate_
 ghost use Rattle.raise.specs.Texts.{Put};
 
 use messages::{RaiseFate, RaiseRead, raise_message, read_raise};
-use output::{Pass, put_all};
+use output::put_all;
 use scanner::find_keyword_in;
-use spec::{Actions, Found, RaiseType, Refusal};
+use spec::{Actions, RaiseType, Refusal};
 
 // What stands ahead of the message, with SQLite's word.
 fn put_front(out: &mut [u8], n: usize, word: RaiseType) -> usize
@@ -81,7 +81,12 @@ fn put_raise(out: &mut [u8], n: usize, rest: &[u8], read: RaiseRead, refused: &m
 }
 
 // The text with each RAISE rewritten, dropped or passed, as far as `out` reaches; the first refused clause stops it.
-pub fn transform_raise_statements(text: &[u8], map: &[u8], actions: Actions, out: &mut [u8]) -> Pass
+pub fn transform_raise_statements(
+    text: &[u8],
+    map: &[u8],
+    actions: Actions,
+    out: &mut [u8],
+) -> Result<usize, Refusal>
     requires text_len_bound { length text.now ≤ 65536 }
     requires text_in_bounds { length text.now ≤ length map.now }
     requires text_in_bounds_2 { length text.now ≤ length out.old }
@@ -92,8 +97,8 @@ pub fn transform_raise_statements(text: &[u8], map: &[u8], actions: Actions, out
     let mut from: usize = 0;
     loop {
         let found = find_keyword_in(text, map, b"RAISE", from);
-        let Found::At(at) = found else {
-            return Pass::Done(put_all(out, n, &text[from..]));
+        let Some(at) = found else {
+            return Ok(put_all(out, n, &text[from..]));
         };
         let rest = &text[at..];
         let read = read_raise(rest, actions);
@@ -102,7 +107,7 @@ pub fn transform_raise_statements(text: &[u8], map: &[u8], actions: Actions, out
         n = put_all(out, n, &text[from..at]);
         n = put_raise(out, n, rest, read, &mut refused);
         if refused {
-            return Pass::Refused(Refusal::UsingClause { length: n });
+            return Err(Refusal::UsingClause { length: n });
         }
         from = at + end;
     }

@@ -1,8 +1,7 @@
 // The numbers that an answer stands for: number, found, place, and the length of what was found or written.
-use checks::refusal_numbers;
-use spec::{Filled, Refusal, Search};
+use spec::{Refusal, RefusalNumbers};
 
-#[derive(Clone, Copy)]
+#[derive(Clone, Copy, Default, PartialEq)]
 pub struct Numbers {
     pub number: usize,
     pub found: usize,
@@ -10,48 +9,47 @@ pub struct Numbers {
     pub length: usize,
 }
 
-pub fn four(number: usize, found: usize, place: usize, length: usize) -> Numbers {
-    Numbers {
-        number,
-        found,
-        place,
-        length,
+// What stands for a line that asks for no search, or lends more than there is; no search answers it.
+pub const NO_ANSWER: Numbers = Numbers {
+    number: 9,
+    found: 0,
+    place: 0,
+    length: 0,
+};
+
+impl From<Refusal> for Numbers {
+    fn from(refusal: Refusal) -> Numbers {
+        let told = RefusalNumbers::from(refusal);
+        Numbers {
+            number: told.number as usize,
+            place: told.place,
+            ..Numbers::default()
+        }
     }
 }
 
-pub fn of_refusal(r: Refusal) -> Numbers {
-    let n = refusal_numbers(r);
-    four(n.number as usize, 0, n.place, 0)
-}
-
-pub fn of_search(s: Search) -> Numbers {
-    match s {
-        Search::Found(i) => four(0, 1, i, 0),
-        Search::NotFound => four(0, 0, 0, 0),
-        Search::Refused(r) => of_refusal(r),
+impl From<Result<Option<usize>, Refusal>> for Numbers {
+    fn from(search: Result<Option<usize>, Refusal>) -> Numbers {
+        match search {
+            Ok(Some(place)) => Numbers {
+                found: 1,
+                place,
+                ..Numbers::default()
+            },
+            Ok(None) => Numbers::default(),
+            Err(refusal) => refusal.into(),
+        }
     }
 }
 
-pub fn of_filled(f: Filled) -> Numbers {
-    match f {
-        Filled::Count(n) => four(0, 0, 0, n),
-        Filled::Refused(r) => of_refusal(r),
+impl From<Result<usize, Refusal>> for Numbers {
+    fn from(filled: Result<usize, Refusal>) -> Numbers {
+        match filled {
+            Ok(length) => Numbers {
+                length,
+                ..Numbers::default()
+            },
+            Err(refusal) => refusal.into(),
+        }
     }
-}
-
-pub fn same_numbers(a: Numbers, b: Numbers) -> bool {
-    if a.number != b.number {
-        return false;
-    }
-    if a.found != b.found {
-        return false;
-    }
-    if a.place != b.place {
-        return false;
-    }
-    a.length == b.length
-}
-
-pub fn wide(n: u32) -> usize {
-    n as usize
 }

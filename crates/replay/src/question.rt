@@ -1,11 +1,10 @@
 // A line about the text: KIND NEEDLE FROM NUMBER FOUND PLACE LENGTH RESULT. The search is made, and its numbers and what it
 // wrote are compared with the line's.
-use crate::ask::ask_lent;
-use crate::numbers::{Numbers, four, same_numbers, wide};
-use classes::byte_at;
+use crate::ask::{Counts, Question, ask_lent};
+use crate::kind::Kind;
+use crate::numbers::Numbers;
 use stored_list::{
-    Fault, are_marked, decode, field, inject_byte, inject_number, is_marked, marked_bytes,
-    marked_numbers, number, part, same,
+    Fault, START_NUMBERS, TEXT_BYTES, count, decode, field, inject, is_marked, marked, number,
 };
 
 // The first field of a result; a list of numbers takes several.
@@ -16,152 +15,130 @@ const BYTES: usize = 0;
 
 const STARTS: usize = 1;
 
-// The numbers that a line expects.
-fn expected(line: &[u8]) -> Numbers {
-    let found = number(field(line, 4));
-    let place = number(field(line, 5));
-    four(number(field(line, 3)), found, place, number(field(line, 6)))
+// The numbers that a line expects, if it has them.
+fn expected(line: &[u8]) -> Option<Numbers> {
+    Some(Numbers {
+        number: number(field(line, 3))?,
+        found: number(field(line, 4))?,
+        place: number(field(line, 5))?,
+        length: number(field(line, 6))?,
+    })
 }
 
-// Whether the map's first bytes are the digits of a field.
-fn same_map(map: &[u8], digits: &[u8]) -> bool {
-    let mut i: usize = 0;
-    while i < digits.len() {
-        let flag = byte_at(map, i);
-        if 1 < flag {
-            return false;
+// Whether a field holds the map, a digit for each byte. `-` is the empty map, and `*` any map.
+fn is_map(map: &[u8], digits: &[u8]) -> bool {
+    match digits {
+        [b'*', ..] => true,
+        [b'-', ..] if map.is_empty() => true,
+        _ => {
+            !map.is_empty()
+                && map.len() == digits.len()
+                && map.iter().zip(digits).all(|(flag, digit)| matches!(
+                    (flag, digit),
+                    (0, b'0') | (1, b'1')
+                ))
         }
-        if flag + 48 != digits[i] {
-            return false;
-        }
-        i += 1;
     }
-    true
 }
 
-// Whether a field holds the map of n bytes. `-` is the empty map, and `*` any map.
-fn is_map(map: &[u8], digits: &[u8], n: usize) -> bool {
-    if byte_at(digits, 0) == b'*' {
-        return true;
-    }
-    if n == 0 {
-        return byte_at(digits, 0) == b'-';
-    }
-    if digits.len() == n {
-        return same_map(map, digits);
-    }
-    false
-}
-
-// Whether a field holds the first n bytes of the output in hex; `*` stands for any output.
-fn is_output(output: &[u8], hex: &[u8], n: usize) -> bool {
-    if byte_at(hex, 0) == b'*' {
+// Whether a field holds the output in hex; `*` stands for any output.
+fn is_output(output: &[u8], hex: &[u8]) -> bool {
+    if hex.first() == Some(&b'*') {
         return true;
     }
     let mut bytes = [0u8; 4096];
-    let k = decode(hex, &mut bytes);
-    same(part(&bytes, 0, k), part(output, 0, n))
+    let n = decode(hex, &mut bytes);
+    &bytes[..n] == output
 }
 
-// The number at i, or 0 past the end.
-fn number_at(list: &[u32], i: usize) -> usize {
-    if i < list.len() { wide(list[i]) } else { 0 }
-}
-
-// Whether the first starts are those of the line's last fields, and there are no more fields.
-fn are_starts(line: &[u8], starts: &[u32], count: usize) -> bool {
-    let mut i: usize = 0;
-    while i < 65536 {
-        let start = field(line, RESULT + i);
-        if count <= i {
-            return start.len() == 0;
-        }
-        if number_at(starts, i) != number(start) {
+// Whether the starts are those of the line's last fields, and there are no more fields.
+fn are_starts(starts: &[u32], line: &[u8]) -> bool {
+    let mut fields = line.split(|b| *b == b' ').skip(RESULT);
+    for start in starts {
+        if fields.next().and_then(|field| number(field)) != Some(*start as usize) {
             return false;
         }
-        i += 1;
     }
-    false
+    fields.next().unwrap_or(&[]).is_empty()
 }
 
-// How many bytes a search writes that is not refused: an output, or the map of n bytes.
-fn written(kind: u8, got: Numbers, n: usize) -> usize {
+// How much a search writes that is not refused: an output, or the map of n bytes, and the starts of a split.
+fn written(kind: Option<Kind>, got: Numbers, n: usize) -> Counts {
     if got.number != 0 {
-        return 0;
+        return Counts::default();
     }
-    if kind == b'q' {
-        return got.length;
+    match kind {
+        Some(Kind::RequotedLength | Kind::Unterminated) | None => Counts::default(),
+        Some(Kind::Requote) => Counts {
+            bytes: got.length,
+            starts: 0,
+        },
+        Some(Kind::Split) => Counts {
+            bytes: n,
+            starts: got.length,
+        },
+        Some(_) => Counts {
+            bytes: n,
+            starts: 0,
+        },
     }
-    if kind == b'n' {
-        return 0;
-    }
-    if kind == b'u' {
-        return 0;
-    }
-    n
 }
 
-// Whether what a search wrote is the line's result.
-fn is_result(kind: u8, line: &[u8], bytes: &[u8], starts: &[u32], got: Numbers, n: usize) -> bool {
+// Whether what a search wrote is the line's result; one that is refused has none.
+fn is_result(kind: Option<Kind>, line: &[u8], got: Numbers, bytes: &[u8], starts: &[u32]) -> bool {
     if got.number != 0 {
         return true;
     }
-    if kind == b'm' {
-        return is_map(bytes, field(line, RESULT), n);
+    match kind {
+        Some(Kind::Regions) => is_map(bytes, field(line, RESULT)),
+        Some(Kind::Requote) => is_output(bytes, field(line, RESULT)),
+        Some(Kind::Split) => are_starts(starts, line),
+        _ => true,
     }
-    if kind == b'q' {
-        return is_output(bytes, field(line, RESULT), got.length);
-    }
-    if kind == b'p' {
-        return are_starts(line, starts, got.length);
-    }
-    true
 }
 
-// How many numbers a search writes.
-fn written_starts(kind: u8, got: Numbers) -> usize {
-    if kind == b'p' { got.length } else { 0 }
-}
-
-// Whether the answer is the line's, and nothing is written behind the result in the m bytes and k numbers that were lent.
+// Whether the answer is the line's, and nothing is written behind the result in what was lent.
 fn is_answer(
-    kind: u8,
+    kind: Option<Kind>,
     line: &[u8],
     got: Numbers,
     bytes: &[u8],
-    m: usize,
     starts: &[u32],
-    k: usize,
+    lent: Counts,
     n: usize,
 ) -> bool {
-    if same_numbers(got, expected(line)) {
-        if is_marked(bytes, written(kind, got, n), m) {
-            if are_marked(starts, written_starts(kind, got), k) {
-                return is_result(kind, line, bytes, starts, got, n);
-            }
-        }
-    }
-    false
+    let told = written(kind, got, n);
+    expected(line) == Some(got)
+        && is_marked(bytes, told.bytes, lent.bytes)
+        && is_marked(starts, told.starts, lent.starts)
+        && is_result(
+            kind,
+            line,
+            got,
+            bytes.get(..told.bytes).unwrap_or(&[]),
+            starts.get(..told.starts).unwrap_or(&[]),
+        )
 }
 
-// The search of a line on buffers of m bytes and k numbers, and whether its answer is the line's, after a place was changed.
-pub fn agrees(kind: u8, line: &[u8], text: &[u8], m: usize, k: usize, fault: Fault) -> bool {
+// The search of a line on buffers of which the front is lent, and whether its answer is the line's, after a place was changed.
+pub fn agrees(
+    kind: Option<Kind>,
+    line: &[u8],
+    text: &[u8],
+    lent: Counts,
+    fault: Option<Fault>,
+) -> bool {
     let mut needle = [0u8; 4096];
-    let w = decode(field(line, 1), &mut needle);
-    let from = number(field(line, 2));
-    let mut bytes = marked_bytes();
-    let mut starts = marked_numbers();
-    let got = ask_lent(
-        kind,
+    let n = decode(field(line, 1), &mut needle);
+    let question = Question {
         text,
-        &mut bytes,
-        m,
-        &mut starts,
-        k,
-        part(&needle, 0, w),
-        from,
-    );
-    inject_byte(&mut bytes, BYTES, fault);
-    inject_number(&mut starts, STARTS, fault);
-    is_answer(kind, line, got, &bytes, m, &starts, k, text.len())
+        needle: &needle[..n],
+        from: count(field(line, 2)),
+    };
+    let mut bytes = marked::<u8, TEXT_BYTES>();
+    let mut starts = marked::<u32, START_NUMBERS>();
+    let got = ask_lent(kind, question, &mut bytes, &mut starts, lent);
+    inject(&mut bytes, BYTES, fault);
+    inject(&mut starts, STARTS, fault);
+    is_answer(kind, line, got, &bytes, &starts, lent, text.len())
 }

@@ -1,11 +1,17 @@
-// The two rewriting calls, with a table of levels or without one, with the first bytes and numbers of the buffers lent, and the
+// The two rewriting calls, with a table of levels or without one, on the front of buffers that hold marks before, and the
 // numbers of their answers.
-use checks::refusal_numbers;
 use preprocessor::{preprocess, preprocess_by_levels, transform_body, transform_body_by_levels};
-use spec::{Refusal, Rewritten};
+use spec::{Accepted, Refusal, RefusalNumbers};
+use stored_list::{START_NUMBERS, TEXT_BYTES, marked};
+
+#[derive(Clone, Copy)]
+pub enum Call {
+    Body,
+    Function,
+}
 
 // Number, place, output length, records.
-#[derive(Clone, Copy)]
+#[derive(Clone, Copy, Default, PartialEq)]
 pub struct CallNumbers {
     pub number: usize,
     pub place: usize,
@@ -13,134 +19,121 @@ pub struct CallNumbers {
     pub records: usize,
 }
 
-// The number of a call that could not be made; no call answers it.
-const NO_CALL: usize = 99;
+// What stands for a call that is lent more than there is; no call answers it.
+const NO_CALL: CallNumbers = CallNumbers {
+    number: 99,
+    place: 0,
+    length: 0,
+    records: 0,
+};
 
-fn four(number: usize, place: usize, length: usize, records: usize) -> CallNumbers {
-    CallNumbers {
-        number,
-        place,
-        length,
-        records,
+impl From<Refusal> for CallNumbers {
+    fn from(refusal: Refusal) -> CallNumbers {
+        let told = RefusalNumbers::from(refusal);
+        CallNumbers {
+            number: told.number as usize,
+            place: told.place,
+            length: told.length,
+            records: 0,
+        }
     }
 }
 
-fn of_refusal(r: Refusal) -> CallNumbers {
-    let n = refusal_numbers(r);
-    four(n.number as usize, n.place, n.length, 0)
-}
-
-fn of_rewritten(r: Rewritten) -> CallNumbers {
-    match r {
-        Rewritten::Accepted { length, records } => four(0, 0, length, records),
-        Rewritten::Refused(r) => of_refusal(r),
+impl From<Result<Accepted, Refusal>> for CallNumbers {
+    fn from(answer: Result<Accepted, Refusal>) -> CallNumbers {
+        match answer {
+            Ok(accepted) => CallNumbers {
+                length: accepted.length,
+                records: accepted.records,
+                ..CallNumbers::default()
+            },
+            Err(refusal) => refusal.into(),
+        }
     }
 }
 
-// The body call on whole buffers, with the table if `by_levels` says so.
-fn body_numbers(
-    text: &[u8],
-    by_levels: bool,
-    table: &[u8],
-    output: &mut [u8],
-    work: &mut [u8],
-    spare: &mut [u8],
-) -> CallNumbers {
-    if by_levels {
-        return of_rewritten(transform_body_by_levels(text, table, output, work, spare));
-    }
-    of_rewritten(transform_body(text, output, work, spare))
+// How many bytes and numbers of the buffers are lent.
+#[derive(Clone, Copy, Default)]
+pub struct Lent {
+    pub output: usize,
+    pub work: usize,
+    pub spare: usize,
+    pub declared: usize,
+    pub records: usize,
 }
 
-// The body call with the first m, k and j bytes of the buffers.
-pub fn call_body(
-    text: &[u8],
-    by_levels: bool,
-    table: &[u8],
-    output: &mut [u8],
-    m: usize,
-    work: &mut [u8],
-    k: usize,
-    spare: &mut [u8],
-    j: usize,
-) -> CallNumbers {
-    if output.len() < m {
-        return four(NO_CALL, 0, 0, 0);
-    }
-    if work.len() < k {
-        return four(NO_CALL, 0, 0, 0);
-    }
-    if spare.len() < j {
-        return four(NO_CALL, 0, 0, 0);
-    }
-    body_numbers(
-        text,
-        by_levels,
-        table,
-        &mut output[..m],
-        &mut work[..k],
-        &mut spare[..j],
-    )
+// The buffers that the body call is lent, and two more for the function call.
+#[derive(Drop)]
+pub struct Buffers {
+    pub output: [u8; TEXT_BYTES],
+    pub work: [u8; TEXT_BYTES],
+    pub spare: [u8; TEXT_BYTES],
+    pub declared: [u8; TEXT_BYTES],
+    pub records: [u32; START_NUMBERS],
 }
 
-// The function call on whole buffers, with the table if `by_levels` says so.
-fn function_numbers(
-    text: &[u8],
-    by_levels: bool,
-    table: &[u8],
-    output: &mut [u8],
-    work: &mut [u8],
-    spare: &mut [u8],
-    declared: &mut [u8],
-    records: &mut [u32],
-) -> CallNumbers {
-    if by_levels {
-        return of_rewritten(preprocess_by_levels(
-            text, table, output, work, spare, declared, records,
-        ));
+impl Buffers {
+    pub fn marked() -> Buffers {
+        Buffers {
+            output: marked(),
+            work: marked(),
+            spare: marked(),
+            declared: marked(),
+            records: marked(),
+        }
     }
-    of_rewritten(preprocess(text, output, work, spare, declared, records))
-}
 
-// The function call with the first m, k, j and d bytes and r numbers of the buffers.
-pub fn call_function(
-    text: &[u8],
-    by_levels: bool,
-    table: &[u8],
-    output: &mut [u8],
-    m: usize,
-    work: &mut [u8],
-    k: usize,
-    spare: &mut [u8],
-    j: usize,
-    declared: &mut [u8],
-    d: usize,
-    records: &mut [u32],
-    r: usize,
-) -> CallNumbers {
-    if output.len() < m {
-        return four(NO_CALL, 0, 0, 0);
+    // The body call; none if more is lent than there is.
+    fn body(
+        &mut self,
+        text: &[u8],
+        table: Option<&[u8]>,
+        lent: Lent,
+    ) -> Option<Result<Accepted, Refusal>> {
+        let output = self.output.get_mut(..lent.output)?;
+        let work = self.work.get_mut(..lent.work)?;
+        let spare = self.spare.get_mut(..lent.spare)?;
+        Some(match table {
+            Some(table) => transform_body_by_levels(text, table, output, work, spare),
+            None => transform_body(text, output, work, spare),
+        })
     }
-    if work.len() < k {
-        return four(NO_CALL, 0, 0, 0);
+
+    // The same for the function call.
+    fn function(
+        &mut self,
+        text: &[u8],
+        table: Option<&[u8]>,
+        lent: Lent,
+    ) -> Option<Result<Accepted, Refusal>> {
+        let output = self.output.get_mut(..lent.output)?;
+        let work = self.work.get_mut(..lent.work)?;
+        let spare = self.spare.get_mut(..lent.spare)?;
+        let declared = self.declared.get_mut(..lent.declared)?;
+        let records = self.records.get_mut(..lent.records)?;
+        Some(match table {
+            Some(table) => {
+                preprocess_by_levels(text, table, output, work, spare, declared, records)
+            }
+            None => preprocess(text, output, work, spare, declared, records),
+        })
     }
-    if spare.len() < j {
-        return four(NO_CALL, 0, 0, 0);
+
+    // The call, with the table if there is one.
+    pub fn make_call(
+        &mut self,
+        call: Call,
+        text: &[u8],
+        table: Option<&[u8]>,
+        lent: Lent,
+    ) -> CallNumbers {
+        let answer = match call {
+            Call::Body => self.body(text, table, lent),
+            Call::Function => self.function(text, table, lent),
+        };
+        match answer {
+            Some(rewritten) => rewritten.into(),
+            None => NO_CALL,
+        }
     }
-    if declared.len() < d {
-        return four(NO_CALL, 0, 0, 0);
-    }
-    if records.len() < r {
-        return four(NO_CALL, 0, 0, 0);
-    }
-    function_numbers(
-        text,
-        by_levels,
-        table,
-        &mut output[..m],
-        &mut work[..k],
-        &mut spare[..j],
-        &mut declared[..d],
-        &mut records[..r],
-    )
 }

@@ -2,250 +2,100 @@
 // table of levels, `e RUNS` the output that the call must leave, `d RUNS` the declaration text and `n NUMBER ..` the record
 // numbers, `l` with five numbers lends buffers of these lengths, `s ROW` names the report's row, and `z BUFFER PLACE` changes a
 // place behind the next call.
-use crate::answer::{Lent, body_agrees, function_agrees};
-use classes::byte_at;
-use std::io::Read;
-use stored_list::{
-    Fault, before_first, fault_of, field, next_line, no_fault, note, number, part, put_numbers,
-    put_runs,
-};
+use crate::answer::{Given, agrees};
+use crate::call::{Call, Lent};
+use crate::rows;
+use stored_list::{Fault, NumberList, Row, Text, count, fault_of, field, note};
 
-// The report's row of the lines that are of no kind.
-const UNKNOWN: usize = 9;
-
-#[derive(Clone, Copy)]
-pub struct State {
-    // How many bytes the text, the table, the expected output and the expected declaration text have.
-    pub text: usize,
-    pub table: usize,
-    pub result: usize,
-    pub declared: usize,
-    // How many record numbers are expected.
-    pub numbers: usize,
-    pub lent: Lent,
+#[derive(Drop)]
+pub struct Replay {
+    text: Text,
+    table: Text,
+    // The output, the declaration text and the record numbers that are expected.
+    output: Text,
+    declared: Text,
+    records: NumberList,
+    lent: Lent,
     // The report's row.
-    pub row: usize,
+    row: usize,
     // What the next call's buffers are changed at.
-    pub fault: Fault,
+    fault: Option<Fault>,
+    tally: [Row; 11],
 }
 
 // The lengths that a line gives. One that is missing is too large to be lent.
 fn lent_of(line: &[u8]) -> Lent {
-    let output = number(field(line, 1));
-    let work = number(field(line, 2));
-    let spare = number(field(line, 3));
-    let declared = number(field(line, 4));
     Lent {
-        output,
-        work,
-        spare,
-        declared,
-        records: number(field(line, 5)),
+        output: count(field(line, 1)),
+        work: count(field(line, 2)),
+        spare: count(field(line, 3)),
+        declared: count(field(line, 4)),
+        records: count(field(line, 5)),
     }
 }
 
-// Before the first line.
-fn first_state() -> State {
-    State {
-        text: 0,
-        table: 0,
-        result: 0,
-        declared: 0,
-        numbers: 0,
-        lent: Lent {
-            output: 0,
-            work: 0,
-            spare: 0,
-            declared: 0,
-            records: 0,
-        },
-        row: UNKNOWN,
-        fault: no_fault(),
-    }
-}
-
-// A text of n bytes; no output and no declarations are expected yet, and no place is changed.
-fn with_text(mut state: State, n: usize) -> State {
-    state.text = n;
-    state.result = 0;
-    state.declared = 0;
-    state.numbers = 0;
-    state.fault = no_fault();
-    state
-}
-
-fn with_table(mut state: State, n: usize) -> State {
-    state.table = n;
-    state
-}
-
-fn with_result(mut state: State, n: usize) -> State {
-    state.result = n;
-    state
-}
-
-fn with_declared(mut state: State, n: usize) -> State {
-    state.declared = n;
-    state
-}
-
-fn with_numbers(mut state: State, n: usize) -> State {
-    state.numbers = n;
-    state
-}
-
-fn with_lent(mut state: State, lent: Lent) -> State {
-    state.lent = lent;
-    state
-}
-
-fn with_row(mut state: State, row: usize) -> State {
-    state.row = row;
-    state
-}
-
-fn with_fault(mut state: State, fault: Fault) -> State {
-    state.fault = fault;
-    state
-}
-
-// Whether a line of this kind makes the body call.
-fn is_body(kind: u8) -> bool {
-    if kind == b'b' {
-        return true;
-    }
-    kind == b'B'
-}
-
-// Whether a line of this kind makes the function call.
-fn is_function(kind: u8) -> bool {
-    if kind == b'f' {
-        return true;
-    }
-    kind == b'F'
-}
-
-// Whether the kind is a capital letter, or stands ahead of them: these calls are made with the table.
-fn is_by_levels(kind: u8) -> bool {
-    kind <= b'Z'
-}
-
-// Makes the call of a line, or counts the line as one of no kind.
-fn compare(
-    kind: u8,
-    line: &[u8],
-    text: &[u8],
-    table: &[u8],
-    res: &[u8],
-    declared: &[u8],
-    numbers: &[u32],
-    state: State,
-    tally: &mut [u32],
-) {
-    let by_levels = is_by_levels(kind);
-    if is_body(kind) {
-        let same = body_agrees(line, text, by_levels, table, res, state.lent, state.fault);
-        note(tally, state.row, same);
-        return;
-    }
-    if is_function(kind) {
-        let same = function_agrees(
-            line,
-            text,
-            by_levels,
-            table,
-            res,
-            declared,
-            numbers,
-            state.numbers,
-            state.lent,
-            state.fault,
-        );
-        note(tally, state.row, same);
-        return;
-    }
-    note(tally, UNKNOWN, false);
-}
-
-// Takes one line.
-fn take_line(
-    line: &[u8],
-    text: &mut [u8],
-    table: &mut [u8],
-    res: &mut [u8],
-    declared: &mut [u8],
-    numbers: &mut [u32],
-    before: State,
-    tally: &mut [u32],
-) -> State {
-    let kind = byte_at(line, 0);
-    if kind == b't' {
-        return with_text(before, put_runs(line, text));
-    }
-    if kind == b'g' {
-        return with_table(before, put_runs(line, table));
-    }
-    if kind == b'e' {
-        return with_result(before, put_runs(line, res));
-    }
-    if kind == b'd' {
-        return with_declared(before, put_runs(line, declared));
-    }
-    if kind == b'n' {
-        return with_numbers(before, put_numbers(line, numbers));
-    }
-    if kind == b'l' {
-        return with_lent(before, lent_of(line));
-    }
-    if kind == b's' {
-        return with_row(before, number(field(line, 1)));
-    }
-    if kind == b'z' {
-        return with_fault(before, fault_of(line));
-    }
-    compare(
-        kind,
-        line,
-        part(text, 0, before.text),
-        part(table, 0, before.table),
-        part(res, 0, before.result),
-        part(declared, 0, before.declared),
-        numbers,
-        before,
-        tally,
-    );
-    with_fault(before, no_fault())
-}
-
-// Takes the whole list from the input. A proved loop has to end, so it counts down from a number that no list uses up.
-pub fn replay(
-    input: &mut impl Read,
-    buffer: &mut [u8],
-    text: &mut [u8],
-    table: &mut [u8],
-    res: &mut [u8],
-    declared: &mut [u8],
-    numbers: &mut [u32],
-    tally: &mut [u32],
-) {
-    let mut state = first_state();
-    let mut line = before_first();
-    let mut turns = u64::MAX;
-    while turns > 0 {
-        line = next_line(input, buffer, line);
-        if line.ended {
-            return;
+impl Replay {
+    pub fn new() -> Replay {
+        Replay {
+            text: Text::new(),
+            table: Text::new(),
+            output: Text::new(),
+            declared: Text::new(),
+            records: NumberList::new(),
+            lent: Lent::default(),
+            row: rows::UNKNOWN,
+            fault: None,
+            tally: [Row::default(); 11],
         }
-        state = take_line(
-            part(buffer, line.start, line.end),
-            text,
-            table,
-            res,
-            declared,
-            numbers,
-            state,
-            tally,
-        );
-        turns -= 1;
+    }
+
+    pub fn tally(&self) -> &[Row] {
+        &self.tally
+    }
+
+    // A new text; no output and no declarations are expected yet, and no place is changed.
+    fn take_text(&mut self, line: &[u8]) {
+        self.text.set_runs(line);
+        self.output.clear();
+        self.declared.clear();
+        self.records.clear();
+        self.fault = None;
+    }
+
+    // Makes the call of a line and counts it.
+    fn compare(&mut self, call: Call, by_levels: bool, line: &[u8]) {
+        let given = Given {
+            text: self.text.as_slice(),
+            table: by_levels.then_some(self.table.as_slice()),
+            output: self.output.as_slice(),
+            declared: self.declared.as_slice(),
+            records: self.records.as_slice(),
+            lent: self.lent,
+        };
+        let same = agrees(call, line, given, self.fault);
+        note(&mut self.tally, self.row, same);
+        self.fault = None;
+    }
+
+    // Takes one line.
+    pub fn take_line(&mut self, line: &[u8]) {
+        match line.first().copied() {
+            Some(b't') => self.take_text(line),
+            Some(b'g') => self.table.set_runs(line),
+            Some(b'e') => self.output.set_runs(line),
+            Some(b'd') => self.declared.set_runs(line),
+            Some(b'n') => self.records.set_numbers(line),
+            Some(b'l') => self.lent = lent_of(line),
+            Some(b's') => self.row = count(field(line, 1)),
+            Some(b'z') => self.fault = fault_of(line),
+            Some(b'b') => self.compare(Call::Body, false, line),
+            Some(b'B') => self.compare(Call::Body, true, line),
+            Some(b'f') => self.compare(Call::Function, false, line),
+            Some(b'F') => self.compare(Call::Function, true, line),
+            _ => {
+                note(&mut self.tally, rows::UNKNOWN, false);
+                self.fault = None;
+            }
+        }
     }
 }

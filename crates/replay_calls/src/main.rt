@@ -6,32 +6,16 @@
 mod answer;
 mod call;
 mod list;
+mod rows;
 
+use crate::list::Replay;
+use crate::rows::NAMES;
 use std::io;
-use stored_list::{marked_bytes, marked_numbers, print_rows};
-
-// The names of the rows. The answers of the last one are stored wrong, so that all of them must differ.
-const NAMES: [u8; 162] =
-    *b"random_bodies body_rows body_limits random_functions function_rows function_limits bodies_by_levels functions_by_levels refused_tables unknown_lines wrong_answers";
+use stored_list::{for_each_line, print_rows};
 
 fn main(rt: HostRuntime) -> io::Result<()> {
     let mut lines = [0u8; 65536];
-    // Longer than a call's longest text and than its longest result, so that both can be too long.
-    let mut text = marked_bytes();
-    let mut table = marked_bytes();
-    let mut result = marked_bytes();
-    let mut declared = marked_bytes();
-    let mut numbers = marked_numbers();
-    let mut tally = [0u32; 22];
-    list::replay(
-        &mut rt.stdin(),
-        &mut lines,
-        &mut text,
-        &mut table,
-        &mut result,
-        &mut declared,
-        &mut numbers,
-        &mut tally,
-    );
-    print_rows(&rt, &NAMES, &tally, 11)
+    let mut replay = Replay::new();
+    for_each_line(&mut rt.stdin(), &mut lines, |line| replay.take_line(line));
+    print_rows(&rt, &NAMES, replay.tally())
 }

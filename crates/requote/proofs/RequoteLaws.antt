@@ -3,15 +3,17 @@
 use mathlib.Core.Path.{◌≡◌, refl, sym, ap}
 use mathlib.Core.Bool.{false}
 use mathlib.Core.List.{List, [], ◌∷◌, ◌++◌, map}
-use Prim.Native.Nat.{ℕ, ◌+◌, ◌-◌, ◌≤◌, ◌<◌, zero-le}
+use Prim.Native.Nat.{ℕ, suc, ◌+◌, ◌-◌, ◌≤◌, ◌<◌, zero-le}
 use native.Mathlib.Omega.{arith}
 use lib.ListN.{length, take, drop, get_or, length-append, length-drop, drop_of_length-le}
 use lib.Seq.{sets, length-take-le}
-use borrow.Author.Tests.{eq-eqb, ne_eqb}
-use Rattle.spec.proofs.AheadLaws.{drop_front, drop_one}
+use Rattle.std.specs.List.{filter}
+use lib.Dec.{eqb}
+use Rattle.spec.proofs.AheadLaws.{drop_front}
 use Rattle.spec.proofs.SpanLaws.{by_kind, lexemes_step}
 use Rattle.spec.specs.Lists.{keep, concat}
-use Rattle.spec.proofs.RequotedLength.{span_length, requoted_exactly}
+use Rattle.spec.proofs.Choice.{by}
+use Rattle.spec.proofs.RequotedLength.{span_length, requoted_exactly, quotes_le}
 use Rattle.spec.specs.Requote.{requote_span, requote_lexeme, requoted, quotes_in, requoted_span_length, requoted_length}
 use Rattle.spec.specs.Spans.{dollar_of, span_of, span_at, span_len, Lexeme, lexeme_at, lexemes_from, lexemes}
 use Rattle.spec.specs.declared.Span.{Span}
@@ -92,19 +94,14 @@ pub requoted_over : (xs : List ℕ) (at : ℕ) → length xs ≤ at → requoted
 unfolding requoted concat lexemes lexemes_from
 requoted_over xs at h = rw (drop_of_length-le xs h)
 
--- the quotes from an offset on, by the byte there
-module _ (xs : List ℕ) (i : ℕ) (h : i < length xs) where
-  pub quote_here : get_or xs i 0 ≡ 39 → quotes_in (drop i xs) ≡ 1 + quotes_in (drop (i + 1) xs)
-  unfolding quotes_in keep
-  quote_here e = rw (drop_one xs i 0 h, eq-eqb (get_or xs i 0) 39 e) (omega arith)
-
-  pub other_here : (get_or xs i 0 ≡ 39 → ⊥) → quotes_in (drop i xs) ≡ quotes_in (drop (i + 1) xs)
-  unfolding quotes_in keep
-  other_here e = rw (drop_one xs i 0 h, ne_eqb (get_or xs i 0) 39 e) refl
-
-pub quotes_over : (xs : List ℕ) (i : ℕ) → length xs ≤ i → quotes_in (drop i xs) ≡ 0
+-- the quotes of a text, in the library's words
+pub quotes_of_library : (xs : List ℕ) → quotes_in xs ≡ length (filter (λ c. eqb c 39) xs)
 unfolding quotes_in keep
-quotes_over xs i h = rw (drop_of_length-le xs h) refl
+quotes_of_library [] = refl
+quotes_of_library (c ∷ cs) = by (eqb c 39) (λ e. simp e (ap suc (quotes_of_library cs))) (λ e. simp e (quotes_of_library cs))
 
 pub length_over : (xs : List ℕ) (at : ℕ) → length xs ≤ at → requoted_length (drop at xs) ≡ 0
 length_over xs at h = omega (arith, requoted_exactly (drop at xs), ap length (requoted_over xs at h))
+
+-- the length of a part of a text, and how many quotes it has at most
+pub ruleset part_laws = (quotes_le, length-take-le, length-drop)

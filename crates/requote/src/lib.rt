@@ -7,7 +7,7 @@ ghost use Rattle.spec.specs.Requote.{single_quoted, requote_span, requoted, quot
 ghost use Rattle.requote.specs.Inside.{inside_end};
 
 use output::{put_all, put_single_quoted};
-use spans::{Cursor, Step, next_span, opens_span, span_len};
+use spans::{Cursor, next_span, opens_span, span_len};
 use spec::Span;
 
 // The k bytes of `span` from a on, in single quotes.
@@ -17,11 +17,11 @@ fn put_inside(out: &mut [u8], n: usize, span: &[u8], a: usize, k: usize) -> usiz
     ensures value { result ≡ n + length (single_quoted (take k (drop a span.now))) }
     ensures out_after { out.new ≡ sets out.old n (single_quoted (take k (drop a span.now))) }
 {
-    let e = a + k;
-    put_single_quoted(out, n, &span[a..e])
+    put_single_quoted(out, n, &span[a..a + k])
 }
 
 // What becomes of the span s with the bytes `span`.
+#[tactic(auto, unfolding(spec::specs::Requote::requote_span))]
 fn put_span(out: &mut [u8], n: usize, span: &[u8], s: Span) -> usize
     requires span_bound { n + 2 * length span.now + 2 < 2 ^ 63 }
     requires s_in_bounds { inside_end s ≤ length span.now }
@@ -29,9 +29,8 @@ fn put_span(out: &mut [u8], n: usize, span: &[u8], s: Span) -> usize
     ensures out_after { out.new ≡ sets out.old n (requote_span s span.now) }
 {
     match s {
-        Span::Verbatim(_) => put_all(out, n, span),
+        Span::Verbatim(_) | Span::Code(_) => put_all(out, n, span),
         Span::Dollar(d) => put_inside(out, n, span, d.inner_start, d.inner_len),
-        Span::Code(_) => put_all(out, n, span),
     }
 }
 
@@ -46,7 +45,7 @@ pub fn requote(text: &[u8], out: &mut [u8]) -> usize
     loop {
         let from = cursor.at;
         let step = cursor.step(text);
-        let Step::Taken(s, next) = step else {
+        let Some((s, next)) = step else {
             return n;
         };
         let to = next.at;
@@ -59,39 +58,29 @@ pub fn requote(text: &[u8], out: &mut [u8]) -> usize
 fn quotes_in(text: &[u8]) -> usize
     ensures { result ≡ quotes_in text.now }
 {
-    let mut n: usize = 0;
-    let mut i: usize = 0;
-    while i < text.len() {
-        if text[i] == b'\'' {
-            n += 1;
-            i += 1;
-        } else {
-            i += 1;
-        }
-    }
-    n
+    text.iter().filter(|b| **b == b'\'').count()
 }
 
 // How many bytes the k bytes of `span` from a on make in single quotes.
+#[tactic(auto, using(crate::proofs::RequoteLaws::part_laws))]
 fn inside_len(span: &[u8], a: usize, k: usize) -> usize
     requires span_len_bound { length span.now ≤ 65536 }
     requires k_in_bounds { a + k ≤ length span.now }
     ensures { result ≡ 2 + k + quotes_in (take k (drop a span.now)) }
 {
-    let e = a + k;
-    2 + k + quotes_in(&span[a..e])
+    2 + k + quotes_in(&span[a..a + k])
 }
 
 // The length of what becomes of the span s with the bytes `span`.
+#[tactic(auto, using(crate::proofs::RequoteLaws::part_laws), unfolding(spec::specs::Requote::requoted_span_length))]
 fn requoted_span_len(span: &[u8], s: Span) -> usize
     requires span_len_bound { length span.now ≤ 65536 }
     requires s_in_bounds { inside_end s ≤ length span.now }
     ensures { result ≡ requoted_span_length s span.now }
 {
     match s {
-        Span::Verbatim(_) => span.len(),
+        Span::Verbatim(_) | Span::Code(_) => span.len(),
         Span::Dollar(d) => inside_len(span, d.inner_start, d.inner_len),
-        Span::Code(_) => span.len(),
     }
 }
 
@@ -101,6 +90,7 @@ pub fn requoted_len(text: &[u8]) -> usize
     ensures { result ≡ requoted_length text.now }
 {
     let mut n: usize = 0;
+    // By an index: a turn takes a byte or a whole span.
     let mut at: usize = 0;
     while at < text.len() {
         // Most bytes open nothing, and such a byte stays as it is.

@@ -11,10 +11,9 @@ const WORDS: usize = 256;
 
 // The error's words, without the number that std puts behind the system's words.
 fn without_number(words: &str) -> &str {
-    match words.rsplit_once(" (os error ") {
-        Some((front, _)) => front,
-        None => words,
-    }
+    words
+        .rsplit_once(" (os error ")
+        .map_or(words, |(front, _)| front)
 }
 
 // Writes a line to standard error: what failed, a colon and why.

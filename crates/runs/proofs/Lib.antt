@@ -1,1 +1,2 @@
+pub mod ListsOfLibrary
 pub mod RunLaws

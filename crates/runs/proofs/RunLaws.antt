@@ -2,16 +2,14 @@
 use mathlib.Core.Path.{◌≡◌, refl, sym, ap, ◌∙◌}
 use mathlib.Core.Bool.{Bool, true, false}
 use mathlib.Core.List.{List, [], ◌∷◌}
-use Prim.Native.Nat.{ℕ, ◌+◌, ◌-◌, ◌≤◌, ◌<◌}
+use Prim.Native.Nat.{ℕ, ◌+◌, ◌≤◌, ◌<◌}
 use native.Mathlib.Omega.{arith}
-use borrow.Author.Tests.{eqb-true, eqb-false, eq-eqb, ne_eqb}
 use lib.Dec.{eqb}
-use lib.ListN.{length, take, drop, get_or, length-drop, drop_of_length-le}
-use lib.Seq.{length-take-le, take-length}
-use Rattle.spec.proofs.AheadLaws.{drop_one}
+use lib.ListN.{length, take, drop, get_or, length-drop}
+use lib.Seq.{take-length}
+use Rattle.classes.proofs.PrefixLaws.{eqb_flip}
 use Rattle.spec.proofs.BytesLaws.{bytes_skip, bytes_end}
-use Rattle.spec.proofs.Choice.{by}
-use Rattle.spec.proofs.EndLaws.{drop_end_take, drop_end_hit, drop_end_miss, drop_end_zero}
+use Rattle.spec.proofs.EndLaws.{drop_end_take}
 use Rattle.spec.proofs.ListLaws.{drop_end_le, drop_while_le}
 use Rattle.spec.proofs.RunPlaces.{end_from, start_from}
 use Rattle.spec.proofs.WalkLaws.{while_drop, while_length, while_length_end, while_length_hit, while_length_miss}
@@ -27,9 +25,6 @@ module _ {A : Type 0} (f : A → Bool) (xs : List A) where
     pub end_past : length xs ≤ i → end_from f xs i ≡ i
     end_past h = omega (arith, while_length_end f xs i h)
 
-    pub end_within : i ≤ length xs → end_from f xs i ≤ length xs
-    end_within h = omega (arith, while_length f (drop i xs), length-drop i xs)
-
     pub end_le : end_from f xs i ≤ i + length xs
     end_le = omega (arith, while_length f (drop i xs), length-drop i xs)
 
@@ -40,47 +35,17 @@ module _ {A : Type 0} (f : A → Bool) (xs : List A) where
       pub end_here : f (get_or xs i d) ≡ false → end_from f xs i ≡ i
       end_here e = omega (arith, while_length_miss f xs i d h e)
 
-  -- ---- where the run before i starts
-  module _ (i : ℕ) where
-    pub start_front : i ≡ 0 → start_from f xs i ≡ 0
-    start_front h = drop_end_zero f xs i h
-
-    module _ (d : A) (p : 0 < i) (h : i ≤ length xs) where
-      pub start_step : f (get_or xs (i - 1) d) ≡ true → start_from f xs i ≡ start_from f xs (i - 1)
-      start_step e = ap length (drop_end_hit f xs i d p h e)
-
-      pub start_here : f (get_or xs (i - 1) d) ≡ false → start_from f xs i ≡ i
-      start_here e = ap length (drop_end_miss f xs i d p h e) ∙ length-take-le i xs h
-
   -- before the end of the list: what is left of it
   pub start_whole : (k : ℕ) → k ≡ start_from f xs (length xs) → (k ≡ length (drop_end f xs)) × (take k xs ≡ drop_end f xs)
   start_whole k e =
       let h : k ≡ length (drop_end f xs) = rw take-length at e in
       (h, ap (λ (n : ℕ). take n xs) h ∙ sym (drop_end_take f xs))
 
-  -- ---- some element from i on passes
-  module _ (i : ℕ) where
-    pub any_past : length xs ≤ i → any f (drop i xs) ≡ false
-    unfolding any
-    any_past h = rw (drop_of_length-le xs h) refl
-
-    module _ (d : A) (h : i < length xs) where
-      pub any_here : f (get_or xs i d) ≡ true → any f (drop i xs) ≡ true
-      unfolding any
-      any_here e = rw (drop_one xs i d h, e) refl
-
-      pub any_step : f (get_or xs i d) ≡ false → any f (drop i xs) ≡ any f (drop (i + 1) xs)
-      unfolding any
-      any_step e = rw (drop_one xs i d h, e) refl
-
 -- this byte somewhere
 pub any_byte : (c : ℕ) (xs : List ℕ) → any (λ b. eqb b c) xs ≡ any (eqb c) xs
 unfolding any
 any_byte c [] = refl
-any_byte c (b ∷ xs) =
-    by (eqb b c)
-    (λ e. rw (e, eq-eqb c b (sym (eqb-true b c e))) refl)
-    (λ e. rw (e, ne_eqb c b (λ q. eqb-false b c e (sym q))) (any_byte c xs))
+any_byte c (b ∷ xs) = rw (eqb_flip b c, any_byte c xs) refl
 
 -- ---- without W at both ends
 

@@ -27,6 +27,7 @@ pub enum Set {
 }
 
 // Whether b is in the set.
+#[tactic(auto, unfolding(spec::specs::Bytes::is_high))]
 fn is_in(set: Set, b: u8) -> bool
     ensures { result ≡ in_set set b }
 {
@@ -35,10 +36,10 @@ fn is_in(set: Set, b: u8) -> bool
         Set::N => is_n(b),
         Set::Ident => is_ident_byte(b),
         Set::NotW => !is_w(b),
-        Set::NotWNor(c) => { if is_w(b) { false } else { b != c } }
+        Set::NotWNor(c) => !is_w(b) && b != c,
         Set::Only(c) => b == c,
         Set::Except(c) => b != c,
-        Set::Ascii => b <= 127,
+        Set::Ascii => b.is_ascii(),
     }
 }
 
@@ -47,15 +48,10 @@ pub fn run_end(text: &[u8], set: Set, from: usize) -> usize
     ensures value { result ≡ from + length (take_while (in_set set) (drop from text.now)) }
     ensures upper_bound { from ≤ length text.now → result ≤ length text.now }
 {
-    let mut i = from;
-    while i < text.len() {
-        if is_in(set, text[i]) {
-            i += 1;
-        } else {
-            return i;
-        }
+    match text.get(from..) {
+        Some(rest) => from + rest.iter().take_while(|b| is_in(set, **b)).count(),
+        None => from,
     }
-    i
 }
 
 // Where the bytes of the set that end at `end` start.
@@ -64,29 +60,18 @@ pub fn run_start(text: &[u8], set: Set, end: usize) -> usize
     ensures value { result ≡ length (drop_end (in_set set) (take end text.now)) }
     ensures upper_bound { result ≤ end }
 {
-    let mut i = end;
-    while 0 < i {
-        if is_in(set, text[i - 1]) {
-            i -= 1;
-        } else {
-            return i;
-        }
-    }
-    i
+    end - text[..end]
+        .iter()
+        .rev()
+        .take_while(|b| is_in(set, **b))
+        .count()
 }
 
 // Whether a byte of the set stands in the text.
 pub fn has(text: &[u8], set: Set) -> bool
     ensures { result ≡ any (in_set set) text.now }
 {
-    let mut i: usize = 0;
-    while i < text.len() {
-        if is_in(set, text[i]) {
-            return true;
-        }
-        i += 1;
-    }
-    false
+    text.iter().any(|b| is_in(set, *b))
 }
 
 // The text without W at both ends.

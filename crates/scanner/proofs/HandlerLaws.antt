@@ -1,4 +1,5 @@
 -- The search for a handler goes from keyword to keyword. Assumes nothing.
+use Rattle.std.specs.Prelude.{Some, None}
 use mathlib.Core.Path.{◌≡◌, refl, sym, ap, ◌∙◌}
 use mathlib.Core.Bool.{Bool, true, false, ◌&&◌}
 use mathlib.Core.List.{List}
@@ -8,19 +9,18 @@ use lib.Seq.{drop-drop}
 use Rattle.spec.specs.Bytes.{ascii}
 use Rattle.spec.specs.Map.{Marked}
 use Rattle.spec.specs.Search.{Test, first, keyword_here, next_word, is_word_text, handler_here}
-use Rattle.spec.specs.declared.Found.TheVariants.{At, Nothing}
 use Rattle.spec.proofs.Choice.{by}
 use Rattle.spec.proofs.FirstLaws.{apart, first_least, first_none, none_first}
 use Rattle.spec.proofs.WalkLaws.{climb, passes_at, first_end, first_hit, first_miss}
 
 -- where q passes only if p does, the search for q may go on from the first place that passes p
 module _ (p q : Test) (t : List Marked) (only : (k : ℕ) → passes_at p t k ≡ false → passes_at q t k ≡ false) where
-  pub none_too : (i : ℕ) → first p i t ≡ Nothing → first q i t ≡ Nothing
+  pub none_too : (i : ℕ) → first p i t ≡ None → first q i t ≡ None
   none_too i e = none_first q t i (λ k a b. only k (first_none p t i e k a b))
 
-  pub first_from_lem : (i j : ℕ) → first p i t ≡ At j → first q i t ≡ first q j t
+  pub first_from_lem : (i j : ℕ) → first p i t ≡ Some j → first q i t ≡ first q j t
   first_from_lem i j =
-      climb (λ (k : ℕ). first p k t ≡ At j → first q k t ≡ first q j t) (length t)
+      climb (λ (k : ℕ). first p k t ≡ Some j → first q k t ≡ first q j t) (length t)
       (λ k h e. apart (first p k t) j e (first_end p t k h))
       (λ k h more e.
       by (passes_at p t k)
@@ -40,18 +40,18 @@ module _ (t : List Marked) where
   handler_only k e = handler_at k ∙ simp e
 
   -- no keyword, no handler
-  pub handler_none : (i : ℕ) → first keyword i t ≡ Nothing → first handler_here i t ≡ Nothing
+  pub handler_none : (i : ℕ) → first keyword i t ≡ None → first handler_here i t ≡ None
   handler_none i e = none_too keyword handler_here t handler_only i e
 
   -- the first keyword from i on stands at j
-  module _ (i j : ℕ) (e : first keyword i t ≡ At j) where
+  module _ (i j : ℕ) (e : first keyword i t ≡ Some j) where
     pub keyword_within : (i ≤ j) × (j < length t)
     keyword_within = let r = first_least keyword t i j e in (r.from, r.inside)
 
     here : (b : Bool) → is_word_text (ascii "WHEN") (next_word (drop (j + 9) t)) ≡ b → passes_at handler_here t j ≡ b
     here b q = handler_at j ∙ simp ((first_least keyword t i j e).passes, q)
 
-    pub handler_hit : is_word_text (ascii "WHEN") (next_word (drop (j + 9) t)) ≡ true → first handler_here i t ≡ At j
+    pub handler_hit : is_word_text (ascii "WHEN") (next_word (drop (j + 9) t)) ≡ true → first handler_here i t ≡ Some j
     handler_hit q =
         first_from_lem keyword handler_here t handler_only i j e ∙ first_hit handler_here t j keyword_within.1 (here true q)
 

@@ -1,4 +1,5 @@
 -- A keyword at an offset of a text and its map. Assumes nothing.
+use Rattle.std.specs.Prelude.{Some, None}
 use mathlib.Core.Path.{◌≡◌, refl, ap, ◌∙◌}
 use mathlib.Core.Bool.{Bool, true, false, cond, not, ◌&&◌, and-false}
 use mathlib.Core.List.{List, reverse}
@@ -16,7 +17,6 @@ use Rattle.spec.proofs.FirstLaws.{none_first}
 use Rattle.spec.specs.Bytes.{is_word, upper, prefix_by}
 use Rattle.spec.specs.Map.{marked, front_byte}
 use Rattle.spec.specs.Search.{first, word_here, keyword_here}
-use Rattle.spec.specs.declared.Found.TheVariants.{At, Nothing}
 use Rattle.scanner.specs.Edges.{edges}
 
 -- one byte more of a word compared with the text at offset i
@@ -63,11 +63,11 @@ module _ (xs ms w : List ℕ) where
   pub key_off : (i : ℕ) → i < length xs → prefix_by upper w (drop i xs) ≡ false → first (keyword_here w) i (marked xs ms) ≡ first (keyword_here w) (i + 1) (marked xs ms)
   key_off i h e = first_miss (keyword_here w) (marked xs ms) i (rw marked_length h) (key_here i h ∙ (ap (λ (b : Bool). edges xs ms (length w) i && b) e ∙ and-false (edges xs ms (length w) i)))
 
-  pub key_hit : (i : ℕ) → i < length xs → edges xs ms (length w) i ≡ true → prefix_by upper w (drop i xs) ≡ true → first (keyword_here w) i (marked xs ms) ≡ At i
+  pub key_hit : (i : ℕ) → i < length xs → edges xs ms (length w) i ≡ true → prefix_by upper w (drop i xs) ≡ true → first (keyword_here w) i (marked xs ms) ≡ Some i
   key_hit i h e m = first_hit (keyword_here w) (marked xs ms) i (rw marked_length h) (key_here i h ∙ simp (e, m))
 
   -- no room is left for the word
-  pub key_end : (i : ℕ) → length xs < i + length w → first (keyword_here w) i (marked xs ms) ≡ Nothing
+  pub key_end : (i : ℕ) → length xs < i + length w → first (keyword_here w) i (marked xs ms) ≡ None
   key_end i h =
       none_first (keyword_here w) (marked xs ms) i
       (λ k a b. let c : k < length xs = rw marked_length at b in key_here k c ∙ none k c (omega arith))

@@ -1,20 +1,19 @@
 // The scanner: the map of a text, and searches on a text whose map is already made.
 #![tactic(auto)]
 
-ghost use Rattle.std.specs.Prelude.{◌≡◌, false, cond, reverse, ◌+◌, ◌-◌, ◌≤◌, ◌<◌, eqb, length, get_or, take, drop, replicate};
+ghost use Rattle.std.specs.Prelude.{◌≡◌, false, cond, reverse, ◌+◌, ◌-◌, ◌≤◌, ◌<◌, eqb, length, get_or, take, drop, replicate, None};
 ghost use Rattle.std.proofs.lemmas.List.Edits.{sets};
 ghost use Rattle.spec.specs.Bytes.{ascii, is_word, upper, prefix_by};
 ghost use Rattle.spec.specs.Lists.{is_empty, take_while};
 ghost use Rattle.spec.specs.Map.{map_of, mark, marked, is_live_byte, span_flag};
 ghost use Rattle.spec.specs.Search.{first, keyword_here, byte_here, needle_here, is_skipped, is_word_mark, next_word, is_word_text, pieces, starts_from, is_unclosed, has_unterminated_dollar_quote, is_found, handler_here};
 ghost use Rattle.spec.specs.Answers.{kept_behind};
-ghost use Rattle.spec.specs.declared.Found.TheVariants.{Nothing};
 ghost use Rattle.scanner.specs.Edges.{edges};
 
 use classes::{byte_at, is_n, is_word_byte, starts_with, upper_of};
 use output::fill;
-use spans::{Cursor, Step};
-use spec::{Found, Span};
+use spans::Cursor;
+use spec::Span;
 
 // The map byte of a span: 0 for live text, 1 for the others.
 fn span_flag(s: Span) -> u8
@@ -49,7 +48,7 @@ pub fn map_text(text: &[u8], map: &mut [u8])
     loop {
         let from = cursor.at;
         let step = cursor.step(text);
-        let Step::Taken(s, next) = step else {
+        let Some((s, next)) = step else {
             return;
         };
         mark_span(map, from, next.at, span_flag(s));
@@ -99,22 +98,22 @@ pub fn keyword_at(text: &[u8], map: &[u8], word: &[u8], i: usize) -> bool
 }
 
 // The least place at or after `from` where `word` stands live, as a whole word, in any letter case.
-pub fn find_keyword_in(text: &[u8], map: &[u8], word: &[u8], from: usize) -> Found
-    ensures { result ≡ cond (is_empty word.now) Nothing (first (keyword_here word.now) from (marked text.now map.now)) }
+pub fn find_keyword_in(text: &[u8], map: &[u8], word: &[u8], from: usize) -> Option<usize>
+    ensures { result ≡ cond (is_empty word.now) None (first (keyword_here word.now) from (marked text.now map.now)) }
 {
     let n = word.len();
     if n == 0 {
-        return Found::Nothing;
+        return None;
     }
     if text.len() < n {
-        return Found::Nothing;
+        return None;
     }
     let last = text.len() - n;
     let initial = upper_of(word[0]);
     let mut i = from;
     let place = 'offsets: loop {
         if last < i {
-            return Found::Nothing;
+            return None;
         }
         let at = i;
         i += 1;
@@ -134,18 +133,18 @@ pub fn find_keyword_in(text: &[u8], map: &[u8], word: &[u8], from: usize) -> Fou
             break at;
         }
     };
-    Found::At(place)
+    Some(place)
 }
 
 // The least place at or after `from` of the live byte b.
-pub fn find_byte_in(text: &[u8], map: &[u8], b: u8, from: usize) -> Found
+pub fn find_byte_in(text: &[u8], map: &[u8], b: u8, from: usize) -> Option<usize>
     ensures { result ≡ first (byte_here b) from (marked text.now map.now) }
 {
     let mut i = from;
     while i < text.len() {
         if text[i] == b {
             if byte_at(map, i) == 0 {
-                return Found::At(i);
+                return Some(i);
             } else {
                 i += 1;
             }
@@ -153,21 +152,21 @@ pub fn find_byte_in(text: &[u8], map: &[u8], b: u8, from: usize) -> Found
             i += 1;
         }
     }
-    Found::Nothing
+    None
 }
 
 // The least place at or after `from` where `needle` stands, its first byte live.
-pub fn find_str_in(text: &[u8], map: &[u8], needle: &[u8], from: usize) -> Found
-    ensures { result ≡ cond (is_empty needle.now) Nothing (first (needle_here needle.now) from (marked text.now map.now)) }
+pub fn find_str_in(text: &[u8], map: &[u8], needle: &[u8], from: usize) -> Option<usize>
+    ensures { result ≡ cond (is_empty needle.now) None (first (needle_here needle.now) from (marked text.now map.now)) }
 {
     if needle.len() == 0 {
-        return Found::Nothing;
+        return None;
     }
     let mut i = from;
     while i < text.len() {
         if byte_at(map, i) == 0 {
             if starts_with(&text[i..], needle) {
-                return Found::At(i);
+                return Some(i);
             } else {
                 i += 1;
             }
@@ -175,7 +174,7 @@ pub fn find_str_in(text: &[u8], map: &[u8], needle: &[u8], from: usize) -> Found
             i += 1;
         }
     }
-    Found::Nothing
+    None
 }
 
 // Whether a byte b with the map byte m is skipped ahead of a word: N and quoted bytes are.
@@ -290,7 +289,7 @@ pub fn has_handler_in(text: &[u8], map: &[u8]) -> bool
     let mut from: usize = 0;
     loop {
         let found = find_keyword_in(text, map, b"EXCEPTION", from);
-        let Found::At(at) = found else {
+        let Some(at) = found else {
             return false;
         };
         if next_is_when(text, map, at + 9) {
@@ -307,7 +306,7 @@ pub fn has_unterminated(text: &[u8]) -> bool
     let mut cursor = Cursor { at: 0 };
     loop {
         let step = cursor.step(text);
-        let Step::Taken(s, next) = step else {
+        let Some((s, next)) = step else {
             return false;
         };
         if is_unclosed(s) {

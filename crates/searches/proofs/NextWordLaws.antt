@@ -1,4 +1,5 @@
 -- The next word by its two ends, as the search reads them. Assumes nothing.
+use Rattle.std.specs.Prelude.{Some, None}
 use mathlib.Core.Path.{◌≡◌, sym, ap, ◌∙◌}
 use mathlib.Core.List.{List, []}
 use Prim.Native.Nat.{ℕ, ◌+◌, ◌-◌, ◌≤◌, ◌<◌}
@@ -8,7 +9,6 @@ use Rattle.spec.specs.Lists.{take_while}
 use Rattle.spec.specs.Map.{Marked, marked, marked_text}
 use Rattle.spec.specs.Search.{is_skipped, is_word_mark, word_place, word_text}
 use Rattle.spec.proofs.NextWord.{word_nowhere, word_start, word_length, word_place_lem, word_part_lem, word_empty}
-use Rattle.spec.specs.declared.Found.TheVariants.{At, Nothing}
 
 module _ (xs ms : List ℕ) (from s e : ℕ) (hm : marked xs ms ≡ marked_text xs)
     (hs : s ≡ from + length (take_while is_skipped (drop from (marked xs ms))))
@@ -23,15 +23,15 @@ module _ (xs ms : List ℕ) (from s e : ℕ) (hm : marked xs ms ≡ marked_text 
       ∙ (ap (λ (n : ℕ). s + length (take_while is_word_mark (drop n (marked_text xs)))) starts_at
       ∙ ap (λ (n : ℕ). s + n) (sym (word_length xs from))))
 
-  pub found_place : s < e → word_place xs from ≡ At s
-  found_place h = word_place_lem xs from (omega (arith, ends_at)) ∙ ap At (sym starts_at)
+  pub found_place : s < e → word_place xs from ≡ Some s
+  found_place h = word_place_lem xs from (omega (arith, ends_at)) ∙ ap Some (sym starts_at)
 
   pub found_text : s < e → take (e - s) (drop s xs) ≡ word_text xs from
   found_text h =
       let k : length (word_text xs from) ≡ e - s = omega (arith, ends_at) in
       sym (word_part_lem xs from s (found_place h) ∙ ap (λ (n : ℕ). take n (drop s xs)) k)
 
-  pub none_place : e ≤ s → word_place xs from ≡ Nothing
+  pub none_place : e ≤ s → word_place xs from ≡ None
   none_place h = word_nowhere xs from (omega (arith, ends_at))
 
   pub none_text : e ≤ s → word_text xs from ≡ []

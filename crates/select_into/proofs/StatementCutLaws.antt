@@ -1,4 +1,5 @@
 -- A statement that is cut by its keywords, as bytes. Assumes nothing.
+use Rattle.std.specs.Prelude.{Option, Some, None}
 use mathlib.Core.Path.{◌≡◌, refl, sym, ap, ◌∙◌}
 use mathlib.Core.Bool.{true, false}
 use mathlib.Core.List.{List, ◌++◌, reverse}
@@ -20,8 +21,6 @@ use Rattle.spec.specs.Map.{Marked, marked, bytes, of_byte, front_byte}
 use Rattle.spec.specs.Search.{Test, first, word_here}
 use Rattle.spec.specs.Parts.{trim_end, part}
 use Rattle.spec.specs.SelectInto.{depth_of, top_word_here, listed, pair_up, place_or, from_part, front_place, indentation, set_line, set_lines, select_cut}
-use Rattle.spec.specs.declared.Found.{Found}
-use Rattle.spec.specs.declared.Found.TheVariants.{At, Nothing}
 use Rattle.set_lines.specs.Lines.{Shared, lines_text}
 use Rattle.select_into.specs.Pairs.{shared_by, shared_of, from_text, pairs_text}
 use Rattle.select_into.proofs.FromEndLaws.{listed_trimmed}
@@ -30,7 +29,7 @@ use Rattle.select_into.proofs.SetTextLaws.{lines_bytes, indentation_bytes}
 -- ---- where a keyword stands
 
 -- all of it stands within the text
-pub word_within : (w xs ms : List ℕ) (i j : ℕ) → first (top_word_here w) i (marked xs ms) ≡ At j → j + length w ≤ length xs
+pub word_within : (w xs ms : List ℕ) (i j : ℕ) → first (top_word_here w) i (marked xs ms) ≡ Some j → j + length w ≤ length xs
 unfolding top_word_here
 word_within w xs ms i j e =
     let t = marked xs ms in
@@ -40,13 +39,13 @@ word_within w xs ms i j e =
     let m = starts_length w (drop j t) (word_in is_ident w p (drop j t) h) in
     omega (arith, length-drop j t, r.inside, marked_length xs ms)
 
-pub place_bound : (f : Found) (n m : ℕ) → place_or f 0 ≤ m → n ≤ m → place_or f n ≤ m
-place_bound (At i) n m h k = h
-place_bound Nothing n m h k = k
+pub place_bound : (f : Option ℕ) (n m : ℕ) → place_or f 0 ≤ m → n ≤ m → place_or f n ≤ m
+place_bound (Some i) n m h k = h
+place_bound None n m h k = k
 
-pub found_bound : (p : Test) (xs ms : List ℕ) (i : ℕ) (f : Found) → f ≡ first p i (marked xs ms) → place_or f 0 ≤ length xs
-found_bound p xs ms i (At j) e = omega (arith, first_within p (marked xs ms) i j (sym e), marked_length xs ms)
-found_bound p xs ms i Nothing e = zero-le
+pub found_bound : (p : Test) (xs ms : List ℕ) (i : ℕ) (f : Option ℕ) → f ≡ first p i (marked xs ms) → place_or f 0 ≤ length xs
+found_bound p xs ms i (Some j) e = omega (arith, first_within p (marked xs ms) i j (sym e), marked_length xs ms)
+found_bound p xs ms i None e = zero-le
 
 -- ---- the parts of a statement
 
@@ -61,24 +60,24 @@ module _ (xs ms : List ℕ) where
   part_mapped a c h k m =
       omega (arith, length-take-le (c - a) (drop a xs) (omega (arith, length-drop a xs)), length-take-le (c - a) (drop a ms) (omega (arith, length-drop a ms)))
 
-  from_bytes : (f : Found) → bytes (from_part f (marked xs ms)) ≡ from_text (drop (place_or f (length xs)) xs)
+  from_bytes : (f : Option ℕ) → bytes (from_part f (marked xs ms)) ≡ from_text (drop (place_or f (length xs)) xs)
   unfolding from_part from_text trim_end bytes drop_end
-  from_bytes (At i) =
+  from_bytes (Some i) =
       bytes_end (λ c. eqb c 59) (drop_end (of_byte is_w) (drop i (marked xs ms)))
       ∙ ap (drop_end (λ c. eqb c 59)) (bytes_end is_w (drop i (marked xs ms)) ∙ ap (drop_end is_w) (bytes_drop xs ms i))
-  from_bytes Nothing = rw (drop-length xs) refl
+  from_bytes None = rw (drop-length xs) refl
 
   front_bytes : (n : ℕ) → bytes (take n (marked xs ms)) ≡ take n xs
   front_bytes n = bytes_part 0 n xs ms
 
-  shared_bytes : (front s : ℕ) (f : Found)
+  shared_bytes : (front s : ℕ) (f : Option ℕ)
       → shared_by (bytes (part front s (marked xs ms))) (bytes (from_part f (marked xs ms))) (bytes (indentation (take front (marked xs ms))))
       ≡ shared_of xs front s (place_or f (length xs))
   unfolding shared_of
   shared_bytes front s f =
       rw (bytes_part front (s - front) xs ms, from_bytes f, indentation_bytes (take front (marked xs ms)), front_bytes front) refl
 
-  module _ (s i : ℕ) (f : Found) where
+  module _ (s i : ℕ) (f : Option ℕ) where
     abbrev cols : List (List Marked)
     cols = listed (part (s + 6) i (marked xs ms))
 

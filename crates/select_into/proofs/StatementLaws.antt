@@ -1,4 +1,5 @@
 -- The statements of a text one after the other. Assumes nothing.
+use Rattle.std.specs.Prelude.{Some, None}
 use mathlib.Core.Path.{◌≡◌, refl, sym, ap, ◌∙◌}
 use mathlib.Core.Bool.{true}
 use mathlib.Core.List.{List, [], ◌∷◌, ◌++◌, reverse}
@@ -16,7 +17,6 @@ use Rattle.spec.proofs.PartLaws.{marked_part}
 use Rattle.spec.specs.Map.{Marked, live, marked, bytes}
 use Rattle.spec.specs.Search.{first, byte_here, pieces}
 use Rattle.spec.specs.SelectInto.{select_statement, join_selects, select_into}
-use Rattle.spec.specs.declared.Found.TheVariants.{At, Nothing}
 
 front_live_lem : (b : ℕ) (back u v : List Marked) (x : Marked) → u ≡ x ∷ v → byte_here b back u ≡ true → x ≡ live b
 unfolding byte_here
@@ -40,7 +40,7 @@ module _ (xs ms : List ℕ) where
   unfolding select_into pieces
   selects_all = refl
 
-  module _ (i j : ℕ) (e : first (byte_here 59) i (marked xs ms) ≡ At j) where
+  module _ (i j : ℕ) (e : first (byte_here 59) i (marked xs ms) ≡ Some j) where
     pub statement_within : (i ≤ j) × (j < length xs)
     statement_within =
         let r = first_least (byte_here 59) (marked xs ms) i j e in
@@ -70,7 +70,7 @@ module _ (xs ms : List ℕ) where
         ∙ ap (λ (u : List Marked). bytes (select_statement u) ++ selects_at (j + 1)) (statement_part ∙ sym (marked_part i (j + 1 - i) xs ms))))
 
   -- what is behind the last `;` is copied
-  pub selects_last : (i : ℕ) → first (byte_here 59) i (marked xs ms) ≡ Nothing → selects_at i ≡ drop i xs
+  pub selects_last : (i : ℕ) → first (byte_here 59) i (marked xs ms) ≡ None → selects_at i ≡ drop i xs
   selects_last i e =
       ap (λ (ps : List (List Marked)). bytes (join_selects ps)) (pieces_last (byte_here 59) (marked xs ms) i e)
       ∙ (ap bytes (join_last (drop i (marked xs ms))) ∙ bytes_drop xs ms i)

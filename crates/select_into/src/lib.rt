@@ -2,10 +2,9 @@
 // stops once it is past 65536 bytes.
 #![tactic(auto)]
 
-ghost use Rattle.std.specs.Prelude.{◌≡◌, cond, ◌+◌, ◌-◌, ◌^◌, ◌≤◌, ◌<◌, ltb, length};
+ghost use Rattle.std.specs.Prelude.{◌≡◌, cond, ◌+◌, ◌-◌, ◌^◌, ◌≤◌, ◌<◌, ltb, length, Some};
 ghost use Rattle.std.proofs.lemmas.List.Edits.{sets};
 ghost use Rattle.spec.specs.Map.{marked, bytes};
-ghost use Rattle.spec.specs.declared.Found.TheVariants.{At};
 ghost use Rattle.spec.specs.SelectInto.{listed, place_or, front_place, select_cut, into_at, select_at, select_statement, select_into};
 ghost use Rattle.set_lines.specs.Writes.{counted, Puts};
 ghost use Rattle.select_into.specs.Pairs.{from_text, pairs_text};
@@ -15,7 +14,6 @@ use quotes::{find_top_keyword, limit_after};
 use runs::{Set, run_start};
 use scanner::find_byte_in;
 use set_lines::{pairs_up, put_set_lines};
-use spec::Found;
 
 // All of src, counted no further than to 65537.
 fn put_text(out: &mut [u8], n: usize, src: &[u8]) -> usize
@@ -69,23 +67,23 @@ fn put_pairs(
 }
 
 // The place found, or n.
-fn place_or(found: Found, n: usize) -> usize
+fn place_or(found: Option<usize>, n: usize) -> usize
     ensures { result ≡ place_or found n }
 {
     match found {
-        Found::At(i) => i,
-        Found::Nothing => n,
+        Some(i) => i,
+        None => n,
     }
 }
 
 // The WITH that was found if it stands before SELECT, else SELECT.
-fn front_place(found: Found, s: usize) -> usize
+fn front_place(found: Option<usize>, s: usize) -> usize
     ensures value { result ≡ front_place found s }
     ensures upper_bound { result ≤ s }
 {
     match found {
-        Found::At(w) => lesser(w, s),
-        Found::Nothing => s,
+        Some(w) => lesser(w, s),
+        None => s,
     }
 }
 
@@ -112,7 +110,7 @@ fn put_cut(
     map: &[u8],
     s: usize,
     i: usize,
-    from: Found,
+    from: Option<usize>,
 ) -> usize
     requires text_bound { n + length text.now < 2 ^ 32 }
     requires text_in_bounds { length text.now ≤ length map.now }
@@ -144,7 +142,7 @@ fn put_into(out: &mut [u8], n: usize, text: &[u8], map: &[u8], s: usize, i: usiz
     requires text_in_bounds { length text.now ≤ length map.now }
     requires s_in_bounds { s + 6 ≤ length text.now }
     requires i_in_bounds { i + 4 ≤ length text.now }
-    ensures { Puts out.old n (bytes (into_at s (At i) (marked text.now map.now))) out.new result }
+    ensures { Puts out.old n (bytes (into_at s (Some i) (marked text.now map.now))) out.new result }
 {
     let from = find_top_keyword(text, map, b"FROM", i);
     put_cut(out, n, text, map, s, i, from)
@@ -155,12 +153,12 @@ fn put_select(out: &mut [u8], n: usize, text: &[u8], map: &[u8], s: usize) -> us
     requires text_bound { n + length text.now < 2 ^ 32 }
     requires text_in_bounds { length text.now ≤ length map.now }
     requires s_in_bounds { s + 6 ≤ length text.now }
-    ensures { Puts out.old n (bytes (select_at (At s) (marked text.now map.now))) out.new result }
+    ensures { Puts out.old n (bytes (select_at (Some s) (marked text.now map.now))) out.new result }
 {
     let found = find_top_keyword(text, map, b"INTO", s);
     match found {
-        Found::At(i) => put_into(out, n, text, map, s, i),
-        Found::Nothing => put_text(out, n, text),
+        Some(i) => put_into(out, n, text, map, s, i),
+        None => put_text(out, n, text),
     }
 }
 
@@ -172,8 +170,8 @@ fn put_statement(out: &mut [u8], n: usize, text: &[u8], map: &[u8]) -> usize
 {
     let found = find_top_keyword(text, map, b"SELECT", 0);
     match found {
-        Found::At(s) => put_select(out, n, text, map, s),
-        Found::Nothing => put_text(out, n, text),
+        Some(s) => put_select(out, n, text, map, s),
+        None => put_text(out, n, text),
     }
 }
 
@@ -192,7 +190,7 @@ pub fn transform_select_into(text: &[u8], map: &[u8], out: &mut [u8]) -> usize
             return TOO_LONG;
         }
         let found = find_byte_in(text, map, b';', from);
-        let Found::At(at) = found else {
+        let Some(at) = found else {
             return put_text(out, n, &text[from..]);
         };
         let end = at + 1;

@@ -14,15 +14,15 @@ use Rattle.spec.specs.Map.{Marked, byte, marked, bytes, of_byte}
 use Rattle.spec.specs.SelectInto.{listed, pair_up}
 use Rattle.quotes.specs.Items.{Listed, FirstItem}
 use Rattle.quotes.specs.declared.Item.{Item}
-use Rattle.quotes.specs.declared.Item.TheVariants.{Next, Over}
+use Rattle.std.specs.Prelude.{Option, Some, None, is_some}
 
 -- ---- what `next_item` gave
 
-module _ (t : List Marked) (i : ℕ) (r : Item) (f : FirstItem t i r) where
-  pub item_part : (a k n : ℕ) → r ≡ Next a k n → Listed t i a k n
-  item_part a k n e = rw e at f
+module _ (t : List Marked) (i : ℕ) (r : Option Item) (f : FirstItem t i r) where
+  pub item_part : (p : Item) → r ≡ Some p → Listed t i p.start p.len p.next
+  item_part p e = rw e at f
 
-  pub item_over : r ≡ Over → listed (drop i t) ≡ []
+  pub item_over : r ≡ None → listed (drop i t) ≡ []
   item_over e = rw e at f
 
 module _ (t : List Marked) (i a k n : ℕ) (h : Listed t i a k n) where
@@ -36,6 +36,11 @@ module _ (t : List Marked) (i a k n : ℕ) (h : Listed t i a k n) where
 pub no_parts : (l : List (List Marked)) → l ≡ [] → not (is_empty l) ≡ false
 unfolding is_empty
 no_parts l e = rw e refl
+
+-- whether there is a part
+pub has_part : (t : List Marked) (i : ℕ) (r : Option Item) → FirstItem t i r → is_some r ≡ not (is_empty (listed (drop i t)))
+has_part t i (Some p) f = sym (more_parts t i p.start p.len p.next f)
+has_part t i None f = sym (no_parts _ f)
 
 -- ---- some element passes
 

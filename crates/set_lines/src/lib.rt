@@ -11,7 +11,7 @@ ghost use Rattle.set_lines.specs.Lines.{spaced, query_text, limit_text, line_tex
 ghost use Rattle.set_lines.specs.Writes.{Stored, Puts};
 
 use output::{BUFFER_SIZE, TOO_LONG, put, put_all};
-use quotes::{Item, limit_after, next_item};
+use quotes::{limit_after, next_item};
 use runs::{Set, has};
 
 // A space and the FROM part, if it has one.
@@ -98,11 +98,7 @@ fn has_item(text: &[u8], map: &[u8], from: usize) -> bool
     requires { length text.now ≤ length map.now }
     ensures { result ≡ not (is_empty (listed (drop from (marked text.now map.now)))) }
 {
-    let item = next_item(text, map, from);
-    match item {
-        Item::Next(_, _, _) => true,
-        Item::Over => false,
-    }
+    next_item(text, map, from).is_some()
 }
 
 // How many parts the list has.
@@ -114,11 +110,11 @@ fn list_len(text: &[u8], map: &[u8]) -> usize
     let mut from: usize = 0;
     loop {
         let item = next_item(text, map, from);
-        let Item::Next(_, _, next) = item else {
+        let Some(item) = item else {
             return n;
         };
         n += 1;
-        from = next;
+        from = item.next;
     }
 }
 
@@ -130,14 +126,15 @@ fn has_w_inside(text: &[u8], map: &[u8]) -> bool
     let mut from: usize = 0;
     loop {
         let item = next_item(text, map, from);
-        let Item::Next(start, len, next) = item else {
+        let Some(item) = item else {
             return false;
         };
-        let end = start + len;
+        let start = item.start;
+        let end = start + item.len;
         if has(&text[start..end], Set::W) {
             return true;
         }
-        from = next;
+        from = item.next;
     }
 }
 
@@ -187,15 +184,17 @@ pub fn put_set_lines(
             return TOO_LONG;
         }
         let col = next_item(cols, colsmap, at);
-        let Item::Next(start, len, next) = col else {
+        let Some(col) = col else {
             return o;
         };
         let var = next_item(vars, varsmap, to);
-        let Item::Next(first, count, then) = var else {
+        let Some(var) = var else {
             return o;
         };
-        let end = start + len;
-        let last = first + count;
+        let start = col.start;
+        let end = start + col.len;
+        let first = var.start;
+        let last = first + var.len;
         let held = is_limited(k, tail, &cols[start..end]);
         o = put_set_line(
             out,
@@ -206,8 +205,8 @@ pub fn put_set_lines(
             &cols[start..end],
             &vars[first..last],
         );
-        o = put_break(out, o, indent, has_item(cols, colsmap, next));
-        at = next;
-        to = then;
+        o = put_break(out, o, indent, has_item(cols, colsmap, col.next));
+        at = col.next;
+        to = var.next;
     }
 }

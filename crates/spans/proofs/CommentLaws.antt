@@ -64,3 +64,6 @@ unfolding block_len
 block_short [] h = refl
 block_short (c ∷ []) h = refl
 block_short (c ∷ d ∷ cs) h = absurd (omega arith)
+
+-- a turn of the loop, its start, and the ends
+pub ruleset comment_laws = (at_open, at_back, at_last, at_one, at_short, block_start, block_short)

@@ -8,7 +8,7 @@ use borrow.Author.Tests.{eqb-false}
 use lib.Dec.{eqb}
 use lib.ListN.{drop, get_or}
 use Rattle.spec.proofs.Choice.{or_left, or_right}
-use Rattle.spec.proofs.SpanLaws.{at_opened, at_code}
+use Rattle.spec.proofs.SpanLaws.{line_le, pair_two, at_line, at_block, at_single, at_double, at_opened, at_code}
 use Rattle.spec.specs.Bytes.{is_pair}
 use Rattle.spec.specs.Spans.{tag_len, opens_dollar, dollar_of, span_at}
 use Rattle.spec.specs.declared.Span.TheVariants.{Dollar, Code}
@@ -37,3 +37,6 @@ at_sign xs c h e =
     let dash : eqb c 45 ≡ false = rw e refl in
     let slash : eqb c 47 ≡ false = rw e refl in
     at_opened xs c (get_or xs 1 0) h refl (pair_off 45 45 c _ dash) (pair_off 47 42 c _ slash) (λ q. omega (arith, e, q)) (λ q. omega (arith, e, q))
+
+-- the span in front by the tests on its bytes
+pub ruleset span_laws = (at_plain, at_sign, line_le, pair_two, at_line, at_block, at_single, at_double, at_code)

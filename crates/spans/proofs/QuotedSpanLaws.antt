@@ -61,3 +61,6 @@ module _ (e : Bool) (q : ℕ) where
   unfolding quoted_len
   quoted_short [] h = refl
   quoted_short (c ∷ cs) h = ap suc (quote_short cs (omega arith))
+
+-- a turn of the loop, its start, and the ends
+pub ruleset quoted_laws = (at_esc, at_two, at_end, at_one, at_short, quoted_start, quoted_short)

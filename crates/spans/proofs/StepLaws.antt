@@ -13,8 +13,9 @@ use Rattle.spec.specs.Spans.{span_at, span_len}
 use Rattle.spec.specs.declared.Span.{Span}
 use Rattle.spans.specs.Steps.{step_at}
 use Rattle.spans.specs.declared.Cursor.{Cursor}
-use Rattle.spans.specs.declared.Step.{Step}
-use Rattle.spans.specs.declared.Step.TheVariants.{Taken, Done}
+use Rattle.std.specs.Prelude.{Option, Some, None}
+use Rattle.std.specs.Option.{unwrap_or}
+use Rattle.std.proofs.lemmas.Option.{none-some}
 
 -- what holds of every text with a first byte holds of a text that is not empty
 pub by_front : (P : List ℕ → Type 0) → ((c : ℕ) (cs : List ℕ) → P (c ∷ cs)) → (xs : List ℕ) → 0 < length xs → P xs
@@ -47,20 +48,22 @@ module _ (xs : List ℕ) (at : ℕ) where
       }
 
   -- a step that was taken
-  pub step_taken : (s : Span) (next : Cursor) → step_at xs at ≡ Taken s next → Stepped xs at s next.at
+  pub step_taken : (s : Span) (next : Cursor) → step_at xs at ≡ Some (s, next) → Stepped xs at s next.at
   unfolding step_at
   step_taken s next =
-      cond_case (λ (r : Step). r ≡ Taken s next → Stepped xs at s next.at) (ltb at (length xs)) _ _
+      cond_case (λ (r : Option (Span × Cursor)). r ≡ Some (s, next) → Stepped xs at s next.at) (ltb at (length xs)) _ _
       (λ b e.
-      let f : span_at (drop at xs) ≡ s = cc in
-      let g : at + span_len (span_at (drop at xs)) ≡ next.at = cc in
+      let made : Span × Cursor = (span_at (drop at xs), record { at = at + span_len (span_at (drop at xs)) }) in
+      let same : made ≡ (s, next) = ap (λ (o : Option (Span × Cursor)). unwrap_or o made) e in
+      let f : span_at (drop at xs) ≡ s = ap (λ (p : Span × Cursor). p.0) same in
+      let g : at + span_len (span_at (drop at xs)) ≡ next.at = ap (λ (p : Span × Cursor). p.1.at) same in
       stepped s next.at (ltb-true _ _ b) (sym f) (sym g ∙ ap (λ (t : Span). at + span_len t) f))
-      (λ b e. let z : ◌≡◌ {A = ℕ} 0 1 = cc in absurd (omega arith))
+      (λ b e. absurd (none-some _ e))
 
   -- no step: the text has ended
-  pub step_done : step_at xs at ≡ Done → length xs ≤ at
+  pub step_done : step_at xs at ≡ None → length xs ≤ at
   unfolding step_at
   step_done =
-      cond_case (λ (r : Step). r ≡ Done → length xs ≤ at) (ltb at (length xs)) _ _
-      (λ b e. let z : ◌≡◌ {A = ℕ} 0 1 = cc in absurd (omega arith))
+      cond_case (λ (r : Option (Span × Cursor)). r ≡ None → length xs ≤ at) (ltb at (length xs)) _ _
+      (λ b e. absurd (none-some _ (sym e)))
       (λ b e. ltb-false _ _ b)

@@ -2,9 +2,10 @@
 #![tactic(auto)]
 
 ghost use Rattle.std.specs.Prelude.{◌≡◌, cond, ◌+◌, ◌≤◌, ◌<◌, length, drop};
-ghost use Rattle.spec.specs.Spans.{escapes, quoted_len, block_len, line_len, tag_len, seek_len, opens_dollar, dollar_of, span_at, span_len};
+ghost use Rattle.spec.specs.Spans.{escapes, quoted_len, block_len, line_len, tag_len, opens_dollar, dollar_of, span_at, span_len};
 ghost use Rattle.spec.specs.declared.Span.TheVariants.{Dollar, Code};
 ghost use Rattle.spans.specs.Openers.{opens_span};
+ghost use Rattle.spans.specs.Places.{seek_place};
 ghost use Rattle.spans.specs.Steps.{step_at};
 
 use classes::{byte_at, in_range, is_pair, starts_with};
@@ -12,13 +13,15 @@ use runs::{Set, run_end};
 use spec::{DollarQuoted, Span};
 
 // Whether b is a backslash, where backslashes escape.
+#[tactic(auto, unfolding(spec::specs::Spans::escapes))]
 fn escapes_here(escape: bool, b: u8) -> bool
     ensures { result ≡ escapes escape b }
 {
-    if escape { b == b'\\' } else { false }
+    escape && b == b'\\'
 }
 
 // Length of the literal between quotes q at the front of `rest`, both quotes counted.
+#[tactic(auto, using(crate::proofs::QuotedSpanLaws::quoted_laws))]
 fn quoted_len(rest: &[u8], q: u8, escape: bool) -> usize
     ensures { result ≡ quoted_len escape q rest.now }
 {
@@ -26,25 +29,25 @@ fn quoted_len(rest: &[u8], q: u8, escape: bool) -> usize
     if n < 2 {
         return n;
     }
+    // By an index: a turn takes one byte or two.
     let mut i: usize = 1;
     while i + 1 < n {
         let b = rest[i];
         if escapes_here(escape, b) {
             i += 2;
-        } else if b == q {
-            if rest[i + 1] == q {
-                i += 2;
-            } else {
-                return i + 1;
-            }
-        } else {
+        } else if b != q {
             i += 1;
+        } else if rest[i + 1] == q {
+            i += 2;
+        } else {
+            return i + 1;
         }
     }
     n
 }
 
 // Length of the nested block comment at the front of `rest`.
+#[tactic(auto, using(crate::proofs::CommentLaws::comment_laws))]
 fn block_comment_len(rest: &[u8]) -> usize
     ensures { result ≡ block_len rest.now }
 {
@@ -52,6 +55,7 @@ fn block_comment_len(rest: &[u8]) -> usize
     if n < 2 {
         return n;
     }
+    // By an index: a turn takes one byte or two.
     let mut depth: usize = 1;
     let mut i: usize = 2;
     while i + 1 < n {
@@ -74,6 +78,7 @@ fn block_comment_len(rest: &[u8]) -> usize
 }
 
 // From inside a line comment, the length through its newline.
+#[tactic(auto, using(crate::proofs::TagLaws::line_through, crate::proofs::TagLaws::line_whole))]
 fn line_len(rest: &[u8]) -> usize
     ensures { result ≡ line_len rest.now }
 {
@@ -81,42 +86,31 @@ fn line_len(rest: &[u8]) -> usize
     if n < rest.len() { n + 1 } else { n }
 }
 
-// Where `pat`, which is not empty, stands first in `text`, or the length of `text`.
-fn seek(text: &[u8], pat: &[u8]) -> usize
+// Where `pat`, which is not empty, stands first in `text`.
+fn seek(text: &[u8], pat: &[u8]) -> Option<usize>
     requires { 0 < length pat.now }
-    ensures { result ≡ seek_len pat.now text.now }
+    ensures { result ≡ seek_place pat.now text.now }
 {
     let first = pat[0];
-    let mut i: usize = 0;
-    while i < text.len() {
+    for (i, b) in text.iter().enumerate() {
         // Most places fail at the first byte.
-        if text[i] == first {
-            if starts_with(&text[i..], pat) {
-                return i;
-            }
-            i += 1;
-        } else {
-            i += 1;
+        if *b == first && starts_with(&text[i..], pat) {
+            return Some(i);
         }
     }
-    i
+    None
 }
 
 // Whether a dollar literal opens, its tag being t bytes long.
+#[tactic(auto, unfolding(spec::specs::Spans::opens_dollar, spec::specs::Bytes::is_digit))]
 fn opens_here(rest: &[u8], t: usize) -> bool
     requires t_value { t ≡ tag_len (drop 1 rest.now) }
     requires t_in_bounds { t ≤ length rest.now }
     ensures { result ≡ opens_dollar rest.now }
 {
-    if byte_at(rest, 0) == b'$' {
-        if in_range(b'0', b'9', byte_at(rest, 1)) {
-            false
-        } else {
-            byte_at(rest, 1 + t) == b'$'
-        }
-    } else {
-        false
-    }
+    byte_at(rest, 0) == b'$'
+        && !in_range(b'0', b'9', byte_at(rest, 1))
+        && byte_at(rest, 1 + t) == b'$'
 }
 
 // The literal at the front of `rest` whose opening delimiter has n bytes.
@@ -125,27 +119,25 @@ fn dollar_of(rest: &[u8], n: usize) -> DollarQuoted
     requires n_in_bounds { n ≤ length rest.now }
     ensures { result ≡ dollar_of n rest.now }
 {
-    let mark = &rest[..n];
-    let body = &rest[n..];
-    let k = seek(body, mark);
-    if k < body.len() {
-        DollarQuoted {
+    let (mark, body) = rest.split_at(n);
+    match seek(body, mark) {
+        Some(k) => DollarQuoted {
             span: n + k + n,
             inner_start: n,
             inner_len: k,
             closed: true,
-        }
-    } else {
-        DollarQuoted {
-            span: n + k,
+        },
+        None => DollarQuoted {
+            span: rest.len(),
             inner_start: n,
-            inner_len: k,
+            inner_len: body.len(),
             closed: false,
-        }
+        },
     }
 }
 
 // The span at a `$`: a dollar literal, or the `$` alone.
+#[tactic(auto, using(crate::proofs::TagLaws::tag_run))]
 fn dollar_quoted(rest: &[u8]) -> Span
     ensures { result ≡ cond (opens_dollar rest.now) (Dollar (dollar_of (2 + tag_len (drop 1 rest.now)) rest.now)) (Code 1) }
 {
@@ -158,23 +150,15 @@ fn dollar_quoted(rest: &[u8]) -> Span
 }
 
 // Whether b is the first byte of a comment, of a quote or of a dollar literal's delimiter.
+#[tactic(auto, unfolding(crate::specs::Openers::opens_span))]
 pub fn opens_span(b: u8) -> bool
     ensures { result ≡ opens_span b }
 {
-    if b == b'-' {
-        true
-    } else if b == b'/' {
-        true
-    } else if b == b'\'' {
-        true
-    } else if b == b'"' {
-        true
-    } else {
-        b == b'$'
-    }
+    matches!(b, b'-' | b'/' | b'\'' | b'"' | b'$')
 }
 
 // The span at the front of `rest`.
+#[tactic(auto, using(crate::proofs::OpenerLaws::span_laws))]
 pub fn next_span(rest: &[u8]) -> Span
     ensures { result ≡ span_at rest.now }
 {
@@ -221,29 +205,21 @@ pub struct Cursor {
     pub at: usize,
 }
 
-// What a cursor's step finds: the span and the cursor behind it, or the text's end.
-#[derive(Clone, Copy)]
-pub enum Step {
-    Taken(Span, Cursor),
-    Done,
-}
-
 impl Cursor {
-    // The span here, and the cursor advanced behind it.
-    pub fn step(self, text: &[u8]) -> Step
+    // The span here, and the cursor advanced behind it; nothing at the text's end.
+    #[tactic(auto, using(spec::proofs::AheadLaws::rest_of, spec::proofs::SpanLaws::span_le), unfolding(crate::specs::Steps::step_at))]
+    pub fn step(self, text: &[u8]) -> Option<(Span, Cursor)>
         ensures { result ≡ step_at text.now self.at }
     {
         let at = self.at;
         if at < text.len() {
             let s = next_span(&text[at..]);
-            Step::Taken(
-                s,
-                Cursor {
-                    at: at + span_len(s),
-                },
-            )
+            let next = Cursor {
+                at: at + span_len(s),
+            };
+            Some((s, next))
         } else {
-            Step::Done
+            None
         }
     }
 }

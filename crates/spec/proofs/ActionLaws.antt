@@ -1,9 +1,9 @@
 -- The actions of the levels have a part in pass 5 only, and there in what becomes of a RAISE: where one stands, how long it
 -- is and where it ends is the same with any actions. Assumes nothing.
+use Rattle.std.specs.Prelude.{Option, Some, None}
 use mathlib.Core.Path.{◌≡◌, refl, ap, ◌∙◌}
 use mathlib.Core.List.{List, [], ◌∷◌, map}
 use mathlib.Core.Logic.{◌⊎◌, inl, inr}
-use mathlib.Core.Option.{Option, none, some}
 use Prim.Native.Nat.{ℕ, zero, suc, ◌-◌}
 use lib.ListN.{drop}
 use Rattle.spec.proofs.Choice.{by}
@@ -34,21 +34,21 @@ module _ (act other : Level → Action) where
   -- a RAISE has one length
   length_at : (o : Option Level) (u : List Marked) → (raised_at act o u).length ≡ (raised_at other o u).length
   unfolding raised_at
-  length_at none u = refl
-  length_at (some v) u = refl
+  length_at None u = refl
+  length_at (Some v) u = refl
 
   pub same_length : (u : List Marked) → (raise_of act u).length ≡ (raise_of other u).length
   same_length u = length_at (level_in level_words (drop 6 u)) u
 
   -- and what becomes of it depends on the action of its own level only
-  pub same_raise : (u : List Marked) → ((v : Level) → level_in level_words (drop 6 u) ≡ some v → act v ≡ other v)
+  pub same_raise : (u : List Marked) → ((v : Level) → level_in level_words (drop 6 u) ≡ Some v → act v ≡ other v)
       → raise_of act u ≡ raise_of other u
   unfolding raised_at
   same_raise u h = go (level_in level_words (drop 6 u)) refl
     where
       go : (o : Option Level) → level_in level_words (drop 6 u) ≡ o → raised_at act o u ≡ raised_at other o u
-      go none e = refl
-      go (some v) e = rw (h v e) refl
+      go None e = refl
+      go (Some v) e = rw (h v e) refl
 
 -- ---- the search
 

@@ -1,10 +1,10 @@
 -- The first kind of qualified target: the walk for a live `:=` with `q.n` before it finds the leftmost such place, and none
 -- exactly if there is none. Assumes nothing.
+use Rattle.std.specs.Prelude.{Option, Some, None}
 use mathlib.Core.Path.{◌≡◌, refl, sym, ap, ◌∙◌}
 use mathlib.Core.Bool.{Bool, true, false, cond, not, ◌&&◌, false≢true}
 use mathlib.Core.List.{List, [], ◌∷◌, reverse}
 use mathlib.Core.Logic.{◌↔◌}
-use mathlib.Core.Option.{Option, none, some}
 use Prim.Native.Nat.{ℕ, zero, suc, ◌+◌, ◌-◌, ◌≤◌, ◌<◌}
 use native.Mathlib.Omega.{arith}
 use borrow.Author.Tests.{eqb-true, eqb-false, eq-eqb, ne_eqb, not-true}
@@ -79,7 +79,7 @@ module _ (t : List Marked) (i m s a : ℕ) (h : i ≤ length t) (w : Behind is_w
   abbrev test : Bool
   test = not (eqb (m - s) 0) && (eqb (front_byte (reverse (take s t))) 46 && not (eqb (s - 1 - a) 0))
 
-  pub before_value : target_before (reverse (take i t)) ≡ cond test (some found) none
+  pub before_value : target_before (reverse (take i t)) ≡ cond test (Some found) None
   unfolding target_before
   before_value =
       rw (
@@ -178,11 +178,11 @@ before_exactly t i h edge =
 
 -- what is found at i
 abbrev assigned_at : List Marked → ℕ → Option Target
-assigned_at t i = cond (assign_here (reverse (take i t)) (drop i t)) (target_before (reverse (take i t))) none
+assigned_at t i = cond (assign_here (reverse (take i t)) (drop i t)) (target_before (reverse (take i t))) None
 
 assigned_exactly : (t : List Marked) (i : ℕ) → i < length t → Exactly (assigned_at t i) (IsAssignTarget t i)
 assigned_exactly t i h r =
-    cond_case (λ (o : Option Target). (o ≡ some r) ↔ IsAssignTarget t i r) (assign_here (reverse (take i t)) (drop i t)) _ _
+    cond_case (λ (o : Option Target). (o ≡ Some r) ↔ IsAssignTarget t i r) (assign_here (reverse (take i t)) (drop i t)) _ _
     (λ e.
     let c = (assign_says t i).0 e in
     let b = before_exactly t i (omega arith) (ap is_ident c.colon ∙ sign_not_ident 58 refl) r in
@@ -190,7 +190,7 @@ assigned_exactly t i h r =
     (λ e. ((λ s. absurd (apart (cc))), (λ p. absurd (false≢true (sym e ∙ (assign_says t i).1 p.operator)))))
 
 walk_front : (back u v : List Marked) (x : Marked) → u ≡ x ∷ v
-    → assign_target back u ≡ or_else (cond (assign_here back u) (target_before back) none) (assign_target (x ∷ back) v)
+    → assign_target back u ≡ or_else (cond (assign_here back u) (target_before back) None) (assign_target (x ∷ back) v)
 unfolding assign_target or_else
 walk_front back u v x e = rw e (by (assign_here back (x ∷ v)) (λ q. rw q refl) (λ q. rw q refl))
 
@@ -198,7 +198,7 @@ module _ (t : List Marked) where
   walk : ℕ → Option Target
   walk i = assign_target (reverse (take i t)) (drop i t)
 
-  end : (i : ℕ) → length t ≤ i → walk i ≡ none
+  end : (i : ℕ) → length t ≤ i → walk i ≡ None
   unfolding walk assign_target
   end i h = rw (drop_of_length-le t h) refl
 
@@ -217,6 +217,6 @@ module _ (t : List Marked) where
   assign_target_exactly = walk_exactly (IsAssignTarget t) (assigned_at t) walk (length t) end step (assigned_exactly t) inside 0
 
   -- none is found exactly if no such place exists
-  pub assign_target_none : (assign_target [] t ≡ none) ↔ NoPlace (IsAssignTarget t)
+  pub assign_target_none : (assign_target [] t ≡ None) ↔ NoPlace (IsAssignTarget t)
   unfolding walk
   assign_target_none = walk_none (IsAssignTarget t) (assigned_at t) walk (length t) end step (assigned_exactly t) inside

@@ -1,8 +1,8 @@
 -- The chain of the declaration records: it visits each record once, in rising byte order of names. Assumes nothing.
+use mathlib.Core.Option as maybe
 use mathlib.Core.Path.{◌≡◌, refl, sym, ap, ◌∙◌}
 use mathlib.Core.Bool.{Bool, true, false, cond, not, ◌&&◌, ◌||◌, false≢true}
 use mathlib.Core.List.{List, [], ◌∷◌, map}
-use mathlib.Core.Option.{some}
 use Prim.Native.Nat.{ℕ, zero, suc, ◌+◌, ◌*◌, ◌≤◌, ◌<◌, zero-le, suc-le-suc}
 use native.Mathlib.Nat.{not-suc-le-zero, le_of_suc-le-suc}
 use native.Mathlib.Omega.{arith}
@@ -136,7 +136,7 @@ name_of ds zero = []
 name_of ds (suc i) = get_or (names ds) i []
 
 -- there is an element at each index within the list
-element : (ds : List Declared) (i : ℕ) → i < length ds → (d : Declared) × ((get_elem? ds i ≡ some d) × (d.name ≡ get_or (names ds) i []))
+element : (ds : List Declared) (i : ℕ) → i < length ds → (d : Declared) × ((get_elem? ds i ≡ maybe.some d) × (d.name ≡ get_or (names ds) i []))
 unfolding names
 element [] i b = absurd (not-suc-le-zero b)
 element (d ∷ ds) zero b = (d, (refl, refl))

@@ -1,7 +1,7 @@
 -- Choices by a Bool, and by the order of two numbers. Assumes nothing.
+use Rattle.std.specs.Prelude.{Some, None}
 use mathlib.Core.Path.{◌≡◌, refl, sym}
 use mathlib.Core.Bool.{Bool, true, false, cond, ◌&&◌, ◌||◌, false≢true}
-use mathlib.Core.Option.{none, some}
 use Prim.Native.Nat.{ℕ, ◌≤◌, ◌<◌}
 use native.Mathlib.Omega.{arith}
 use borrow.Author.Tests.{ltb-true, ltb-false}
@@ -25,11 +25,11 @@ cond_case P true x y p q = p refl
 cond_case P false x y p q = q refl
 
 -- of something that is made unless b: made, b is false; not made, b is true
-pub made_some : {A : Type 0} (b : Bool) (x d : A) → cond b none (some x) ≡ some d → (b ≡ false) × (x ≡ d)
+pub made_some : {A : Type 0} (b : Bool) (x d : A) → cond b None (Some x) ≡ Some d → (b ≡ false) × (x ≡ d)
 made_some true x d e = absurd (apart (cc))
 made_some false x d e = (refl, cc)
 
-pub made_none : {A : Type 0} (b : Bool) (x : A) → cond b none (some x) ≡ none → b ≡ true
+pub made_none : {A : Type 0} (b : Bool) (x : A) → cond b None (Some x) ≡ None → b ≡ true
 made_none true x e = refl
 made_none false x e = absurd (apart (cc))
 

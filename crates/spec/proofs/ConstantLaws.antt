@@ -1,11 +1,12 @@
 -- Note 5 in its own words: which words mark a declaration CONSTANT and NOT NULL; put back around the record's type they give
 -- the words that stood behind the name, letter case aside; and there is no record exactly if no other word stood there.
 -- Assumes nothing.
+use mathlib.Core.Option as maybe
+use Rattle.std.specs.Prelude.{Option, Some, None}
 use mathlib.Core.Path.{◌≡◌, refl, sym, ap, ◌∙◌}
 use mathlib.Core.Bool.{Bool, true, false, cond, ◌&&◌, and-true, false≢true}
 use mathlib.Core.List.{List, [], ◌∷◌, ◌++◌, map, append-nil}
 use mathlib.Core.Logic.{◌↔◌}
-use mathlib.Core.Option.{Option, none, some}
 use Prim.Native.Nat.{ℕ, suc, ◌-◌}
 use native.Mathlib.Omega.{arith}
 use borrow.Author.Tests.{eqb-true}
@@ -23,8 +24,6 @@ use Rattle.spec.specs.Map.{Marked, byte, bytes}
 use Rattle.spec.specs.Parts.{trim}
 use Rattle.spec.specs.Search.{first, starts_ignoring_case, is_word_text}
 use Rattle.spec.specs.Declarations.{Declared, words, join_words, are_words, is_constant, is_not_null, behind_constant, ahead_of_not_null, declared_of, default_here, part_at, declaration, records_of}
-use Rattle.spec.specs.declared.Found.{Found}
-use Rattle.spec.specs.declared.Found.TheVariants.{At, Nothing}
 
 -- ---- the marks
 
@@ -152,7 +151,7 @@ module _ (ws : List (List Marked)) where
 
 module _ (n : List Marked) (ws : List (List Marked)) (o : Option (List ℕ)) where
   -- behind the name of a record stood its type, and around it the words that its marks say
-  pub words_stood : (d : Declared) → declared_of (n ∷ ws) o ≡ some d → Stood ws d
+  pub words_stood : (d : Declared) → declared_of (n ∷ ws) o ≡ Some d → Stood ws d
   unfolding declared_of
   words_stood d e =
       let m = made_some (is_empty (ahead_of_not_null (rest ws))) _ d e in
@@ -205,7 +204,7 @@ nothing_between true m ws h =
 
 module _ (n : List Marked) (ws : List (List Marked)) (o : Option (List ℕ)) where
   -- there is no record exactly if behind the name stand no words, CONSTANT, NOT NULL, or CONSTANT NOT NULL
-  pub no_type_left : (declared_of (n ∷ ws) o ≡ none) ↔ ((c : Bool) × (m : Bool) × (are_words (constant_texts c ++ not_null_texts m) ws ≡ true))
+  pub no_type_left : (declared_of (n ∷ ws) o ≡ None) ↔ ((c : Bool) × (m : Bool) × (are_words (constant_texts c ++ not_null_texts m) ws ≡ true))
   unfolding declared_of is_empty
   no_type_left = (
     λ e.
@@ -294,9 +293,9 @@ stood_back ws d s =
 -- ---- of a part, and of a text
 
 -- what stands ahead of the default key, all of it if there is none
-abbrev pub ahead_of : Found → List Marked → List Marked
-ahead_of (At i) t = take i t
-ahead_of Nothing t = t
+abbrev pub ahead_of : Option ℕ → List Marked → List Marked
+ahead_of (Some i) t = take i t
+ahead_of None t = t
 
 -- the words behind a part's name, ahead of its leftmost default key; joined by single spaces they were its type before Note 5
 abbrev pub type_words : List Marked → List (List Marked)
@@ -305,28 +304,28 @@ type_words part = drop 1 (words (ahead_of (first default_here 0 (trim part)) (tr
 unfoldable pub type_before : List Marked → List ℕ
 type_before part = join_words (type_words part)
 
-named_stood : (ws : List (List Marked)) (o : Option (List ℕ)) (d : Declared) → declared_of ws o ≡ some d → Stood (drop 1 ws) d
+named_stood : (ws : List (List Marked)) (o : Option (List ℕ)) (d : Declared) → declared_of ws o ≡ Some d → Stood (drop 1 ws) d
 unfolding declared_of
 named_stood [] o d e = absurd (apart (cc))
 named_stood (n ∷ ws) o d e = words_stood n ws o d e
 
 -- of a part with a record: its type, and around it the words that its marks say
-pub part_stood : (part : List Marked) (d : Declared) → declaration part ≡ some d → Stood (type_words part) d
+pub part_stood : (part : List Marked) (d : Declared) → declaration part ≡ Some d → Stood (type_words part) d
 unfolding declaration part_at
 part_stood part d e = go (first default_here 0 (trim part)) e
   where
-    go : (f : Found) → part_at f (trim part) ≡ some d → Stood (drop 1 (words (ahead_of f (trim part)))) d
-    go (At i) q = named_stood _ _ d q
-    go Nothing q = named_stood _ none d q
+    go : (f : Option ℕ) → part_at f (trim part) ≡ Some d → Stood (drop 1 (words (ahead_of f (trim part)))) d
+    go (Some i) q = named_stood _ _ d q
+    go None q = named_stood _ None d q
 
 -- so the words put back give the type of before Note 5
-pub part_put_back : (part : List Marked) (d : Declared) → declaration part ≡ some d → map upper (put_back d) ≡ map upper (type_before part)
+pub part_put_back : (part : List Marked) (d : Declared) → declaration part ≡ Some d → map upper (put_back d) ≡ map upper (type_before part)
 unfolding type_before
 part_put_back part d e = stood_back (type_words part) d (part_stood part d e)
 
 -- a name's record is that of some part, or was there before
-last_part : {P : Type 0} (n : List ℕ) (ps : List (List Marked)) (r : Option Declared) (d : Declared) → last_named n ps r ≡ some d
-    → (r ≡ some d → P) → ((i : ℕ) (p : List Marked) → get_elem? ps i ≡ some p → declaration p ≡ some d → P) → P
+last_part : {P : Type 0} (n : List ℕ) (ps : List (List Marked)) (r : Option Declared) (d : Declared) → last_named n ps r ≡ Some d
+    → (r ≡ Some d → P) → ((i : ℕ) (p : List Marked) → get_elem? ps i ≡ maybe.some p → declaration p ≡ Some d → P) → P
 unfolding last_named
 last_part n [] r d e f g = f e
 last_part n (p ∷ ps) r d e f g =
@@ -335,9 +334,9 @@ last_part n (p ∷ ps) r d e f g =
     (λ i. g (suc i))
 
 -- every record of a text is that of some part: so these words stood there, and put back they give the type of before Note 5
-pub record_put_back : (n xs : List ℕ) (d : Declared) → record_named n (records_of xs) ≡ some d
-    → (i : ℕ) × (p : List Marked) × (get_elem? (parts_of xs) i ≡ some p) × (declaration p ≡ some d) × Stood (type_words p) d
+pub record_put_back : (n xs : List ℕ) (d : Declared) → record_named n (records_of xs) ≡ Some d
+    → (i : ℕ) × (p : List Marked) × (get_elem? (parts_of xs) i ≡ maybe.some p) × (declaration p ≡ Some d) × Stood (type_words p) d
     × (map upper (put_back d) ≡ map upper (type_before p))
 record_put_back n xs d e =
-    last_part n (parts_of xs) none d (sym (records_named n xs) ∙ e) (λ h. absurd (apart (cc)))
+    last_part n (parts_of xs) None d (sym (records_named n xs) ∙ e) (λ h. absurd (apart (cc)))
     (λ i p a b. (i, p, a, b, part_stood p d b, part_put_back p d b))

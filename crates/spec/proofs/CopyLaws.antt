@@ -1,5 +1,6 @@
 -- A result that is made from left to right and copies each byte where a test fails, for every test and every kind of result:
 -- up to the first place that passes it copies the text. Assumes nothing.
+use Rattle.std.specs.Prelude.{Some, None}
 use mathlib.Core.Path.{◌≡◌, sym, ap, ◌∙◌}
 use mathlib.Core.Bool.{false}
 use mathlib.Core.List.{List, [], ◌∷◌}
@@ -12,7 +13,6 @@ use Rattle.spec.proofs.FirstLaws.{apart}
 use Rattle.spec.proofs.WalkLaws.{climb, passes_at, first_end, first_hit, first_miss, first_within}
 use Rattle.spec.specs.Map.{Marked, live}
 use Rattle.spec.specs.Search.{Test, first}
-use Rattle.spec.specs.declared.Found.TheVariants.{At, Nothing}
 
 -- `put` puts text in front of a result, a byte at a time or many; `made` is the result of what stands from an offset on
 module _ {B : Type 0} (put : List Marked → B → B)
@@ -20,9 +20,9 @@ module _ {B : Type 0} (put : List Marked → B → B)
     (p : Test) (t : List Marked) (made : ℕ → B)
     (copies : (k : ℕ) → k < length t → passes_at p t k ≡ false → made k ≡ put (get_or t k (live 0) ∷ []) (made (k + 1)))
   where
-    pub copied : (i j : ℕ) → first p i t ≡ At j → made i ≡ put (take (j - i) (drop i t)) (made j)
+    pub copied : (i j : ℕ) → first p i t ≡ Some j → made i ≡ put (take (j - i) (drop i t)) (made j)
     copied i j =
-        climb (λ (k : ℕ). first p k t ≡ At j → made k ≡ put (take (j - k) (drop k t)) (made j)) (length t)
+        climb (λ (k : ℕ). first p k t ≡ Some j → made k ≡ put (take (j - k) (drop k t)) (made j)) (length t)
         (λ k h e. apart (first p k t) j e (first_end p t k h))
         (λ k h rest e.
         by (passes_at p t k)
@@ -32,7 +32,7 @@ module _ {B : Type 0} (put : List Marked → B → B)
         let zero : j - k ≡ 0 = omega arith in
         rw zero (ap made same ∙ sym (none (made j))))
         (λ q.
-        let r : first p (k + 1) t ≡ At j = sym (first_miss p t k h q) ∙ e in
+        let r : first p (k + 1) t ≡ Some j = sym (first_miss p t k h q) ∙ e in
         let b = first_within p t (k + 1) j r in
         let one : j - k ≡ suc (j - (k + 1)) = omega arith in
         rw (one, drop_one t k (live 0) h)
@@ -40,9 +40,9 @@ module _ {B : Type 0} (put : List Marked → B → B)
         i
 
     -- where none passes, all of it is copied, and past the end stands b
-    pub copied_all : (b : B) → ((k : ℕ) → length t ≤ k → made k ≡ b) → (i : ℕ) → first p i t ≡ Nothing → made i ≡ put (drop i t) b
+    pub copied_all : (b : B) → ((k : ℕ) → length t ≤ k → made k ≡ b) → (i : ℕ) → first p i t ≡ None → made i ≡ put (drop i t) b
     copied_all b ends i =
-        climb (λ (k : ℕ). first p k t ≡ Nothing → made k ≡ put (drop k t) b) (length t)
+        climb (λ (k : ℕ). first p k t ≡ None → made k ≡ put (drop k t) b) (length t)
         (λ k h e. rw (drop_of_length-le t h) (ends k h ∙ sym (none b)))
         (λ k h rest e.
         by (passes_at p t k)

@@ -1,10 +1,10 @@
 -- Note 2 in its own words: a default begins behind the leftmost default key of its part, and a part that has none has no
 -- default. The test passes exactly where a predicate on offsets holds, so the search finds the leftmost. Assumes nothing.
+use Rattle.std.specs.Prelude.{Option, Some, None}
 use mathlib.Core.Path.{◌≡◌, refl, sym, ap, ◌∙◌}
 use mathlib.Core.Bool.{Bool, true, false, not, ◌&&◌}
 use mathlib.Core.List.{List, [], ◌∷◌, reverse}
 use mathlib.Core.Logic.{◌↔◌}
-use mathlib.Core.Option.{Option, none, some}
 use Prim.Native.Nat.{ℕ, zero, suc, ◌+◌, ◌-◌, ◌<◌}
 use native.Mathlib.Omega.{arith}
 use borrow.Author.Tests.{eqb-true, eqb-false, eq-eqb, ne_eqb, not-true}
@@ -27,8 +27,6 @@ use Rattle.spec.specs.Parts.{trim}
 use Rattle.spec.specs.Search.{first, keyword_here}
 use Rattle.spec.specs.Assignments.{assign_here, lone_equals}
 use Rattle.spec.specs.Declarations.{Declared, requoted_default, words, behind_constant, ahead_of_not_null, declared_of, is_lone, equals_here, default_here, key_length, part_at, declaration}
-use Rattle.spec.specs.declared.Found.{Found}
-use Rattle.spec.specs.declared.Found.TheVariants.{At, Nothing}
 
 -- ---- the default key by offsets: predicates, which take no walk of the definitions
 
@@ -151,7 +149,7 @@ key_says t =
 -- ---- where the default begins
 
 -- the default is what the words came with
-declared_default : (ws : List (List Marked)) (o : Option (List ℕ)) (d : Declared) → declared_of ws o ≡ some d → d.default ≡ o
+declared_default : (ws : List (List Marked)) (o : Option (List ℕ)) (d : Declared) → declared_of ws o ≡ Some d → d.default ≡ o
 unfolding declared_of
 declared_default [] o d e = absurd (apart (cc))
 declared_default (n ∷ ws) o d e =
@@ -166,16 +164,16 @@ module _ (part : List Marked) where
   abbrev behind : ℕ → ℕ → List ℕ
   behind i n = requoted_default (bytes (trim (drop (i + n) t)))
 
-  at_place : (i n : ℕ) → first default_here 0 t ≡ At i → key_length (drop i t) ≡ n → declaration part ≡ declared_of (words (take i t)) (some (behind i n))
+  at_place : (i n : ℕ) → first default_here 0 t ≡ Some i → key_length (drop i t) ≡ n → declaration part ≡ declared_of (words (take i t)) (Some (behind i n))
   unfolding declaration part_at
   at_place i n e q = rw (e, q) refl
 
-  no_place : first default_here 0 t ≡ Nothing → declaration part ≡ declared_of (words t) none
+  no_place : first default_here 0 t ≡ None → declaration part ≡ declared_of (words t) None
   unfolding declaration part_at
   no_place e = rw e refl
 
   -- leftmost: name and type stand ahead of the leftmost key, the default behind it
-  pub default_behind : (i n : ℕ) → IsLeftmost t i n → declaration part ≡ declared_of (words (take i t)) (some (behind i n))
+  pub default_behind : (i n : ℕ) → IsLeftmost t i n → declaration part ≡ declared_of (words (take i t)) (Some (behind i n))
   default_behind i n l =
       at_place i n
       (least_found default_here t (Key t) (key_says t) 0 i
@@ -183,7 +181,7 @@ module _ (part : List Marked) where
       (key_length_lem t i n l.key)
 
   -- a part with none of the three has no default
-  pub default_absent : NoKey t → declaration part ≡ declared_of (words t) none
+  pub default_absent : NoKey t → declaration part ≡ declared_of (words t) None
   default_absent h = no_place (none_found default_here t (Key t) (key_says t) 0 (λ k a q. h k q.0 q.1))
 
   -- a part either has a leftmost key or none
@@ -194,29 +192,29 @@ module _ (part : List Marked) where
   pub key_of : KeyOf
   key_of = go (first default_here 0 t) refl
     where
-      go : (f : Found) → first default_here 0 t ≡ f → KeyOf
-      go (At i) e =
+      go : (f : Option ℕ) → first default_here 0 t ≡ f → KeyOf
+      go (Some i) e =
           let r = found_least default_here t (Key t) (key_says t) 0 i e in
           leftmost i r.holds.0 (record { key = r.holds.1; least = λ k m b q. r.least k (omega arith) b (m, q) })
-      go Nothing e = nowhere (λ k m q. found_none default_here t (Key t) (key_says t) 0 e k (omega arith) (m, q))
+      go None e = nowhere (λ k m q. found_none default_here t (Key t) (key_says t) 0 e k (omega arith) (m, q))
 
   -- so a record's default says which
-  module _ (d : Declared) (e : declaration part ≡ some d) where
-    pub present_leftmost : (v : List ℕ) → d.default ≡ some v → (i : ℕ) × (n : ℕ) × IsLeftmost t i n × (v ≡ behind i n)
+  module _ (d : Declared) (e : declaration part ≡ Some d) where
+    pub present_leftmost : (v : List ℕ) → d.default ≡ Some v → (i : ℕ) × (n : ℕ) × IsLeftmost t i n × (v ≡ behind i n)
     present_leftmost v p = go key_of
       where
         go : KeyOf → (i : ℕ) × (n : ℕ) × IsLeftmost t i n × (v ≡ behind i n)
         go (leftmost i n l) =
-            let s = declared_default (words (take i t)) (some (behind i n)) d (sym (default_behind i n l) ∙ e) in
+            let s = declared_default (words (take i t)) (Some (behind i n)) d (sym (default_behind i n l) ∙ e) in
             let z : v ≡ behind i n = cc in
             (i, n, l, z)
-        go (nowhere h) = let s = declared_default (words t) none d (sym (default_absent h) ∙ e) in absurd (apart (cc))
+        go (nowhere h) = let s = declared_default (words t) None d (sym (default_absent h) ∙ e) in absurd (apart (cc))
 
-    pub absent_nowhere : d.default ≡ none → NoKey t
+    pub absent_nowhere : d.default ≡ None → NoKey t
     absent_nowhere p = go key_of
       where
         go : KeyOf → NoKey t
         go (leftmost i n l) =
-            let s = declared_default (words (take i t)) (some (behind i n)) d (sym (default_behind i n l) ∙ e) in
+            let s = declared_default (words (take i t)) (Some (behind i n)) d (sym (default_behind i n l) ∙ e) in
             absurd (apart (cc))
         go (nowhere h) = h

@@ -1,19 +1,19 @@
 -- Rows for Note 2, each by computation: where a default begins. Assumes nothing.
+use Rattle.std.specs.Prelude.{Some, None}
 use Prim.Native.String.{String}
 use mathlib.Core.Path.{◌≡◌, refl}
 use mathlib.Core.Bool.{false}
 use mathlib.Core.List.{List, [], ◌∷◌, ◌++◌}
-use mathlib.Core.Option.{none, some}
 use Rattle.spec.specs.Bytes.{ascii}
 use Rattle.spec.specs.Declarations.{Declared}
 use Rattle.spec.proofs.RowForms.{record_of, one_record, function, function_row, tabled}
 
 -- one record with no mark: name, type, default
 abbrev with : String → String → String → List Declared
-with n k v = one_record n k (some (ascii v)) false false
+with n k v = one_record n k (Some (ascii v)) false false
 
 abbrev without : String → String → List Declared
-without n k = one_record n k none false false
+without n k = one_record n k None false false
 
 -- each of the three
 behind_assign : record_of "a b := 1" ≡ with "a" "b" "1"

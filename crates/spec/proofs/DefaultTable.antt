@@ -1,5 +1,6 @@
 -- Note 10, tables with the same lines: their order does not matter, and the table that drops all but EXCEPTION, which aborts,
 -- equals no table for every call. Assumes nothing.
+use Rattle.std.specs.Prelude.{Ok}
 use mathlib.Core.Path.{◌≡◌, refl, sym, ap, ◌∙◌}
 use mathlib.Core.List.{List, Memᴰ}
 use Prim.Native.Nat.{ℕ}
@@ -11,8 +12,7 @@ use Rattle.spec.specs.Answers.{body_answer, body_output, function_answer, functi
 use Rattle.spec.specs.declared.Level.{Level}
 use Rattle.spec.specs.declared.Level.TheVariants.{Debug, Log, Info, Notice, Warning, Exception}
 use Rattle.spec.specs.declared.Action.{Action}
-use Rattle.spec.specs.declared.Actions.{Actions}
-use Rattle.spec.specs.declared.Table.TheVariants.{Given}
+use Rattle.spec.specs.Raise.{Actions}
 
 -- lines of which each level has one
 pub record Complete (es : List Entry) : Type 0 where
@@ -20,7 +20,7 @@ pub record Complete (es : List Entry) : Type 0 where
   pub all : (l : Level) → Stands l es
 
 -- such a table gives these actions if its lines do
-pub table_gives : (es : List Entry) (a : Actions) → Complete es → ((e : Entry) → Memᴰ e es → action_of a e.level ≡ e.action) → table_of (table_text es) ≡ Given a
+pub table_gives : (es : List Entry) (a : Actions) → Complete es → ((e : Entry) → Memᴰ e es → action_of a e.level ≡ e.action) → table_of (table_text es) ≡ Ok a
 table_gives es a c h =
     (actions_exactly (table_text es) a).1
     (record { lines = es; parts = refl; different = c.different; complete = c.all; actions = h })

@@ -1,10 +1,10 @@
 -- The second kind of qualified target: `q.n` and a lone `=` from an offset on are found exactly if they stand there.
 -- Assumes nothing.
+use Rattle.std.specs.Prelude.{Some, None}
 use mathlib.Core.Path.{◌≡◌, refl, sym, ap, ◌∙◌}
 use mathlib.Core.Bool.{Bool, true, false, cond, not, ◌&&◌, ◌||◌, false≢true}
 use mathlib.Core.List.{List}
 use mathlib.Core.Logic.{◌↔◌}
-use mathlib.Core.Option.{none, some}
 use Prim.Native.Nat.{ℕ, ◌+◌, ◌-◌, ◌<◌}
 use native.Mathlib.Omega.{arith}
 use borrow.Author.Tests.{eqb-true, eqb-false, eq-eqb, ne_eqb, not-true}
@@ -78,7 +78,7 @@ module _ (t : List Marked) (from a d e i : ℕ) (w : Ahead is_n t from a) (q : A
   abbrev test : Bool
   test = not (eqb (d - a) 0) && (eqb (byte_at t d) 46 && (not (eqb (e - (d + 1)) 0) && lone_equals (drop i t)))
 
-  pub equals_value : equals_target (drop from t) ≡ cond test (some found) none
+  pub equals_value : equals_target (drop from t) ≡ cond test (Some found) None
   unfolding equals_target
   equals_value =
       rw (
@@ -195,7 +195,7 @@ module _ (t : List Marked) (from : ℕ) (edge : NoRunOver t from) where
       at_offsets t from a d e i (ahead is_n t from) (ahead is_ident t a) (ahead is_ident t (d + 1)) (ahead is_n t e) edge
 
   -- none is found exactly if none stands there
-  pub equals_target_none : (equals_target (drop from t) ≡ none) ↔ ((r : Target) → IsEqualsTarget t from r → ⊥)
+  pub equals_target_none : (equals_target (drop from t) ≡ None) ↔ ((r : Target) → IsEqualsTarget t from r → ⊥)
   equals_target_none = none_exactly equals_target_exactly
 
 -- a statement's front is such an offset

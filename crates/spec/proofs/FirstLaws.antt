@@ -1,5 +1,6 @@
 -- The search for the first place that passes a test, for every test: it gives the least such offset at or after the
 -- starting one, and none exactly if there is none. Assumes nothing.
+use Rattle.std.specs.Prelude.{Option, Some, None}
 use mathlib.Core.Path.{◌≡◌, refl, sym, ap, ◌∙◌}
 use mathlib.Core.Bool.{Bool, true, false, cond, false≢true}
 use mathlib.Core.List.{List, [], ◌∷◌}
@@ -14,8 +15,6 @@ use Rattle.spec.proofs.WalkLaws.{climb, passes_at, first_end, first_hit, first_m
 use Rattle.spec.specs.Lists.{is_empty}
 use Rattle.spec.specs.Map.{Marked}
 use Rattle.spec.specs.Search.{Test, first}
-use Rattle.spec.specs.declared.Found.{Found}
-use Rattle.spec.specs.declared.Found.TheVariants.{At, Nothing}
 
 -- j is the least offset of t at or after i that passes the test
 pub record Least (p : Test) (i : ℕ) (t : List Marked) (j : ℕ) : Type 0 where
@@ -29,14 +28,14 @@ split : (P : ℕ → Type 0) (i k : ℕ) → P i → (i + 1 ≤ k → P k) → i
 split P i k here more h = by (eqb k i) (λ e. rw (eqb-true k i e) here) (λ e. more (omega (arith, eqb-false k i e)))
 
 -- a place and none are apart
-pub apart : {A : Type 0} (f : Found) (j : ℕ) → f ≡ At j → f ≡ Nothing → A
+pub apart : {A : Type 0} (f : Option ℕ) (j : ℕ) → f ≡ Some j → f ≡ None → A
 apart f j e n = let z : ◌≡◌ {A = ℕ} 0 1 = cc in absurd (omega arith)
 
 module _ (p : Test) (t : List Marked) where
   -- what is found is the least place
-  pub first_least : (i j : ℕ) → first p i t ≡ At j → Least p i t j
+  pub first_least : (i j : ℕ) → first p i t ≡ Some j → Least p i t j
   first_least i j =
-      climb (λ (k : ℕ). first p k t ≡ At j → Least p k t j) (length t)
+      climb (λ (k : ℕ). first p k t ≡ Some j → Least p k t j) (length t)
       (λ k h e. apart (first p k t) j e (first_end p t k h))
       (λ k h more e.
       by (passes_at p t k)
@@ -60,15 +59,15 @@ module _ (p : Test) (t : List Marked) where
       i
 
   -- the least place is found
-  pub least_first : (i j : ℕ) → Least p i t j → first p i t ≡ At j
+  pub least_first : (i j : ℕ) → Least p i t j → first p i t ≡ Some j
   least_first i j =
-      climb (λ (k : ℕ). Least p k t j → first p k t ≡ At j) (length t)
+      climb (λ (k : ℕ). Least p k t j → first p k t ≡ Some j) (length t)
       (λ k h r. absurd (omega (arith, r.from, r.inside)))
       (λ k h more r.
       by (eqb k j)
       (λ e.
       let same = eqb-true k j e in
-      first_hit p t k h (rw same r.passes) ∙ ap At same)
+      first_hit p t k h (rw same r.passes) ∙ ap Some same)
       (λ e.
       let b : k < j = omega (arith, r.from, eqb-false k j e) in
       first_miss p t k h (r.least k (omega arith) b)
@@ -76,9 +75,9 @@ module _ (p : Test) (t : List Marked) where
       i
 
   -- where none is found, none passes
-  pub first_none : (i : ℕ) → first p i t ≡ Nothing → (k : ℕ) → i ≤ k → k < length t → passes_at p t k ≡ false
+  pub first_none : (i : ℕ) → first p i t ≡ None → (k : ℕ) → i ≤ k → k < length t → passes_at p t k ≡ false
   first_none i =
-      climb (λ (m : ℕ). first p m t ≡ Nothing → (k : ℕ) → m ≤ k → k < length t → passes_at p t k ≡ false) (length t)
+      climb (λ (m : ℕ). first p m t ≡ None → (k : ℕ) → m ≤ k → k < length t → passes_at p t k ≡ false) (length t)
       (λ m h e k a b. absurd (omega arith))
       (λ m h more e k a b.
       by (passes_at p t m)
@@ -87,9 +86,9 @@ module _ (p : Test) (t : List Marked) where
       i
 
   -- where none passes, none is found
-  pub none_first : (i : ℕ) → ((k : ℕ) → i ≤ k → k < length t → passes_at p t k ≡ false) → first p i t ≡ Nothing
+  pub none_first : (i : ℕ) → ((k : ℕ) → i ≤ k → k < length t → passes_at p t k ≡ false) → first p i t ≡ None
   none_first i =
-      climb (λ (m : ℕ). ((k : ℕ) → m ≤ k → k < length t → passes_at p t k ≡ false) → first p m t ≡ Nothing) (length t)
+      climb (λ (m : ℕ). ((k : ℕ) → m ≤ k → k < length t → passes_at p t k ≡ false) → first p m t ≡ None) (length t)
       (λ m h r. first_end p t m h)
       (λ m h more r. first_miss p t m h (r m (omega arith) h) ∙ more (λ k a. r k (omega arith)))
       i
@@ -121,7 +120,7 @@ not_passes false h = refl
 
 module _ (p : Test) (t : List Marked) (Q : ℕ → Type 0) (s : Says p t Q) (i : ℕ) where
   -- what is found is the least offset that has the property, and that one is found
-  pub found_least : (j : ℕ) → first p i t ≡ At j → LeastOf Q i j
+  pub found_least : (j : ℕ) → first p i t ≡ Some j → LeastOf Q i j
   found_least j e =
       let r = first_least p t i j e in
       record {
@@ -130,7 +129,7 @@ module _ (p : Test) (t : List Marked) (Q : ℕ → Type 0) (s : Says p t Q) (i :
         least = λ k a b q. fails_not (s.complete k q) (r.least k a b);
       }
 
-  pub least_found : (j : ℕ) → LeastOf Q i j → first p i t ≡ At j
+  pub least_found : (j : ℕ) → LeastOf Q i j → first p i t ≡ Some j
   least_found j r =
       least_first p t i j
       (record {
@@ -141,52 +140,52 @@ module _ (p : Test) (t : List Marked) (Q : ℕ → Type 0) (s : Says p t Q) (i :
       })
 
   -- none is found exactly if none has it
-  pub found_none : first p i t ≡ Nothing → NoneOf Q i
+  pub found_none : first p i t ≡ None → NoneOf Q i
   found_none e k a q = fails_not (s.complete k q) (first_none p t i e k a (s.inside k q))
 
-  pub none_found : NoneOf Q i → first p i t ≡ Nothing
+  pub none_found : NoneOf Q i → first p i t ≡ None
   none_found r = none_first p t i (λ k a b. not_passes (passes_at p t k) (λ q. r k a (s.sound k q)))
 
 -- ---- a search for a word, which finds none if the word is empty
 
-some_word : (w : List ℕ) (f : Found) (j : ℕ) → cond (is_empty w) Nothing f ≡ At j → f ≡ At j
+some_word : (w : List ℕ) (f : Option ℕ) (j : ℕ) → cond (is_empty w) None f ≡ Some j → f ≡ Some j
 unfolding is_empty
-some_word [] f j e = apart Nothing j e refl
+some_word [] f j e = apart None j e refl
 some_word (a ∷ w) f j e = e
 
-pub nonempty_word : (w : List ℕ) (f : Found) → 0 < length w → cond (is_empty w) Nothing f ≡ f
+pub nonempty_word : (w : List ℕ) (f : Option ℕ) → 0 < length w → cond (is_empty w) None f ≡ f
 unfolding is_empty
 nonempty_word [] f h = absurd (omega arith)
 nonempty_word (a ∷ w) f h = refl
 
 -- and an empty one is not
-pub empty_word : (w : List ℕ) (f : Found) → length w ≡ 0 → cond (is_empty w) Nothing f ≡ Nothing
+pub empty_word : (w : List ℕ) (f : Option ℕ) → length w ≡ 0 → cond (is_empty w) None f ≡ None
 unfolding is_empty
 empty_word [] f h = refl
 empty_word (a ∷ w) f h = absurd (omega arith)
 
 module _ (p : Test) (t : List Marked) (Q : ℕ → Type 0) (s : Says p t Q) (w : List ℕ) (i : ℕ) where
   -- the least offset that has the property
-  pub sought_least : (j : ℕ) → cond (is_empty w) Nothing (first p i t) ≡ At j → LeastOf Q i j
+  pub sought_least : (j : ℕ) → cond (is_empty w) None (first p i t) ≡ Some j → LeastOf Q i j
   sought_least j e = found_least p t Q s i j (some_word w (first p i t) j e)
 
-  pub least_sought : (j : ℕ) → 0 < length w → LeastOf Q i j → cond (is_empty w) Nothing (first p i t) ≡ At j
+  pub least_sought : (j : ℕ) → 0 < length w → LeastOf Q i j → cond (is_empty w) None (first p i t) ≡ Some j
   least_sought j h r = nonempty_word w (first p i t) h ∙ least_found p t Q s i j r
 
   -- none exactly if the word is empty or none has the property
-  pub sought_none : cond (is_empty w) Nothing (first p i t) ≡ Nothing → (w ≡ []) ⊎ NoneOf Q i
+  pub sought_none : cond (is_empty w) None (first p i t) ≡ None → (w ≡ []) ⊎ NoneOf Q i
   unfolding is_empty
   sought_none = go w
     where
-      go : (v : List ℕ) → cond (is_empty v) Nothing (first p i t) ≡ Nothing → (v ≡ []) ⊎ NoneOf Q i
+      go : (v : List ℕ) → cond (is_empty v) None (first p i t) ≡ None → (v ≡ []) ⊎ NoneOf Q i
       go [] e = inl refl
       go (a ∷ v) e = inr (found_none p t Q s i e)
 
-  pub none_sought : (w ≡ []) ⊎ NoneOf Q i → cond (is_empty w) Nothing (first p i t) ≡ Nothing
+  pub none_sought : (w ≡ []) ⊎ NoneOf Q i → cond (is_empty w) None (first p i t) ≡ None
   unfolding is_empty
   none_sought (inl e) = rw e refl
   none_sought (inr r) = both w (none_found p t Q s i r)
     where
-      both : (v : List ℕ) → first p i t ≡ Nothing → cond (is_empty v) Nothing (first p i t) ≡ Nothing
+      both : (v : List ℕ) → first p i t ≡ None → cond (is_empty v) None (first p i t) ≡ None
       both [] e = refl
       both (a ∷ v) e = e

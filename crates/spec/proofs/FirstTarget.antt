@@ -1,8 +1,8 @@
 -- A walk that gives the first target met finds r exactly if r stands at a place before which none does. Assumes nothing.
+use Rattle.std.specs.Prelude.{Option, Some, None}
 use mathlib.Core.Path.{◌≡◌, refl, sym, ap, ◌∙◌}
 use mathlib.Core.Bool.{Bool, true, false, cond, false≢true}
 use mathlib.Core.Logic.{◌↔◌, ◌⊎◌, inl, inr}
-use mathlib.Core.Option.{Option, none, some}
 use Prim.Native.Nat.{ℕ, ◌+◌, ◌≤◌, ◌<◌}
 use native.Mathlib.Omega.{arith}
 use borrow.Author.Tests.{eqb-true, eqb-false}
@@ -15,70 +15,70 @@ use Rattle.spec.specs.Assignments.{Target, or_else}
 
 -- o is the target r exactly if r has the property
 abbrev pub Exactly : Option Target → (Target → Type 0) → Type 0
-Exactly o P = (r : Target) → (o ≡ some r) ↔ P r
+Exactly o P = (r : Target) → (o ≡ Some r) ↔ P r
 
 -- a target and none are apart
-pub some_none : {A : Type 0} (o : Option Target) (r : Target) → o ≡ some r → o ≡ none → A
+pub some_none : {A : Type 0} (o : Option Target) (r : Target) → o ≡ Some r → o ≡ None → A
 some_none o r e n = absurd (apart (cc))
 
 -- so it is none exactly if none has the property
-pub none_exactly : {o : Option Target} {P : Target → Type 0} → Exactly o P → (o ≡ none) ↔ ((r : Target) → P r → ⊥)
+pub none_exactly : {o : Option Target} {P : Target → Type 0} → Exactly o P → (o ≡ None) ↔ ((r : Target) → P r → ⊥)
 none_exactly {o} {P} x = ((λ e r p. some_none o r ((x r).1 p) e), go o refl)
   where
-    go : (q : Option Target) → o ≡ q → ((r : Target) → P r → ⊥) → o ≡ none
-    go none e n = e
-    go (some r) e n = absurd (n r ((x r).0 e))
+    go : (q : Option Target) → o ≡ q → ((r : Target) → P r → ⊥) → o ≡ None
+    go None e n = e
+    go (Some r) e n = absurd (n r ((x r).0 e))
 
 -- the choice of x on a test
-pub choice_exactly : (b : Bool) (x : Target) → Exactly (cond b (some x) none) (λ r. (b ≡ true) × (r ≡ x))
-choice_exactly true x r = ((λ e. (refl, (cc))), (λ w. ap some (sym w.1)))
+pub choice_exactly : (b : Bool) (x : Target) → Exactly (cond b (Some x) None) (λ r. (b ≡ true) × (r ≡ x))
+choice_exactly true x r = ((λ e. (refl, (cc))), (λ w. ap Some (sym w.1)))
 choice_exactly false x r = ((λ e. absurd (apart (cc))), (λ w. absurd (false≢true w.0)))
 
 -- one target if there is one, else the other
-pub else_first : (o p : Option Target) (r : Target) → o ≡ some r → or_else o p ≡ some r
+pub else_first : (o p : Option Target) (r : Target) → o ≡ Some r → or_else o p ≡ Some r
 unfolding or_else
 else_first o p r e = rw e refl
 
-pub else_next : (o p : Option Target) → o ≡ none → or_else o p ≡ p
+pub else_next : (o p : Option Target) → o ≡ None → or_else o p ≡ p
 unfolding or_else
 else_next o p e = rw e refl
 
 pub else_exactly : {o p : Option Target} {P Q : Target → Type 0} → Exactly o P → Exactly p Q
-    → Exactly (or_else o p) (λ r. P r ⊎ ((o ≡ none) × Q r))
+    → Exactly (or_else o p) (λ r. P r ⊎ ((o ≡ None) × Q r))
 else_exactly {o} {p} {P} {Q} x y r = (go o refl, back)
   where
-    go : (q : Option Target) → o ≡ q → or_else o p ≡ some r → P r ⊎ ((o ≡ none) × Q r)
-    go none e h = inr (e, (y r).0 (sym (else_next o p e) ∙ h))
-    go (some s) e h = inl ((x r).0 (e ∙ (sym (else_first o p s e) ∙ h)))
+    go : (q : Option Target) → o ≡ q → or_else o p ≡ Some r → P r ⊎ ((o ≡ None) × Q r)
+    go None e h = inr (e, (y r).0 (sym (else_next o p e) ∙ h))
+    go (Some s) e h = inl ((x r).0 (e ∙ (sym (else_first o p s e) ∙ h)))
 
-    back : P r ⊎ ((o ≡ none) × Q r) → or_else o p ≡ some r
+    back : P r ⊎ ((o ≡ None) × Q r) → or_else o p ≡ Some r
     back (inl w) = else_first o p r ((x r).1 w)
     back (inr w) = else_next o p w.0 ∙ (y r).1 w.1
 
 -- none exactly if both are none
-pub else_none : (o p : Option Target) → (or_else o p ≡ none) ↔ ((o ≡ none) × (p ≡ none))
+pub else_none : (o p : Option Target) → (or_else o p ≡ None) ↔ ((o ≡ None) × (p ≡ None))
 else_none o p = (go o refl, (λ w. else_next o p w.0 ∙ w.1))
   where
-    go : (q : Option Target) → o ≡ q → or_else o p ≡ none → (o ≡ none) × (p ≡ none)
-    go none e h = (e, sym (else_next o p e) ∙ h)
-    go (some r) e h = some_none (or_else o p) r (else_first o p r e) h
+    go : (q : Option Target) → o ≡ q → or_else o p ≡ None → (o ≡ None) × (p ≡ None)
+    go None e h = (e, sym (else_next o p e) ∙ h)
+    go (Some r) e h = some_none (or_else o p) r (else_first o p r e) h
 
 -- a walk w over the first n offsets that gives what f finds at the first offset where it finds anything
 module _ (P : ℕ → Target → Type 0) (f w : ℕ → Option Target) (n : ℕ)
-    (end : (i : ℕ) → n ≤ i → w i ≡ none)
+    (end : (i : ℕ) → n ≤ i → w i ≡ None)
     (step : (i : ℕ) → i < n → w i ≡ or_else (f i) (w (i + 1)))
     (here : (i : ℕ) → i < n → Exactly (f i) (P i))
     (inside : (i : ℕ) (r : Target) → P i r → i < n) where
-  sound : (r : Target) (i : ℕ) → w i ≡ some r → FirstFrom P i r
+  sound : (r : Target) (i : ℕ) → w i ≡ Some r → FirstFrom P i r
   sound r =
-      climb (λ (i : ℕ). w i ≡ some r → FirstFrom P i r) n
+      climb (λ (i : ℕ). w i ≡ Some r → FirstFrom P i r) n
       (λ i h e. some_none (w i) r e (end i h))
       (λ i h more e. go i h more (f i) refl (sym (step i h) ∙ e))
     where
-      go : (i : ℕ) → i < n → (w (i + 1) ≡ some r → FirstFrom P (i + 1) r) → (o : Option Target) → f i ≡ o
-          → or_else (f i) (w (i + 1)) ≡ some r
+      go : (i : ℕ) → i < n → (w (i + 1) ≡ Some r → FirstFrom P (i + 1) r) → (o : Option Target) → f i ≡ o
+          → or_else (f i) (w (i + 1)) ≡ Some r
           → FirstFrom P i r
-      go i h more none e k =
+      go i h more None e k =
           let m = more (sym (else_next (f i) (w (i + 1)) e) ∙ k) in
           record {
             place = m.place;
@@ -89,13 +89,13 @@ module _ (P : ℕ → Target → Type 0) (f w : ℕ → Option Target) (n : ℕ)
                 (λ q. let z = eqb-true j i q in some_none (f i) s ((here i h s).1 (rw z at p)) e)
                 (λ q. m.least j (omega (arith, eqb-false j i q)) b s p);
           }
-      go i h more (some s) e k =
+      go i h more (Some s) e k =
           let z = sym (else_first (f i) (w (i + 1)) s e) ∙ k in
           record { place = i; from = omega arith; holds = (here i h r).0 (e ∙ z); least = λ j a b s p. absurd (omega arith) }
 
-  complete : (r : Target) (i : ℕ) → FirstFrom P i r → w i ≡ some r
+  complete : (r : Target) (i : ℕ) → FirstFrom P i r → w i ≡ Some r
   complete r =
-      climb (λ (i : ℕ). FirstFrom P i r → w i ≡ some r) n
+      climb (λ (i : ℕ). FirstFrom P i r → w i ≡ Some r) n
       (λ i h m. absurd (omega (arith, m.from, inside m.place r m.holds)))
       (λ i h more m.
       by (eqb m.place i)
@@ -113,23 +113,23 @@ module _ (P : ℕ → Target → Type 0) (f w : ℕ → Option Target) (n : ℕ)
   walk_exactly i r = (sound r i, complete r i)
 
   -- where it gives none there is none
-  nowhere : (i : ℕ) → w i ≡ none → (k : ℕ) → i ≤ k → (s : Target) → P k s → ⊥
+  nowhere : (i : ℕ) → w i ≡ None → (k : ℕ) → i ≤ k → (s : Target) → P k s → ⊥
   nowhere =
-      climb (λ (i : ℕ). w i ≡ none → (k : ℕ) → i ≤ k → (s : Target) → P k s → ⊥) n
+      climb (λ (i : ℕ). w i ≡ None → (k : ℕ) → i ≤ k → (s : Target) → P k s → ⊥) n
       (λ i h e k a s p. omega (arith, inside k s p))
       (λ i h more e. go i h more (f i) refl (sym (step i h) ∙ e))
     where
-      go : (i : ℕ) → i < n → (w (i + 1) ≡ none → (k : ℕ) → i + 1 ≤ k → (s : Target) → P k s → ⊥) → (o : Option Target) → f i ≡ o
-          → or_else (f i) (w (i + 1)) ≡ none
+      go : (i : ℕ) → i < n → (w (i + 1) ≡ None → (k : ℕ) → i + 1 ≤ k → (s : Target) → P k s → ⊥) → (o : Option Target) → f i ≡ o
+          → or_else (f i) (w (i + 1)) ≡ None
           → (k : ℕ) → i ≤ k → (s : Target) → P k s → ⊥
-      go i h more none e m k a s p =
+      go i h more None e m k a s p =
           by (eqb k i)
           (λ q. let z = eqb-true k i q in some_none (f i) s ((here i h s).1 (rw z at p)) e)
           (λ q. more (sym (else_next (f i) (w (i + 1)) e) ∙ m) k (omega (arith, eqb-false k i q)) s p)
-      go i h more (some r) e m k a s p =
+      go i h more (Some r) e m k a s p =
           some_none (or_else (f i) (w (i + 1))) r (else_first (f i) (w (i + 1)) r e) m
 
-  pub walk_none : (w 0 ≡ none) ↔ NoPlace P
+  pub walk_none : (w 0 ≡ None) ↔ NoPlace P
   walk_none = (
     (λ e k s p. nowhere 0 e k (omega arith) s p),
     (λ no. (none_exactly (walk_exactly 0)).1 (λ r m. no m.place r m.holds)),

@@ -1,4 +1,5 @@
 -- The two yes/no searches in document 01's words: a handler stands somewhere, a dollar literal is left open. Assumes nothing.
+use Rattle.std.specs.Prelude.{Option, Some, None}
 use mathlib.Core.Path.{◌≡◌, refl, sym, ap, ◌∙◌}
 use mathlib.Core.Bool.{Bool, true, false, ◌&&◌, false≢true}
 use mathlib.Core.List.{List, [], ◌∷◌, map}
@@ -17,8 +18,6 @@ use Rattle.spec.specs.Lists.{any}
 use Rattle.spec.specs.Spans.{Lexeme, lexemes}
 use Rattle.spec.specs.Map.{Marked, byte, marked_text, bytes}
 use Rattle.spec.specs.Search.{first, starts_ignoring_case, keyword_here, next_word, word_text, is_found, is_unclosed, has_unterminated_dollar_quote, is_word_text, handler_here, has_exception_handler}
-use Rattle.spec.specs.declared.Found.{Found}
-use Rattle.spec.specs.declared.Found.TheVariants.{At, Nothing}
 use Rattle.spec.specs.declared.DollarQuoted.{DollarQuoted}
 use Rattle.spec.specs.declared.Span.{Span}
 use Rattle.spec.specs.declared.Span.TheVariants.{Verbatim, Dollar, Code}
@@ -80,17 +79,17 @@ pub handler_found : (xs : List ℕ) → has_exception_handler xs ≡ true → (j
 unfolding has_exception_handler
 handler_found xs h = go (first handler_here 0 (marked_text xs)) refl h
   where
-    go : (f : Found) → first handler_here 0 (marked_text xs) ≡ f → is_found f ≡ true → (j : ℕ) × IsHandlerAt xs j
-    go (At j) e q = (j, (found_least handler_here (marked_text xs) (IsHandlerAt xs) (handler_says xs) 0 j e).holds)
-    go Nothing e q = absurd (false≢true q)
+    go : (f : Option ℕ) → first handler_here 0 (marked_text xs) ≡ f → is_found f ≡ true → (j : ℕ) × IsHandlerAt xs j
+    go (Some j) e q = (j, (found_least handler_here (marked_text xs) (IsHandlerAt xs) (handler_says xs) 0 j e).holds)
+    go None e q = absurd (false≢true q)
 
 pub found_handler : (xs : List ℕ) (j : ℕ) → IsHandlerAt xs j → has_exception_handler xs ≡ true
 unfolding has_exception_handler
 found_handler xs j r = go (first handler_here 0 (marked_text xs)) refl
   where
-    go : (f : Found) → first handler_here 0 (marked_text xs) ≡ f → is_found f ≡ true
-    go (At k) e = refl
-    go Nothing e = absurd (found_none handler_here (marked_text xs) (IsHandlerAt xs) (handler_says xs) 0 e j zero-le r)
+    go : (f : Option ℕ) → first handler_here 0 (marked_text xs) ≡ f → is_found f ≡ true
+    go (Some k) e = refl
+    go None e = absurd (found_none handler_here (marked_text xs) (IsHandlerAt xs) (handler_says xs) 0 e j zero-le r)
 
 -- ---- `has_unterminated_dollar_quote`
 

@@ -1,9 +1,9 @@
 -- How long the results of passes 1 to 3 can be, and the lengths of pieces. A text is weighed byte by byte: a `'` as 2, every
 -- other byte as some n. Assumes nothing.
+use Rattle.std.specs.Prelude.{Option, Some, None}
 use mathlib.Core.Path.{◌≡◌, refl, sym, ap, ◌∙◌, subst}
 use mathlib.Core.Bool.{Bool, true, false, cond, not, ◌&&◌, false≢true}
 use mathlib.Core.List.{List, [], ◌∷◌, ◌++◌, map, reverse, reverse_aux}
-use mathlib.Core.Option.{Option, none, some}
 use Prim.Native.Nat.{ℕ, zero, suc, ◌+◌, ◌-◌, ◌*◌, ◌≤◌, ◌<◌, zero-le, suc-le-suc}
 use native.Mathlib.Nat.{add-zero, zero-add, add-suc, suc-add}
 use native.Mathlib.Omega.{arith}
@@ -30,8 +30,6 @@ use Rattle.spec.specs.Assignments.{Target, assign_here, right_side, starts_name,
 use Rattle.spec.specs.Parts.{trim_end, trim}
 use Rattle.spec.specs.Body.{buffer_size, requote_pass, elsif_pass, assign_pass, limited, and_then}
 use Rattle.spec.specs.Answers.{text_limit}
-use Rattle.spec.specs.declared.Found.{Found}
-use Rattle.spec.specs.declared.Found.TheVariants.{At, Nothing}
 
 -- ---- pass 1
 
@@ -316,8 +314,8 @@ split_sum xs b =
 -- ---- pass 3
 
 -- what holds of every place that passes the test, and of none, holds of a search's answer
-first_from_lem : (p : Test) (P : Found → Type 0) (back t : List Marked)
-    → ((j : ℕ) → p (reverse_aux (take j t) back) (drop j t) ≡ true → P (At (length back + j))) → P Nothing
+first_from_lem : (p : Test) (P : Option ℕ → Type 0) (back t : List Marked)
+    → ((j : ℕ) → p (reverse_aux (take j t) back) (drop j t) ≡ true → P (Some (length back + j))) → P None
     → P (first_from p back t)
 unfolding first_from
 first_from_lem p P back [] h n = n
@@ -325,12 +323,12 @@ first_from_lem p P back (x ∷ t) h n =
     cond_case P (p back (x ∷ t)) _ _
     (λ e. rw add-zero at (h 0 e))
     (λ _. first_from_lem p P (x ∷ back) t
-    (λ j e. subst (λ (m : ℕ). P (At m)) (add-suc (length back) j ∙ sym (suc-add (length back) j)) (h (suc j) e)) n)
+    (λ j e. subst (λ (m : ℕ). P (Some m)) (add-suc (length back) j ∙ sym (suc-add (length back) j)) (h (suc j) e)) n)
 
-pub first_case : (p : Test) (P : Found → Type 0) (t : List Marked)
-    → ((j : ℕ) → p (reverse (take j t)) (drop j t) ≡ true → P (At j)) → P Nothing → P (first p 0 t)
+pub first_case : (p : Test) (P : Option ℕ → Type 0) (t : List Marked)
+    → ((j : ℕ) → p (reverse (take j t)) (drop j t) ≡ true → P (Some j)) → P None → P (first p 0 t)
 unfolding first
-first_case p P t h n = first_from_lem p P [] t (λ j e. subst (λ (m : ℕ). P (At m)) (sym (zero-add j)) (h j e)) n
+first_case p P t h n = first_from_lem p P [] t (λ j e. subst (λ (m : ℕ). P (Some m)) (sym (zero-add j)) (h j e)) n
 
 ident_other : (c : ℕ) → is_ident c ≡ true → eqb c 39 ≡ false
 ident_other c h =
@@ -423,8 +421,8 @@ unfolding statement checked_statement
 statement_weight t = go (statement_target t)
   where
     go : (r : Option Target) → 2 * length (text_of (checked_statement r t)) ≤ total (mark_weight 5) t + 1
-    go none = assignment_weight t
-    go (some r) = omega arith
+    go None = assignment_weight t
+    go (Some r) = omega arith
 
 -- a `;` weighs 3 more than twice its length, so only the last statement may add 1 to the weight
 join_weight : (s : List Marked) (ss : List (List Marked))
@@ -536,8 +534,8 @@ pub assign_not_long : (xs : List ℕ) → assign_pass xs ≡ refused result_too_
 assign_not_long xs h = go (target_in xs) refl
   where
     go : (o : Option Target) → target_in xs ≡ o → ⊥
-    go none e = let f = assign_done xs e in apart (cc)
-    go (some r) e = let f = assign_refused xs r e in apart (cc)
+    go None e = let f = assign_done xs e in apart (cc)
+    go (Some r) e = let f = assign_refused xs r e in apart (cc)
 
 -- on a text within the limit passes 1 to 3 never give refusal 6
 pub three_not_long : (xs : List ℕ) → length xs ≤ text_limit

@@ -1,5 +1,6 @@
 -- Note 10's table in the note's words: 11, 12 and 13 exactly where it says, and the actions of a table exactly those of its
 -- six lines. Assumes nothing.
+use Rattle.std.specs.Prelude.{Result, Ok, Err}
 use mathlib.Core.Path.{◌≡◌, refl, sym, ap, ◌∙◌, subst}
 use mathlib.Core.List.Memᴰ
 use mathlib.Core.List.{List, [], ◌∷◌, ◌++◌, append-nil, reverse, Memᴰ}
@@ -13,10 +14,9 @@ use Rattle.spec.specs.Raise.{action_of}
 use Rattle.spec.specs.Levels.{Entry, line_text, lines_of, or_repeated, table_end, table_from, table_of}
 use Rattle.spec.specs.declared.Level.{Level}
 use Rattle.spec.specs.declared.Level.TheVariants.{Debug, Log, Info, Notice, Warning, Exception}
-use Rattle.spec.specs.declared.Actions.{Actions}
+use Rattle.spec.specs.Raise.{Actions}
 use Rattle.spec.specs.declared.Refusal.TheVariants.{TextTooLong, NotAscii, BufferTooShort, QualifiedTarget, UsingClause, ResultTooLong, TooManyNames, MalformedLine, RepeatedLevel, MissingLevel}
-use Rattle.spec.specs.declared.Table.{Table}
-use Rattle.spec.specs.declared.Table.TheVariants.{Given, Refused}
+use Rattle.spec.specs.declared.Refusal.{Refusal}
 
 -- ---- the note's words
 
@@ -58,37 +58,37 @@ pub record HasActions (xs : List ℕ) (a : Actions) : Type 0 where
   pub actions : (e : Entry) → Memᴰ e lines → action_of a e.level ≡ e.action
 
 -- what a table says, in these words; it has no other refusal
-abbrev pub Says : List ℕ → Table → Type 0
-Says xs (Given a) = HasActions xs a
-Says xs (Refused (MalformedLine i)) = HasMalformedLine xs i
-Says xs (Refused (RepeatedLevel i)) = HasRepeatedLevel xs i
-Says xs (Refused (MissingLevel i)) = HasMissingLevel xs i
-Says xs (Refused TextTooLong) = ⊥
-Says xs (Refused (NotAscii i)) = ⊥
-Says xs (Refused BufferTooShort) = ⊥
-Says xs (Refused (QualifiedTarget q n)) = ⊥
-Says xs (Refused (UsingClause n)) = ⊥
-Says xs (Refused ResultTooLong) = ⊥
-Says xs (Refused TooManyNames) = ⊥
+abbrev pub Says : List ℕ → Result Actions Refusal → Type 0
+Says xs (Ok a) = HasActions xs a
+Says xs (Err (MalformedLine i)) = HasMalformedLine xs i
+Says xs (Err (RepeatedLevel i)) = HasRepeatedLevel xs i
+Says xs (Err (MissingLevel i)) = HasMissingLevel xs i
+Says xs (Err TextTooLong) = ⊥
+Says xs (Err (NotAscii i)) = ⊥
+Says xs (Err BufferTooShort) = ⊥
+Says xs (Err (QualifiedTarget q n)) = ⊥
+Says xs (Err (UsingClause n)) = ⊥
+Says xs (Err ResultTooLong) = ⊥
+Says xs (Err TooManyNames) = ⊥
 
 -- a proof by the four
-pub by_words : (xs : List ℕ) (P : Table → Type 0)
-    → ((a : Actions) → HasActions xs a → P (Given a))
-    → ((i : ℕ) → HasMalformedLine xs i → P (Refused (MalformedLine i)))
-    → ((i : ℕ) → HasRepeatedLevel xs i → P (Refused (RepeatedLevel i)))
-    → ((i : ℕ) → HasMissingLevel xs i → P (Refused (MissingLevel i)))
-    → (t : Table) → Says xs t → P t
-by_words xs P g m r l (Given a) w = g a w
-by_words xs P g m r l (Refused (MalformedLine i)) w = m i w
-by_words xs P g m r l (Refused (RepeatedLevel i)) w = r i w
-by_words xs P g m r l (Refused (MissingLevel i)) w = l i w
-by_words xs P g m r l (Refused TextTooLong) w = absurd w
-by_words xs P g m r l (Refused (NotAscii i)) w = absurd w
-by_words xs P g m r l (Refused BufferTooShort) w = absurd w
-by_words xs P g m r l (Refused (QualifiedTarget q n)) w = absurd w
-by_words xs P g m r l (Refused (UsingClause n)) w = absurd w
-by_words xs P g m r l (Refused ResultTooLong) w = absurd w
-by_words xs P g m r l (Refused TooManyNames) w = absurd w
+pub by_words : (xs : List ℕ) (P : Result Actions Refusal → Type 0)
+    → ((a : Actions) → HasActions xs a → P (Ok a))
+    → ((i : ℕ) → HasMalformedLine xs i → P (Err (MalformedLine i)))
+    → ((i : ℕ) → HasRepeatedLevel xs i → P (Err (RepeatedLevel i)))
+    → ((i : ℕ) → HasMissingLevel xs i → P (Err (MissingLevel i)))
+    → (t : Result Actions Refusal) → Says xs t → P t
+by_words xs P g m r l (Ok a) w = g a w
+by_words xs P g m r l (Err (MalformedLine i)) w = m i w
+by_words xs P g m r l (Err (RepeatedLevel i)) w = r i w
+by_words xs P g m r l (Err (MissingLevel i)) w = l i w
+by_words xs P g m r l (Err TextTooLong) w = absurd w
+by_words xs P g m r l (Err (NotAscii i)) w = absurd w
+by_words xs P g m r l (Err BufferTooShort) w = absurd w
+by_words xs P g m r l (Err (QualifiedTarget q n)) w = absurd w
+by_words xs P g m r l (Err (UsingClause n)) w = absurd w
+by_words xs P g m r l (Err ResultTooLong) w = absurd w
+by_words xs P g m r l (Err TooManyNames) w = absurd w
 
 -- ---- where these words hold, the table says so
 
@@ -102,15 +102,15 @@ lines_alone es d =
     ∙ (read_lines es [] d ∙ ap (λ ls. table_from (reverse es) (length (table_text es)) ls) no_lines)
 
 module _ (xs : List ℕ) where
-  malformed_says : (i : ℕ) → HasMalformedLine xs i → table_of xs ≡ Refused (MalformedLine i)
+  malformed_says : (i : ℕ) → HasMalformedLine xs i → table_of xs ≡ Err (MalformedLine i)
   malformed_says i w =
       let n = length (table_text w.before) in
       ap table_of w.parts
       ∙ (read_lines w.before w.rest w.different
       ∙ (from_malformed (reverse w.before) n w.rest w.not_empty w.bad
-      ∙ ap (λ (k : ℕ). Refused (MalformedLine k)) (sym w.place)))
+      ∙ ap (λ (k : ℕ). Err (MalformedLine k)) (sym w.place)))
 
-  repeated_says : (i : ℕ) → HasRepeatedLevel xs i → table_of xs ≡ Refused (RepeatedLevel i)
+  repeated_says : (i : ℕ) → HasRepeatedLevel xs i → table_of xs ≡ Err (RepeatedLevel i)
   repeated_says i w =
       let es = reverse w.before in
       let n = length (table_text w.before) in
@@ -120,9 +120,9 @@ module _ (xs : List ℕ) where
       ∙ (read_lines w.before (line_text w.line ++ w.rest) w.different
       ∙ (from_text_lem es n w.line w.rest
       ∙ (ap (λ o. or_repeated n o next) given.1
-      ∙ ap (λ (k : ℕ). Refused (RepeatedLevel k)) (sym w.place))))
+      ∙ ap (λ (k : ℕ). Err (RepeatedLevel k)) (sym w.place))))
 
-  missing_says : (i : ℕ) → HasMissingLevel xs i → table_of xs ≡ Refused (MissingLevel i)
+  missing_says : (i : ℕ) → HasMissingLevel xs i → table_of xs ≡ Err (MissingLevel i)
   missing_says i w =
       let size : length (table_text w.lines) ≡ i = ap length (sym w.parts) ∙ sym w.place in
       ap table_of w.parts
@@ -131,32 +131,32 @@ module _ (xs : List ℕ) where
       (λ g. absurd (w.missing (entry w.level (action_of g.0 w.level), (reverse_lines w.lines _).0 (given_line (reverse w.lines) w.level _ (g.1 w.level)), refl)))
       (λ m. m.2)
       (end_cases (reverse w.lines) (length (table_text w.lines)))
-      ∙ ap (λ (k : ℕ). Refused (MissingLevel k)) size))
+      ∙ ap (λ (k : ℕ). Err (MissingLevel k)) size))
 
-  given_says : (a : Actions) → HasActions xs a → table_of xs ≡ Given a
+  given_says : (a : Actions) → HasActions xs a → table_of xs ≡ Ok a
   given_says a w =
       let es = reverse w.lines in
       ap table_of w.parts
       ∙ (lines_alone w.lines w.different
       ∙ ⊎_elim
-      (λ g. g.2 ∙ ap Given (same_actions g.0 a (λ l. sym (w.actions (entry l (action_of g.0 l)) ((reverse_lines w.lines _).0 (given_line es l _ (g.1 l)))))))
+      (λ g. g.2 ∙ ap Ok (same_actions g.0 a (λ l. sym (w.actions (entry l (action_of g.0 l)) ((reverse_lines w.lines _).0 (given_line es l _ (g.1 l)))))))
       (λ m. absurd (none_given es m.0 m.1 (stands_reversed w.lines m.0 (w.complete m.0))))
       (end_cases es (length (table_text w.lines))))
     where
       same_actions : (a b : Actions) → ((l : Level) → action_of a l ≡ action_of b l) → a ≡ b
       same_actions a b h = λ i. record { debug = h Debug i; log = h Log i; info = h Info i; notice = h Notice i; warning = h Warning i; exception = h Exception i }
 
-  says_sound : (t : Table) → Says xs t → table_of xs ≡ t
+  says_sound : (t : Result Actions Refusal) → Says xs t → table_of xs ≡ t
   says_sound = by_words xs (λ t. table_of xs ≡ t) given_says malformed_says repeated_says missing_says
 
   -- ---- and of each table some of these words hold
 
-  ended : (es : List Entry) → xs ≡ table_text es → Different es → (t : Table) × Says xs t
+  ended : (es : List Entry) → xs ≡ table_text es → Different es → (t : Result Actions Refusal) × Says xs t
   ended es p d =
       ⊎_elim
       (λ g.
       let line : (l : Level) → Memᴰ (entry l (action_of g.0 l)) es = λ l. (reverse_lines es _).0 (given_line (reverse es) l _ (g.1 l)) in (
-        Given g.0,
+        Ok g.0,
         record {
           lines = es;
           parts = p;
@@ -166,7 +166,7 @@ module _ (xs : List ℕ) where
         },
       ))
       (λ m. (
-        Refused (MissingLevel (length xs)),
+        Err (MissingLevel (length xs)),
         record {
           lines = es;
           parts = p;
@@ -178,14 +178,14 @@ module _ (xs : List ℕ) where
       ))
       (end_cases (reverse es) (length (table_text es)))
 
-  by_ending : (es : List Entry) (rest : List ℕ) → xs ≡ table_text es ++ rest → Different es → Ending es [] rest → (t : Table) × Says xs t
+  by_ending : (es : List Entry) (rest : List ℕ) → xs ≡ table_text es ++ rest → Different es → Ending es [] rest → (t : Result Actions Refusal) × Says xs t
   by_ending es rest p d (finished z) = ended es (p ∙ (ap (λ (l : List ℕ). table_text es ++ l) z ∙ append-nil (table_text es))) d
   by_ending es rest p d (malformed n w) = (
-    Refused (MalformedLine (length (table_text es))),
+    Err (MalformedLine (length (table_text es))),
     record { before = es; rest = rest; parts = p; different = d; not_empty = n; bad = w; place = refl },
   )
   by_ending es rest p d (repeats e more q s) = (
-    Refused (RepeatedLevel (length (table_text es))),
+    Err (RepeatedLevel (length (table_text es))),
     record {
       before = es;
       line = e;
@@ -197,24 +197,24 @@ module _ (xs : List ℕ) where
     },
   )
 
-  says_some : (t : Table) × Says xs t
+  says_some : (t : Result Actions Refusal) × Says xs t
   says_some = let r = reading xs in by_ending r.before r.rest r.parts r.different r.ending
 
   -- ---- so a table says exactly what these words say of it
 
-  pub table_exactly : (t : Table) → (table_of xs ≡ t) ↔ Says xs t
+  pub table_exactly : (t : Result Actions Refusal) → (table_of xs ≡ t) ↔ Says xs t
   table_exactly t = ((λ h. subst (Says xs) (sym (says_sound says_some.0 says_some.1) ∙ h) says_some.1), says_sound t)
 
   -- 11, 12 and 13
-  pub malformed_line_exactly : (i : ℕ) → (table_of xs ≡ Refused (MalformedLine i)) ↔ HasMalformedLine xs i
-  malformed_line_exactly i = table_exactly (Refused (MalformedLine i))
+  pub malformed_line_exactly : (i : ℕ) → (table_of xs ≡ Err (MalformedLine i)) ↔ HasMalformedLine xs i
+  malformed_line_exactly i = table_exactly (Err (MalformedLine i))
 
-  pub repeated_level_exactly : (i : ℕ) → (table_of xs ≡ Refused (RepeatedLevel i)) ↔ HasRepeatedLevel xs i
-  repeated_level_exactly i = table_exactly (Refused (RepeatedLevel i))
+  pub repeated_level_exactly : (i : ℕ) → (table_of xs ≡ Err (RepeatedLevel i)) ↔ HasRepeatedLevel xs i
+  repeated_level_exactly i = table_exactly (Err (RepeatedLevel i))
 
-  pub missing_level_exactly : (i : ℕ) → (table_of xs ≡ Refused (MissingLevel i)) ↔ HasMissingLevel xs i
-  missing_level_exactly i = table_exactly (Refused (MissingLevel i))
+  pub missing_level_exactly : (i : ℕ) → (table_of xs ≡ Err (MissingLevel i)) ↔ HasMissingLevel xs i
+  missing_level_exactly i = table_exactly (Err (MissingLevel i))
 
   -- and accepted
-  pub actions_exactly : (a : Actions) → (table_of xs ≡ Given a) ↔ HasActions xs a
-  actions_exactly a = table_exactly (Given a)
+  pub actions_exactly : (a : Actions) → (table_of xs ≡ Ok a) ↔ HasActions xs a
+  actions_exactly a = table_exactly (Ok a)

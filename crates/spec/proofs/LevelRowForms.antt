@@ -1,15 +1,17 @@
 -- How a row of Note 10 is written down. Assumes nothing.
+use Rattle.std.specs.Prelude.{Result}
 use Prim.Native.Nat.{ℕ}
 use Prim.Native.String.{String}
 use mathlib.Core.List.{List, ◌++◌}
 use Rattle.spec.specs.Bytes.{ascii}
 use Rattle.spec.specs.Levels.{table_of}
 use Rattle.spec.specs.Answers.{by_table, body_result, function_result}
-use Rattle.spec.specs.declared.Table.{Table}
 use Rattle.spec.proofs.RowForms.{Row, result_row, tabled}
+use Rattle.spec.specs.declared.Refusal.{Refusal}
+use Rattle.spec.specs.Raise.{Actions}
 
 -- what a table says
-abbrev pub table : String → Table
+abbrev pub table : String → Result Actions Refusal
 table s = table_of (ascii s)
 
 -- the table with these actions for DEBUG, LOG, INFO, NOTICE, WARNING and EXCEPTION

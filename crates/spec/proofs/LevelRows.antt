@@ -1,4 +1,5 @@
 -- Rows for Note 10, each by computation: what a table says, and bodies under a table. Assumes nothing.
+use Rattle.std.specs.Prelude.{Ok, Err}
 use mathlib.Core.Path.{◌≡◌, refl}
 use mathlib.Core.Bool.{true}
 use mathlib.Core.List.{List, []}
@@ -11,87 +12,86 @@ use Rattle.spec.specs.Declarations.{records_of, record_limit}
 use Rattle.spec.specs.Answers.{without_records, function_result, by_table}
 use Rattle.spec.specs.declared.RaiseType.TheVariants.{Abort, Fail, Rollback}
 use Rattle.spec.specs.declared.Action.TheVariants.{Drop, Raise}
-use Rattle.spec.specs.declared.Actions.{Actions}
+use Rattle.spec.specs.Raise.{Actions}
 use Rattle.spec.specs.declared.Refusal.{Refusal}
 use Rattle.spec.specs.declared.Refusal.TheVariants.{TooManyNames, MalformedLine, RepeatedLevel, MissingLevel}
-use Rattle.spec.specs.declared.Table.TheVariants.{Given, Refused}
 use Rattle.spec.proofs.RowForms.{row}
 use Rattle.spec.proofs.LevelRowForms.{table, levels, body_by, function_by, levelled}
 
 -- ---- 11: a malformed line
 
 -- the last line without a newline
-no_newline : table "DEBUG drop\nLOG drop" ≡ Refused (MalformedLine 11)
+no_newline : table "DEBUG drop\nLOG drop" ≡ Err (MalformedLine 11)
 unfolding levelled
 no_newline = refl
 
-empty_line : table "DEBUG drop\n\nLOG drop\n" ≡ Refused (MalformedLine 11)
+empty_line : table "DEBUG drop\n\nLOG drop\n" ≡ Err (MalformedLine 11)
 unfolding levelled
 empty_line = refl
 
-carriage_return : table "DEBUG drop\r\n" ≡ Refused (MalformedLine 0)
+carriage_return : table "DEBUG drop\r\n" ≡ Err (MalformedLine 0)
 unfolding levelled
 carriage_return = refl
 
-high_byte : table "LOG drop\nDEBUG dröp\n" ≡ Refused (MalformedLine 9)
+high_byte : table "LOG drop\nDEBUG dröp\n" ≡ Err (MalformedLine 9)
 unfolding levelled
 high_byte = refl
 
-lower_case_level : table "debug drop\n" ≡ Refused (MalformedLine 0)
+lower_case_level : table "debug drop\n" ≡ Err (MalformedLine 0)
 unfolding levelled
 lower_case_level = refl
 
-capital_action : table "LOG drop\nDEBUG Drop\n" ≡ Refused (MalformedLine 9)
+capital_action : table "LOG drop\nDEBUG Drop\n" ≡ Err (MalformedLine 9)
 unfolding levelled
 capital_action = refl
 
-two_spaces : table "DEBUG  drop\n" ≡ Refused (MalformedLine 0)
+two_spaces : table "DEBUG  drop\n" ≡ Err (MalformedLine 0)
 unfolding levelled
 two_spaces = refl
 
-space_behind : table "DEBUG drop \n" ≡ Refused (MalformedLine 0)
+space_behind : table "DEBUG drop \n" ≡ Err (MalformedLine 0)
 unfolding levelled
 space_behind = refl
 
-longer_level : table "INFOS drop\n" ≡ Refused (MalformedLine 0)
+longer_level : table "INFOS drop\n" ≡ Err (MalformedLine 0)
 unfolding levelled
 longer_level = refl
 
 -- malformed, and its level stands before
-malformed_and_repeated : table "DEBUG drop\nDEBUG drops\n" ≡ Refused (MalformedLine 11)
+malformed_and_repeated : table "DEBUG drop\nDEBUG drops\n" ≡ Err (MalformedLine 11)
 unfolding levelled
 malformed_and_repeated = refl
 
 -- ---- 12: a level given twice
 
 -- what stands behind the bad line does not matter
-repeated : table "DEBUG drop\nDEBUG drop\nx" ≡ Refused (RepeatedLevel 11)
+repeated : table "DEBUG drop\nDEBUG drop\nx" ≡ Err (RepeatedLevel 11)
 unfolding levelled
 repeated = refl
 
 -- with another action too
-repeated_otherwise : table "DEBUG drop\nLOG fail\nDEBUG abort\n" ≡ Refused (RepeatedLevel 20)
+repeated_otherwise : table "DEBUG drop\nLOG fail\nDEBUG abort\n" ≡ Err (RepeatedLevel 20)
 unfolding levelled
 repeated_otherwise = refl
 
-seven_lines : table "DEBUG drop\nLOG drop\nINFO drop\nNOTICE drop\nWARNING drop\nEXCEPTION abort\nEXCEPTION abort\n" ≡ Refused (RepeatedLevel 71)
+seven_lines : table "DEBUG drop\nLOG drop\nINFO drop\nNOTICE drop\nWARNING drop\nEXCEPTION abort\nEXCEPTION abort\n" ≡ Err (RepeatedLevel 71)
 unfolding levelled
 seven_lines = refl
 
 -- ---- 13: a level missing
 
-empty : table "" ≡ Refused (MissingLevel 0)
+empty : table "" ≡ Err (MissingLevel 0)
 unfolding levelled
 empty = refl
 
-five_levels : table "DEBUG drop\nLOG drop\nINFO drop\nNOTICE drop\nWARNING drop\n" ≡ Refused (MissingLevel 55)
+five_levels : table "DEBUG drop\nLOG drop\nINFO drop\nNOTICE drop\nWARNING drop\n" ≡ Err (MissingLevel 55)
 unfolding levelled
 five_levels = refl
 
 -- ---- accepted
 
 -- in another order, each action once at least
-other_order : table "EXCEPTION rollback\nINFO fail\nDEBUG drop\nWARNING abort\nLOG drop\nNOTICE fail\n" ≡ Given (record { debug = Drop; log = Drop; info = Raise Fail; notice = Raise Fail; warning = Raise Abort; exception = Raise Rollback })
+other_order : table "EXCEPTION rollback\nINFO fail\nDEBUG drop\nWARNING abort\nLOG drop\nNOTICE fail\n" ≡ Ok (record { debug = Drop; log = Drop; info = Raise Fail; notice = Raise Fail; warning = Raise Abort; exception = Raise Rollback })
 unfolding levelled
 other_order = refl
 
@@ -167,10 +167,10 @@ unfolding levelled
 missing_before_target = refl
 
 -- before 7 too, of any text
-before_names : (r : Refusal) (xs : List ℕ) → by_table (Refused r) (function_result xs) ≡ without_records r []
+before_names : (r : Refusal) (xs : List ℕ) → by_table (Err r) (function_result xs) ≡ without_records r []
 before_names r xs = refl
 
 -- and an accepted table leaves 7 as it is
-names_refused : (a : Actions) (xs : List ℕ) → ltb record_limit (length (records_of xs)) ≡ true → by_table (Given a) (function_result xs) ≡ without_records TooManyNames []
+names_refused : (a : Actions) (xs : List ℕ) → ltb record_limit (length (records_of xs)) ≡ true → by_table (Ok a) (function_result xs) ≡ without_records TooManyNames []
 unfolding function_result
 names_refused a xs h = rw h

@@ -1,10 +1,10 @@
 -- The lines of a table: which lines are well formed, that a well-formed line in front of a text is its first line, and what
 -- the table says by its first line. Assumes nothing.
+use Rattle.std.specs.Prelude.{Option, Some, None, Err}
 use mathlib.Core.Path.{◌≡◌, refl, sym, ap, ◌∙◌}
 use mathlib.Core.Bool.{Bool, true, false, not, ◌&&◌, false≢true}
 use mathlib.Core.List.{List, [], ◌∷◌, ◌++◌}
 use mathlib.Core.Logic.{◌↔◌}
-use mathlib.Core.Option.{Option, none, some}
 use Prim.Native.Nat.{ℕ, suc, ◌+◌, ◌≤◌, ◌<◌}
 use native.Mathlib.Omega.{arith}
 use borrow.Author.Tests.{not-true, ltb-true, leb-true}
@@ -25,7 +25,6 @@ use Rattle.spec.specs.declared.RaiseType.TheVariants.{Abort, Fail, Rollback}
 use Rattle.spec.specs.declared.Action.{Action}
 use Rattle.spec.specs.declared.Action.TheVariants.{Drop, Raise}
 use Rattle.spec.specs.declared.Refusal.TheVariants.{MalformedLine}
-use Rattle.spec.specs.declared.Table.TheVariants.{Refused}
 
 -- ---- well-formed lines
 
@@ -41,28 +40,28 @@ each_action P d a f r (Raise Fail) = f
 each_action P d a f r (Raise Rollback) = r
 
 -- the line of a level and an action says them
-said : (l : Level) (a : Action) → entry_of (line_text (entry l a)) ≡ some (entry l a)
+said : (l : Level) (a : Action) → entry_of (line_text (entry l a)) ≡ Some (entry l a)
 unfolding entry_of entry_in all_entries all_levels all_actions concat line_text level_name action_name is_same
-said Debug = each_action (λ a. entry_of (line_text (entry Debug a)) ≡ some (entry Debug a)) refl refl refl refl
-said Log = each_action (λ a. entry_of (line_text (entry Log a)) ≡ some (entry Log a)) refl refl refl refl
-said Info = each_action (λ a. entry_of (line_text (entry Info a)) ≡ some (entry Info a)) refl refl refl refl
-said Notice = each_action (λ a. entry_of (line_text (entry Notice a)) ≡ some (entry Notice a)) refl refl refl refl
-said Warning = each_action (λ a. entry_of (line_text (entry Warning a)) ≡ some (entry Warning a)) refl refl refl refl
-said Exception = each_action (λ a. entry_of (line_text (entry Exception a)) ≡ some (entry Exception a)) refl refl refl refl
+said Debug = each_action (λ a. entry_of (line_text (entry Debug a)) ≡ Some (entry Debug a)) refl refl refl refl
+said Log = each_action (λ a. entry_of (line_text (entry Log a)) ≡ Some (entry Log a)) refl refl refl refl
+said Info = each_action (λ a. entry_of (line_text (entry Info a)) ≡ Some (entry Info a)) refl refl refl refl
+said Notice = each_action (λ a. entry_of (line_text (entry Notice a)) ≡ Some (entry Notice a)) refl refl refl refl
+said Warning = each_action (λ a. entry_of (line_text (entry Warning a)) ≡ Some (entry Warning a)) refl refl refl refl
+said Exception = each_action (λ a. entry_of (line_text (entry Exception a)) ≡ Some (entry Exception a)) refl refl refl refl
 
-written : (es : List Entry) (line : List ℕ) (e : Entry) → entry_in es line ≡ some e → line ≡ line_text e
+written : (es : List Entry) (line : List ℕ) (e : Entry) → entry_in es line ≡ Some e → line ≡ line_text e
 unfolding entry_in
 written [] line e h = absurd (apart (cc))
 written (f ∷ es) line e h =
     by (is_same (line_text f) line)
     (λ q.
-    let k : some f ≡ some e = rw q at h in
+    let k : Some f ≡ Some e = rw q at h in
     let i : f ≡ e = cc in
     sym (same_eq (line_text f) line q) ∙ ap line_text i)
-    (λ q. let k : entry_in es line ≡ some e = rw q at h in written es line e k)
+    (λ q. let k : entry_in es line ≡ Some e = rw q at h in written es line e k)
 
 -- a line says e exactly if it is e's text
-pub entry_exactly : (line : List ℕ) (e : Entry) → (entry_of line ≡ some e) ↔ (line ≡ line_text e)
+pub entry_exactly : (line : List ℕ) (e : Entry) → (entry_of line ≡ Some e) ↔ (line ≡ line_text e)
 unfolding entry_of
 entry_exactly line e = (written all_entries line e, λ h. ap entry_of h ∙ said e.level e.action)
 
@@ -74,26 +73,26 @@ text_injective e f h =
     cc
 
 -- a line is malformed exactly if it is the text of no entry
-pub no_entry_exactly : (line : List ℕ) → (entry_of line ≡ none) ↔ ((e : Entry) → line ≡ line_text e → ⊥)
+pub no_entry_exactly : (line : List ℕ) → (entry_of line ≡ None) ↔ ((e : Entry) → line ≡ line_text e → ⊥)
 no_entry_exactly line = (
   (λ h e q. let k = (entry_exactly line e).1 q in apart (cc)),
   (λ h. go h (entry_of line) refl),
 )
   where
-    go : ((e : Entry) → line ≡ line_text e → ⊥) → (o : Option Entry) → entry_of line ≡ o → entry_of line ≡ none
-    go h none q = q
-    go h (some e) q = absurd (h e ((entry_exactly line e).0 q))
+    go : ((e : Entry) → line ≡ line_text e → ⊥) → (o : Option Entry) → entry_of line ≡ o → entry_of line ≡ None
+    go h None q = q
+    go h (Some e) q = absurd (h e ((entry_exactly line e).0 q))
 
-passes : (p : Entry → Bool) (es : List Entry) (line : List ℕ) (e : Entry) → all p es ≡ true → entry_in es line ≡ some e → p e ≡ true
+passes : (p : Entry → Bool) (es : List Entry) (line : List ℕ) (e : Entry) → all p es ≡ true → entry_in es line ≡ Some e → p e ≡ true
 unfolding entry_in all
 passes p [] line e a h = absurd (apart (cc))
 passes p (f ∷ es) line e a h =
     by (is_same (line_text f) line)
     (λ q.
-    let k : some f ≡ some e = rw q at h in
+    let k : Some f ≡ Some e = rw q at h in
     let i : e ≡ f = cc in
     ap p i ∙ and_left (p f) (all p es) a)
-    (λ q. let k : entry_in es line ≡ some e = rw q at h in passes p es line e (and_right (p f) (all p es) a) k)
+    (λ q. let k : entry_in es line ≡ Some e = rw q at h in passes p es line e (and_right (p f) (all p es) a) k)
 
 -- a test that all of the list pass, each level with each action, every entry passes
 pub every_entry : (p : Entry → Bool) → all p all_entries ≡ true → (e : Entry) → p e ≡ true
@@ -198,6 +197,6 @@ module _ (es : List Entry) (n : ℕ) where
       rw (lines_front (line_text e ++ rest) k, first_text e rest, drop-append_seam (line_text e) rest, (entry_exactly (line_text e) e).1 refl)
 
   -- a malformed one: 11
-  pub from_malformed : (xs : List ℕ) → 0 < length xs → ((e : Entry) → first_line xs ≡ line_text e → ⊥) → table_from es n (lines_of xs) ≡ Refused (MalformedLine n)
+  pub from_malformed : (xs : List ℕ) → 0 < length xs → ((e : Entry) → first_line xs ≡ line_text e → ⊥) → table_from es n (lines_of xs) ≡ Err (MalformedLine n)
   unfolding table_from
   from_malformed xs h w = rw (lines_front xs h, (no_entry_exactly (first_line xs)).1 w)

@@ -1,9 +1,9 @@
 -- The third kind of qualified target: the walk over the marking words finds the leftmost one just past a word where no CASE
 -- is open, and none exactly if there is none. Assumes nothing.
+use Rattle.std.specs.Prelude.{Option, Some, None}
 use mathlib.Core.Path.{◌≡◌, refl, sym, ap, ◌∙◌}
 use mathlib.Core.List.{List, ◌∷◌, reverse}
 use mathlib.Core.Logic.{◌↔◌}
-use mathlib.Core.Option.{Option, none, some}
 use Prim.Native.Nat.{ℕ, ◌+◌, ◌≤◌, ◌<◌}
 use native.Mathlib.Numerals.{add-one}
 use native.Mathlib.Omega.{arith}
@@ -71,16 +71,16 @@ module _ (t : List Marked) (k : ℕ) where
   unfolding target_behind target_past
   marked_exactly r = go (met t k) (met_here t k)
     where
-      never : {A : Type 0} → none ≡ some r → A
+      never : {A : Type 0} → None ≡ Some r → A
       never h = absurd (apart (cc))
 
       behind : (m : Marking) → IsMarking m → StandsAt m.word t k
-          → (target_past m.mark (length m.word) (cases t k) (drop k t) ≡ some r) ↔ IsMarkedTarget t k r
+          → (target_past m.mark (length m.word) (cases t k) (drop k t) ≡ Some r) ↔ IsMarkedTarget t k r
       behind _ case s = (never, (λ p. absurd (not_opening _ case s case_other r p)))
       behind _ end s = (never, (λ p. absurd (not_opening _ end s end_other r p)))
       behind _ (opening {w = w} a) s = past w a s r
 
-      go : (o : Option Marking) → Met t k o → (target_behind o (cases t k) (drop k t) ≡ some r) ↔ IsMarkedTarget t k r
+      go : (o : Option Marking) → Met t k o → (target_behind o (cases t k) (drop k t) ≡ Some r) ↔ IsMarkedTarget t k r
       go _ (word m a s) = behind m a s
       go _ (nothing f) = (never, (λ p. absurd (f (marking p.word opens_statement) (opening p.opens) p.stands)))
 
@@ -96,7 +96,7 @@ module _ (t : List Marked) where
   walk : ℕ → Option Target
   walk k = marked_target (cases t k) (front_byte (reverse (take k t))) (drop k t)
 
-  walk_end : (k : ℕ) → length t ≤ k → walk k ≡ none
+  walk_end : (k : ℕ) → length t ≤ k → walk k ≡ None
   unfolding walk marked_target
   walk_end k h = rw (drop_of_length-le t h) refl
 
@@ -117,7 +117,7 @@ module _ (t : List Marked) where
       walk_exactly (IsMarkedTarget t) (marked_at t) walk (length t) walk_end walk_step (λ k h. marked_exactly t k) inside 0
 
   -- none is found exactly if no such place exists
-  pub marked_target_none : (marked_target 0 0 t ≡ none) ↔ NoPlace (IsMarkedTarget t)
+  pub marked_target_none : (marked_target 0 0 t ≡ None) ↔ NoPlace (IsMarkedTarget t)
   unfolding walk cases front_byte
   marked_target_none =
       walk_none (IsMarkedTarget t) (marked_at t) walk (length t) walk_end walk_step (λ k h. marked_exactly t k) inside

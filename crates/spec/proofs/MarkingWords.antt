@@ -1,10 +1,10 @@
 -- The marking words at an offset of a statement, and the CASEs open there: the walk meets the word that stands, whatever the
 -- table's order, and counts as document 01 does. Assumes nothing.
+use Rattle.std.specs.Prelude.{Option, Some, None}
 use mathlib.Core.Path.{◌≡◌, refl, sym, ap, ◌∙◌}
 use mathlib.Core.Bool.{true, cond, false≢true}
 use mathlib.Core.List.{List, reverse}
 use mathlib.Core.Logic.{◌↔◌}
-use mathlib.Core.Option.{Option, none, some}
 use Prim.Native.Nat.{ℕ, zero, suc, ◌+◌, ◌-◌, ◌<◌}
 use native.Mathlib.Omega.{arith}
 use lib.Dec.{eqb}
@@ -94,12 +94,12 @@ met t k = marking_here markings (front_byte (reverse (take k t))) (drop k t)
 
 -- it is the word that stands there, and none where none does
 pub data Met (t : List Marked) (k : ℕ) : Option Marking → Type 0 where
-  word : (m : Marking) → IsMarking m → StandsAt m.word t k → Met t k (some m)
-  nothing : ((m : Marking) → IsMarking m → StandsAt m.word t k → ⊥) → Met t k none
+  word : (m : Marking) → IsMarking m → StandsAt m.word t k → Met t k (Some m)
+  nothing : ((m : Marking) → IsMarking m → StandsAt m.word t k → ⊥) → Met t k None
 
 module _ (t : List Marked) (k : ℕ) where
   next : (m : Marking) (rest : Option Marking) → IsMarking m → ((StandsAt m.word t k → ⊥) → Met t k rest)
-      → Met t k (cond (word_here is_word m.word (front_byte (reverse (take k t))) (drop k t)) (some m) rest)
+      → Met t k (cond (word_here is_word m.word (front_byte (reverse (take k t))) (drop k t)) (Some m) rest)
   next m rest a more =
       cond_case (Met t k) (word_here is_word m.word (front_byte (reverse (take k t))) (drop k t)) _ _
       (λ e. word m a ((word_says t m.word k).0 e))
@@ -128,11 +128,11 @@ module _ (t : List Marked) (k : ℕ) where
       next _ _ (opening loop) (λ f. nothing (λ m. none_stands a b c d e f)))))))
 
   -- so a word that stands there is met
-  met_word : (m : Marking) → IsMarking m → StandsAt m.word t k → met t k ≡ some m
+  met_word : (m : Marking) → IsMarking m → StandsAt m.word t k → met t k ≡ Some m
   met_word m a s = go (met t k) met_here
     where
-      go : (o : Option Marking) → Met t k o → o ≡ some m
-      go _ (word n b u) = ap some (one_marking t k n m b a u s)
+      go : (o : Option Marking) → Met t k o → o ≡ Some m
+      go _ (word n b u) = ap Some (one_marking t k n m b a u s)
       go _ (nothing f) = absurd (f m a s)
 
 -- ---- the open CASEs

@@ -1,4 +1,5 @@
 -- The next word in document 01's words: where it stands, which bytes it has, and that there is none. Assumes nothing.
+use Rattle.std.specs.Prelude.{Some, None}
 use mathlib.Core.Path.{◌≡◌, refl, sym, ap, ◌∙◌}
 use mathlib.Core.Bool.{true, false, cond, ◌&&◌, false≢true}
 use mathlib.Core.List.{List, [], ◌∷◌, map}
@@ -18,7 +19,6 @@ use Rattle.spec.specs.Bytes.{is_word, is_n}
 use Rattle.spec.specs.Lists.{is_empty, take_while, drop_while}
 use Rattle.spec.specs.Map.{Marked, live, byte, mark, map_of, marked, marked_text, bytes}
 use Rattle.spec.specs.Search.{is_skipped, is_word_mark, next_word, word_place, word_text}
-use Rattle.spec.specs.declared.Found.TheVariants.{At, Nothing}
 
 -- ---- `next_word_in_code`
 
@@ -103,13 +103,13 @@ module _ (xs : List ℕ) (i : ℕ) where
       omega (arith, word_length, while_length is_word_mark (drop word_start (marked_text xs)), length-drop word_start (marked_text xs), text_length xs)
 
   -- a nonempty word is found where it starts, and an empty one is none
-  pub word_place_lem : 0 < length (word_text xs i) → word_place xs i ≡ At word_start
+  pub word_place_lem : 0 < length (word_text xs i) → word_place xs i ≡ Some word_start
   unfolding word_place
   word_place_lem h =
       let n : length xs - length (drop word_start (marked_text xs)) ≡ word_start = omega (arith, word_fits h, length-drop word_start (marked_text xs), text_length xs) in
-      rw (empty_test, ne_eqb (length (word_text xs i)) 0 (λ z. omega arith)) (ap At (ap (λ (t : List Marked). length xs - length t) skipped_drop ∙ n))
+      rw (empty_test, ne_eqb (length (word_text xs i)) 0 (λ z. omega arith)) (ap Some (ap (λ (t : List Marked). length xs - length t) skipped_drop ∙ n))
 
-  pub word_nowhere : length (word_text xs i) ≡ 0 → word_place xs i ≡ Nothing
+  pub word_nowhere : length (word_text xs i) ≡ 0 → word_place xs i ≡ None
   unfolding word_place
   word_nowhere h = rw (empty_test, eq-eqb (length (word_text xs i)) 0 h) refl
 
@@ -135,7 +135,7 @@ module _ (xs : List ℕ) (i : ℕ) where
       }
 
   -- where a place is found, the word is nonempty and starts there
-  found_start : (j : ℕ) → word_place xs i ≡ At j → (0 < length (word_text xs i)) × (word_start ≡ j)
+  found_start : (j : ℕ) → word_place xs i ≡ Some j → (0 < length (word_text xs i)) × (word_start ≡ j)
   found_start j e =
       by (eqb (length (word_text xs i)) 0)
       (λ z. apart (word_place xs i) j e (word_nowhere (eqb-true (length (word_text xs i)) 0 z)))
@@ -146,7 +146,7 @@ module _ (xs : List ℕ) (i : ℕ) where
       (h, same))
 
   -- what is found is the next word
-  pub word_found : (j : ℕ) → word_place xs i ≡ At j → IsNextWord xs i j (length (word_text xs i))
+  pub word_found : (j : ℕ) → word_place xs i ≡ Some j → IsNextWord xs i j (length (word_text xs i))
   word_found j e = let p = found_start j e in rw p.1 at (word_next p.0)
 
   start_part : word_text xs i ≡ take (length (word_text xs i)) (drop word_start xs)
@@ -159,11 +159,11 @@ module _ (xs : List ℕ) (i : ℕ) where
       ∙ ap (λ (n : ℕ). take n (drop word_start xs)) (sym word_length)))
 
   -- and it is that part of the text
-  pub word_part_lem : (j : ℕ) → word_place xs i ≡ At j → word_text xs i ≡ take (length (word_text xs i)) (drop j xs)
+  pub word_part_lem : (j : ℕ) → word_place xs i ≡ Some j → word_text xs i ≡ take (length (word_text xs i)) (drop j xs)
   word_part_lem j e = rw (found_start j e).1 at start_part
 
   -- none: the word is empty
-  pub word_empty : word_place xs i ≡ Nothing → word_text xs i ≡ []
+  pub word_empty : word_place xs i ≡ None → word_text xs i ≡ []
   word_empty e =
       by (eqb (length (word_text xs i)) 0)
       (λ z. nil (word_text xs i) (eqb-true (length (word_text xs i)) 0 z))
@@ -174,7 +174,7 @@ module _ (xs : List ℕ) (i : ℕ) where
       nil (x ∷ l) h = absurd (omega arith)
 
   -- a live word byte behind nothing but what is skipped is found
-  pub found_word : (j : ℕ) → i ≤ j → ((k : ℕ) → i ≤ k → k < j → IsSkippedAt xs k) → IsWordByteAt xs j → word_place xs i ≡ At j
+  pub found_word : (j : ℕ) → i ≤ j → ((k : ℕ) → i ≤ k → k < j → IsSkippedAt xs k) → IsWordByteAt xs j → word_place xs i ≡ Some j
   unfolding word_start
   found_word j a s r =
       let t = marked_text xs in
@@ -187,13 +187,13 @@ module _ (xs : List ℕ) (i : ℕ) where
       let same : word_start ≡ j = while_exactly_at is_skipped t (live 0) i j a (omega arith) (λ k b c. skipped_complete xs k (omega arith) (live 0) (s k b c)) (λ _. stop) in
       let w = ap length (while_hit is_word_mark t j (live 0) m (word_byte_complete xs j h (live 0) r)) in
       let n : 0 < length (word_text xs i) = omega (arith, word_length ∙ (ap (λ (k : ℕ). length (take_while is_word_mark (drop k t))) same ∙ w)) in
-      word_place_lem n ∙ ap At same
+      word_place_lem n ∙ ap Some same
 
   -- so none is found exactly if no word byte comes first
-  pub word_none : word_place xs i ≡ Nothing → (j : ℕ) → i ≤ j → ((k : ℕ) → i ≤ k → k < j → IsSkippedAt xs k) → IsWordByteAt xs j → ⊥
+  pub word_none : word_place xs i ≡ None → (j : ℕ) → i ≤ j → ((k : ℕ) → i ≤ k → k < j → IsSkippedAt xs k) → IsWordByteAt xs j → ⊥
   word_none e j a s r = apart (word_place xs i) j (found_word j a s r) e
 
-  pub none_word : ((j : ℕ) → i ≤ j → ((k : ℕ) → i ≤ k → k < j → IsSkippedAt xs k) → IsWordByteAt xs j → ⊥) → word_place xs i ≡ Nothing
+  pub none_word : ((j : ℕ) → i ≤ j → ((k : ℕ) → i ≤ k → k < j → IsSkippedAt xs k) → IsWordByteAt xs j → ⊥) → word_place xs i ≡ None
   none_word r =
       by (eqb (length (word_text xs i)) 0)
       (λ z. word_nowhere (eqb-true (length (word_text xs i)) 0 z))
@@ -202,7 +202,7 @@ module _ (xs : List ℕ) (i : ℕ) where
       absurd (r word_start q.from q.skipped (q.words word_start (omega arith) (omega (arith, q.some)))))
 
   -- a start past the end finds none
-  pub word_past : length xs ≤ i → word_place xs i ≡ Nothing
+  pub word_past : length xs ≤ i → word_place xs i ≡ None
   word_past h = none_word (λ j a s r. omega (arith, live_inside (map_of xs) j r.is_live_lem, map_length xs))
 
 -- the next word has one length
@@ -213,7 +213,7 @@ word_ends xs i j m n p q =
     (λ e. ltb-false n m e)
 
 -- so what is the next word is what is found, and the part handed back
-pub next_word_place : (xs : List ℕ) (i j n : ℕ) → IsNextWord xs i j n → word_place xs i ≡ At j
+pub next_word_place : (xs : List ℕ) (i j n : ℕ) → IsNextWord xs i j n → word_place xs i ≡ Some j
 next_word_place xs i j n r = found_word xs i j r.from r.skipped (r.words j (omega arith) (omega (arith, r.some)))
 
 pub next_word_text : (xs : List ℕ) (i j n : ℕ) → IsNextWord xs i j n → word_text xs i ≡ take n (drop j xs)
@@ -225,7 +225,7 @@ next_word_text xs i j n r =
     word_part_lem xs i j e ∙ ap (λ (k : ℕ). take k (drop j xs)) same
 
 -- and none is found where the first byte that is not skipped is no live word byte, or all are skipped
-pub word_stopped : (xs : List ℕ) (i j : ℕ) → i ≤ j → ((k : ℕ) → i ≤ k → k < j → IsSkippedAt xs k) → (j < length xs → IsSkippedAt xs j → ⊥) → (IsWordByteAt xs j → ⊥) → word_place xs i ≡ Nothing
+pub word_stopped : (xs : List ℕ) (i j : ℕ) → i ≤ j → ((k : ℕ) → i ≤ k → k < j → IsSkippedAt xs k) → (j < length xs → IsSkippedAt xs j → ⊥) → (IsWordByteAt xs j → ⊥) → word_place xs i ≡ None
 word_stopped xs i j c s n w =
     none_word xs i
     (λ k a t r.

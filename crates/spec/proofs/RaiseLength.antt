@@ -1,10 +1,10 @@
 -- How long the text made of a RAISE is, with any action of the levels: at most three times the RAISE's own bytes, as a level
 -- with its RAISE has nine bytes at least and the text put for them 25 at most besides the message. So pass 5's result is at
 -- most three times its text, and twice would not do. Assumes nothing.
+use Rattle.std.specs.Prelude.{Option, Some, None}
 use mathlib.Core.Path.{◌≡◌, refl, sym, ap, ◌∙◌}
 use mathlib.Core.Bool.{Bool, true, false≢true}
 use mathlib.Core.List.{List, [], ◌∷◌}
-use mathlib.Core.Option.{Option, none, some}
 use Prim.Native.Nat.{ℕ, zero, suc, ◌+◌, ◌-◌, ◌*◌, ◌≤◌, ◌<◌, zero-le}
 use native.Mathlib.Omega.{arith}
 use borrow.Author.Tests.{ltb-true, ltb-false, eqb-true}
@@ -125,8 +125,8 @@ raise_long act u = go (level_in level_words (drop 6 u)) refl
     go : (o : Option Level) → level_in level_words (drop 6 u) ≡ o
         → (length (fate_bytes (raised_at act o u).fate) ≤ 3 * (raised_at act o u).length)
         × (length (fate_bytes (raised_at act o u).fate) ≤ 3 * length u)
-    go none e = (omega (arith, length-take 6 u), omega (arith, length-take 6 u))
-    go (some v) e =
+    go None e = (omega (arith, length-take 6 u), omega (arith, length-take 6 u))
+    go (Some v) e =
         let n = level_len v (drop 6 u) in
         let content = content_of (drop (6 + n) u) in
         let l = level_long (bytes u) 6 v (6 + n) ((level_exactly u 6 v (6 + n)).1 (e, refl)) in
@@ -167,11 +167,11 @@ raise_length act ys zs h = go (clause_in act ys) refl
     tokens = tokens_text (raises_from act 0 0 (marked_text ys))
 
     go : (o : Option (List ℕ)) → clause_in act ys ≡ o → length zs ≤ 3 * length ys
-    go none e =
+    go None e =
         let f = raise_done act ys e in
         let same : raised_text act ys ≡ zs = cc in
         omega (arith, ap length same, bytes_length tokens, tokens_long act 0 0 (marked_text ys), text_length ys)
-    go (some c) e = let f = raise_refused act ys c e in absurd (apart (cc))
+    go (Some c) e = let f = raise_refused act ys c e in absurd (apart (cc))
 
 -- it may be over twice as long: 10 bytes become 25
 not_twice : raise_pass (λ (l : Level). Raise Rollback) (ascii "RAISE LOG;") ≡ accepted (ascii "SELECT RAISE(ROLLBACK, );")

@@ -1,11 +1,11 @@
 -- A RAISE in document 01's words, by offsets of the text and with any actions of the levels: its level, where its statement
 -- ends, which one is refused, what becomes of the others, and where the search goes on. The definition gives exactly these.
 -- Assumes nothing.
+use Rattle.std.specs.Prelude.{Option, Some, None}
 use mathlib.Core.Path.{◌≡◌, refl, sym, ap, ◌∙◌, subst}
 use mathlib.Core.Bool.{Bool, true, false, cond, not, false≢true}
 use mathlib.Core.Logic.{◌↔◌}
 use mathlib.Core.List.{List}
-use mathlib.Core.Option.{Option, none, some}
 use Prim.Native.Nat.{ℕ, ◌+◌, ◌-◌, ◌≤◌, ◌<◌, zero-le}
 use native.Mathlib.Omega.{arith}
 use borrow.Author.Tests.{ltb-true, ltb-false, not-true, not-false}
@@ -269,15 +269,15 @@ one_level xs p l m v u a b =
 
 -- what the definition reads at p, and what stands there
 data Reads (t : List Marked) (p : ℕ) : Type 0 where
-  reads_level : (v : Level) → level_in level_words (drop p t) ≡ some v → IsLevelAt (bytes t) p v (p + level_len v (drop p t))
+  reads_level : (v : Level) → level_in level_words (drop p t) ≡ Some v → IsLevelAt (bytes t) p v (p + level_len v (drop p t))
       → Reads t p
-  reads_none : level_in level_words (drop p t) ≡ none → ((v : Level) (l : ℕ) → IsLevelAt (bytes t) p v l → ⊥) → Reads t p
+  reads_none : level_in level_words (drop p t) ≡ None → ((v : Level) (l : ℕ) → IsLevelAt (bytes t) p v l → ⊥) → Reads t p
 
 module _ (t : List Marked) (p : ℕ) where
   abbrev here : List ℕ → Bool
   here w = starts_ignoring_case w (drop p t)
 
-  stood : (v : Level) (w : List ℕ) → level_in level_words (drop p t) ≡ some v → IsLevelWord v w → here w ≡ true → Reads t p
+  stood : (v : Level) (w : List ℕ) → level_in level_words (drop p t) ≡ Some v → IsLevelWord v w → here w ≡ true → Reads t p
   stood v w q i e =
       let s = starts_matches t w p e (word_letter v w i).0 in
       reads_level v q (record { word = w; is_word_lem = i; stands = s; ends = ends_level_lem t p v (omega (arith, s.fits)) })
@@ -318,14 +318,14 @@ module _ (t : List Marked) (p : ℕ) where
   -- a level is read exactly where it stands, with its length
   pub level_exactly : (v : Level) (l : ℕ)
       → IsLevelAt (bytes t) p v l
-      ↔ ((level_in level_words (drop p t) ≡ some v) × (p + level_len v (drop p t) ≡ l))
+      ↔ ((level_in level_words (drop p t) ≡ Some v) × (p + level_len v (drop p t) ≡ l))
   level_exactly v l = ((λ w. (to reads w, ends_only t p v l w.ends)), (λ r. from reads r.0 r.1))
     where
-      to : Reads t p → IsLevelAt (bytes t) p v l → level_in level_words (drop p t) ≡ some v
-      to (reads_level u e s) w = e ∙ ap some (one_level (bytes t) p _ l u v s w)
+      to : Reads t p → IsLevelAt (bytes t) p v l → level_in level_words (drop p t) ≡ Some v
+      to (reads_level u e s) w = e ∙ ap Some (one_level (bytes t) p _ l u v s w)
       to (reads_none e n) w = absurd (n v l w)
 
-      from : Reads t p → level_in level_words (drop p t) ≡ some v → p + level_len v (drop p t) ≡ l → IsLevelAt (bytes t) p v l
+      from : Reads t p → level_in level_words (drop p t) ≡ Some v → p + level_len v (drop p t) ≡ l → IsLevelAt (bytes t) p v l
       from (reads_level u f s) e z =
           let same : u ≡ v = cc in
           subst (IsLevelAt (bytes t) p v) z (subst (λ (x : Level). IsLevelAt (bytes t) p x (p + level_len x (drop p t))) same s)
@@ -376,12 +376,12 @@ module _ (act : Level → Action) (t : List Marked) (k : ℕ) where
   level_at o e = ap (level_in level_words) (drop-drop 6 k t) ∙ e
 
   -- with no level behind its separator
-  none_is : level_in level_words (drop (k + 6) t) ≡ none → raise_of act (drop k t) ≡ record { length = 6; fate = passed (take 6 (drop k t)) }
+  none_is : level_in level_words (drop (k + 6) t) ≡ None → raise_of act (drop k t) ≡ record { length = 6; fate = passed (take 6 (drop k t)) }
   unfolding raised_at
-  none_is e = rw (level_at none e)
+  none_is e = rw (level_at None e)
 
   -- with the level v, which ends at l
-  level_is : (v : Level) (l : ℕ) → level_in level_words (drop (k + 6) t) ≡ some v → k + 6 + level_len v (drop (k + 6) t) ≡ l
+  level_is : (v : Level) (l : ℕ) → level_in level_words (drop (k + 6) t) ≡ Some v → k + 6 + level_len v (drop (k + 6) t) ≡ l
       → (k + (raise_of act (drop k t)).length ≡ l + length (content_of (drop l t)) + 1)
       × ((raise_of act (drop k t)).fate ≡ action_fate (act v) (content_of (drop l t)))
   unfolding raised_at
@@ -393,7 +393,7 @@ module _ (act : Level → Action) (t : List Marked) (k : ℕ) where
       let at : drop (6 + n) u ≡ drop l t = drop-drop (6 + n) k t ∙ ap (λ (i : ℕ). drop i t) place in
       let is : raise_of act u
       ≡ record { length = 6 + n + length (content_of (drop (6 + n) u)) + 1; fate = action_fate (act v) (content_of (drop (6 + n) u)) } =
-      rw (level_at (some v) e) in
+      rw (level_at (Some v) e) in
       let c : length (content_of (drop (6 + n) u)) ≡ length (content_of (drop l t)) = ap (λ (i : List Marked). length (content_of i)) at in (
         omega (arith, ap (λ (r : Raised). r.length) is),
         ap (λ (r : Raised). r.fate) is ∙ ap (λ (i : List Marked). action_fate (act v) (content_of i)) at,
@@ -411,7 +411,7 @@ module _ (act : Level → Action) (t : List Marked) (k : ℕ) where
   pub raise_exactly : (f : Fate) → ((raise_of act (drop k t)).fate ≡ f) ↔ RaiseBecomes act t k f
   raise_exactly f = (to (reads t (k + 6)) f, from f)
     where
-      by_action : (v : Level) → level_in level_words (drop (k + 6) t) ≡ some v → (g : Fate) → (raise_of act (drop k t)).fate ≡ g
+      by_action : (v : Level) → level_in level_words (drop (k + 6) t) ≡ Some v → (g : Fate) → (raise_of act (drop k t)).fate ≡ g
           → ActionCondition (act v) (content_of (drop (k + 6 + level_len v (drop (k + 6) t)) t)) g
       by_action v e g h = (action_exactly (act v) _ g).0 (sym (level_is v _ e refl).1 ∙ h)
 
@@ -478,7 +478,7 @@ module _ (act : Level → Action) (t : List Marked) (k : ℕ) where
 
   -- ---- where the search goes on
 
-  level_goes : (v : Level) (l e : ℕ) → level_in level_words (drop (k + 6) t) ≡ some v → k + 6 + level_len v (drop (k + 6) t) ≡ l
+  level_goes : (v : Level) (l e : ℕ) → level_in level_words (drop (k + 6) t) ≡ Some v → k + 6 + level_len v (drop (k + 6) t) ≡ l
       → EndsAt (drop l (bytes t)) e
       → l + e + 1 ≡ k + (raise_of act (drop k t)).length
   level_goes v l e h z w =

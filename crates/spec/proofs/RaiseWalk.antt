@@ -1,9 +1,9 @@
 -- The tokens of pass 5 from an offset on, with any actions of the levels: bytes are kept up to the next RAISE, then comes that
 -- RAISE, then what is behind it; and the clause of the first one that is refused. Assumes nothing.
+use Rattle.std.specs.Prelude.{Option, Some, None}
 use mathlib.Core.Path.{◌≡◌, refl, sym, ap, ◌∙◌}
 use mathlib.Core.Bool.{true, false}
 use mathlib.Core.List.{List, [], ◌∷◌, reverse}
-use mathlib.Core.Option.{Option, none, some}
 use Prim.Native.Nat.{ℕ, zero, suc, ◌+◌, ◌-◌, ◌≤◌, ◌<◌}
 use native.Mathlib.Omega.{arith}
 use borrow.Author.Tests.{ltb-true, ltb-false}
@@ -23,7 +23,6 @@ use Rattle.spec.specs.Search.{Test, first, word_here, keyword_here}
 use Rattle.spec.specs.Raise.{level_words, level_in, raised_at, Token, kept, raised, raises_from}
 use Rattle.spec.specs.declared.Level.{Level}
 use Rattle.spec.specs.declared.Action.{Action}
-use Rattle.spec.specs.declared.Found.TheVariants.{At, Nothing}
 
 -- a live RAISE stands here
 abbrev pub raise_here : Test
@@ -41,8 +40,8 @@ raises_none act (suc k) p = refl
 -- a RAISE takes some bytes
 pub raised_pos : (act : Level → Action) (l : Option Level) (u : List Marked) → 0 < (raised_at act l u).length
 unfolding raised_at
-raised_pos act none u = omega arith
-raised_pos act (some l) u = omega arith
+raised_pos act None u = omega arith
+raised_pos act (Some l) u = omega arith
 
 module _ (act : Level → Action) (p : ℕ) (u v : List Marked) (x : Marked) (q : u ≡ x ∷ v) where
   front_stays : word_here is_word (ascii "RAISE") p u ≡ false → raises_from act 0 p u ≡ kept x ∷ raises_from act 0 (byte x) v
@@ -105,12 +104,12 @@ module _ (act : Level → Action) (t : List Marked) where
   unfolding first_some
   clause_kept i h e = ap first_clause (raise_kept i h e)
 
-  pub clause_end : (i : ℕ) → length t ≤ i → clause_at i ≡ none
+  pub clause_end : (i : ℕ) → length t ≤ i → clause_at i ≡ None
   unfolding first_some
   clause_end i h = ap first_clause (raises_end i h)
 
   -- it is that of the next RAISE, or of those behind it
-  pub clause_step : (i k : ℕ) → first raise_here i t ≡ At k
+  pub clause_step : (i k : ℕ) → first raise_here i t ≡ Some k
       → clause_at i ≡ either_of (fate_clause (raise_of act (drop k t)).fate) (clause_at (k + (raise_of act (drop k t)).length))
   unfolding first_some
   clause_step i k e =
@@ -119,7 +118,7 @@ module _ (act : Level → Action) (t : List Marked) where
       ∙ ap first_clause (raise_goes k b.inside b.passes)
 
   -- where no RAISE is found there is none
-  pub clause_last : (i : ℕ) → first raise_here i t ≡ Nothing → clause_at i ≡ none
+  pub clause_last : (i : ℕ) → first raise_here i t ≡ None → clause_at i ≡ None
   clause_last =
-      copied_all (λ (l : List Marked) (o : Option (List ℕ)). o) (λ o. refl) (λ x l o. refl) raise_here t clause_at clause_kept none
+      copied_all (λ (l : List Marked) (o : Option (List ℕ)). o) (λ o. refl) (λ x l o. refl) raise_here t clause_at clause_kept None
       clause_end

@@ -1,9 +1,10 @@
 -- The declaration records: which names there are, what a repeated name does, and that the texts are packed without gaps where
 -- the records' numbers say. Assumes nothing.
+use mathlib.Core.Option as maybe
+use Rattle.std.specs.Prelude.{Option, Some, None}
 use mathlib.Core.Path.{◌≡◌, refl, sym, ap, ◌∙◌}
 use mathlib.Core.Bool.{Bool, true, false, cond, not, ◌&&◌, ◌||◌, or-false, false≢true}
 use mathlib.Core.List.{List, [], ◌∷◌, ◌++◌, map, append-nil, append_assoc}
-use mathlib.Core.Option.{Option, none, some}
 use Prim.Native.Nat.{ℕ, zero, suc, ◌+◌, ◌*◌, ◌≤◌, ◌<◌}
 use native.Mathlib.Omega.{arith}
 use lib.ListN.{length, get_or, get_elem?, take, drop, replicate, length-append, length-map, get_or-replicate, get_or-append}
@@ -27,10 +28,10 @@ distinct (d ∷ ds) = not (any (named d.name) ds) && distinct ds
 
 -- the first record of this name
 unfoldable pub record_named : List ℕ → List Declared → Option Declared
-record_named n [] = none
+record_named n [] = None
 record_named n (d ∷ ds) =
     let more = record_named n ds in
-    cond (named n d) (some d) more
+    cond (named n d) (Some d) more
 
 -- the names, in the records' order
 unfoldable pub names : List Declared → List (List ℕ)
@@ -99,7 +100,7 @@ declare_length d (e ∷ es) =
     push false = refl
 
 -- the record of the declared name has the contents declared
-pub declare_same : (d : Declared) (ds : List Declared) → record_named d.name (declare d ds) ≡ some d
+pub declare_same : (d : Declared) (ds : List Declared) → record_named d.name (declare d ds) ≡ Some d
 unfolding declare record_named
 declare_same d [] = rw (same_refl d.name)
 declare_same d (e ∷ es) =
@@ -115,27 +116,27 @@ declare_other n d (e ∷ es) k =
 
 -- a declaration of this name; a part that is one
 abbrev pub declares : List ℕ → Option Declared → Bool
-declares n none = false
-declares n (some d) = named n d
+declares n None = false
+declares n (Some d) = named n d
 
 abbrev pub part_declares : List ℕ → List Marked → Bool
 part_declares n p = declares n (declaration p)
 
 maybe_any : (n : List ℕ) (o : Option Declared) (ds : List Declared) → any (named n) (declare_maybe o ds) ≡ (declares n o || any (named n) ds)
 unfolding declare_maybe
-maybe_any n none ds = refl
-maybe_any n (some d) ds = declare_any n d ds
+maybe_any n None ds = refl
+maybe_any n (Some d) ds = declare_any n d ds
 
 maybe_distinct : (o : Option Declared) (ds : List Declared) → distinct ds ≡ true → distinct (declare_maybe o ds) ≡ true
 unfolding declare_maybe
-maybe_distinct none ds h = h
-maybe_distinct (some d) ds h = declare_distinct d ds h
+maybe_distinct None ds h = h
+maybe_distinct (Some d) ds h = declare_distinct d ds h
 
 maybe_named : (n : List ℕ) (o : Option Declared) (ds : List Declared)
     → record_named n (declare_maybe o ds) ≡ cond (declares n o) o (record_named n ds)
 unfolding declare_maybe
-maybe_named n none ds = refl
-maybe_named n (some d) ds =
+maybe_named n None ds = refl
+maybe_named n (Some d) ds =
     by (named n d)
     (λ h. rw (h, same_eq n d.name h) (declare_same d ds))
     (λ h. rw h (declare_other n d ds h))
@@ -194,7 +195,7 @@ unfolding any
 records_any n xs = rw (records_parts xs) (all_any n (parts_of xs) [])
 
 -- and the record of a name is what the last part to declare it gives
-pub records_named : (n xs : List ℕ) → record_named n (records_of xs) ≡ last_named n (parts_of xs) none
+pub records_named : (n xs : List ℕ) → record_named n (records_of xs) ≡ last_named n (parts_of xs) None
 unfolding record_named
 records_named n xs = rw (records_parts xs) (all_named n (parts_of xs) [])
 
@@ -204,15 +205,15 @@ length_names ds = length-map ds (λ (d : Declared). d.name)
 
 pub maybe_longer : (o : Option Declared) (ds : List Declared) → length ds ≤ length (declare_maybe o ds)
 unfolding declare_maybe
-maybe_longer none ds = omega arith
-maybe_longer (some d) ds =
+maybe_longer None ds = omega arith
+maybe_longer (Some d) ds =
     rw (declare_length d ds)
     (cond_case (λ n. length ds ≤ n) (any (named d.name) ds) _ _ (λ _. omega arith) (λ _. omega arith))
 
 maybe_places : (o : Option Declared) (ds : List Declared) → take (length ds) (names (declare_maybe o ds)) ≡ names ds
 unfolding declare_maybe
-maybe_places none ds = take_all (length ds) (names ds) (omega (arith, length_names ds))
-maybe_places (some d) ds =
+maybe_places None ds = take_all (length ds) (names ds) (omega (arith, length_names ds))
+maybe_places (Some d) ds =
     rw (declare_names d ds)
     (cond_case (λ l. take (length ds) l ≡ names ds) (any (named d.name) ds) _ _
     (λ _. take_all (length ds) (names ds) (omega (arith, length_names ds)))
@@ -240,8 +241,8 @@ start_of ds i = length (packed (take i ds))
 -- a default has three numbers, a record ten
 pub default_three : (o : Option (List ℕ)) (at : ℕ) → length (default_numbers o at) ≡ 3
 unfolding default_numbers
-default_three none at = refl
-default_three (some xs) at = refl
+default_three None at = refl
+default_three (Some xs) at = refl
 
 pub record_length : (all : List Declared) (at : ℕ) (d : Declared) → length (record_at all at d) ≡ record_width
 unfolding record_at record_width
@@ -267,7 +268,7 @@ numbers_length ds = omega (arith, records_length ds 0 ds)
 
 -- number j of the element at index i, its texts packed behind those of the elements ahead
 records_number : (all : List Declared) (at : ℕ) (ds : List Declared) (i j : ℕ) (d : Declared)
-    → get_elem? ds i ≡ some d → j < record_width
+    → get_elem? ds i ≡ maybe.some d → j < record_width
     → get_or (records_at all at ds) (record_width * i + j) 0 ≡ get_or (record_at all (at + start_of ds i) d) j 0
 unfolding records_at record_width start_of packed
 records_number all at [] i j d h l = let z : ◌≡◌ {A = ℕ} 0 1 = cc in absurd (omega arith)
@@ -284,7 +285,7 @@ records_number all at (e ∷ es) (suc i) j d h l =
     (records_number all (at + length (packed_record e)) es i j d h l)
 
 -- the numbers of record i + 1 are those of the element at index i
-pub number_of : (ds : List Declared) (i j : ℕ) (d : Declared) → get_elem? ds i ≡ some d → j < record_width
+pub number_of : (ds : List Declared) (i j : ℕ) (d : Declared) → get_elem? ds i ≡ maybe.some d → j < record_width
     → number_at ds (suc i) j ≡ get_or (record_at ds (start_of ds i) d) j 0
 unfolding number_at numbers_of record_width
 number_of ds i j d h l =
@@ -294,7 +295,7 @@ number_of ds i j d h l =
     rw (n, ← m) (get_or-append-add front (records_at ds 0 ds) (10 * i + j) 0 ∙ records_number ds 0 ds i j d h l)
 
 -- the packed texts, cut around the element at index i
-packed_around : (ds : List Declared) (i : ℕ) (d : Declared) → get_elem? ds i ≡ some d
+packed_around : (ds : List Declared) (i : ℕ) (d : Declared) → get_elem? ds i ≡ maybe.some d
     → packed ds ≡ packed (take i ds) ++ (packed_record d ++ packed (drop (suc i) ds))
 unfolding packed
 packed_around [] i d h = let z : ◌≡◌ {A = ℕ} 0 1 = cc in absurd (omega arith)
@@ -303,7 +304,7 @@ packed_around (e ∷ es) (suc i) d h =
     rw (packed_around es i d h) (sym (append_assoc (packed_record e) (packed (take i es)) _))
 
 -- the texts of the next element start behind those of this one
-start_suc : (ds : List Declared) (i : ℕ) (d : Declared) → get_elem? ds i ≡ some d
+start_suc : (ds : List Declared) (i : ℕ) (d : Declared) → get_elem? ds i ≡ maybe.some d
     → start_of ds (suc i) ≡ start_of ds i + length (packed_record d)
 unfolding packed start_of
 start_suc [] i d h = let z : ◌≡◌ {A = ℕ} 0 1 = cc in absurd (omega arith)
@@ -316,7 +317,7 @@ text_at : (u v w : List ℕ) (n m : ℕ) → length u ≡ n → length v ≡ m �
 text_at u v w n m h k = rw (drop_at u (v ++ w) n h) (take_at v w m k)
 
 -- the element d at index i is record i + 1
-module _ (ds : List Declared) (i : ℕ) (d : Declared) (h : get_elem? ds i ≡ some d) where
+module _ (ds : List Declared) (i : ℕ) (d : Declared) (h : get_elem? ds i ≡ maybe.some d) where
   -- its first five numbers
   pub number_next : number_at ds (suc i) 0 ≡ next_of ds d.name
   unfolding record_at record_width
@@ -375,11 +376,11 @@ module _ (ds : List Declared) (i : ℕ) (d : Declared) (h : get_elem? ds i ≡ s
       ∙ get_or-append-add (default_numbers d.default default_at) (mark_numbers d) j 0)
 
   -- 1, start and length where a default is present, empty or not
-  pub default_flag : (xs : List ℕ) → d.default ≡ some xs → number_at ds (suc i) 5 ≡ 1
+  pub default_flag : (xs : List ℕ) → d.default ≡ Some xs → number_at ds (suc i) 5 ≡ 1
   unfolding default_numbers
   default_flag xs e = rw e at (default_numbers_lem 0 (omega arith))
 
-  pub default_start : (xs : List ℕ) → d.default ≡ some xs → number_at ds (suc i) 6 ≡ number_at ds (suc i) 3 + number_at ds (suc i) 4
+  pub default_start : (xs : List ℕ) → d.default ≡ Some xs → number_at ds (suc i) 6 ≡ number_at ds (suc i) 3 + number_at ds (suc i) 4
   unfolding default_numbers
   default_start xs e = rw (number_type, number_type_length) (rw e at (default_numbers_lem 1 (omega arith)))
 
@@ -388,10 +389,10 @@ module _ (ds : List Declared) (i : ℕ) (d : Declared) (h : get_elem? ds i ≡ s
   default_length = default_numbers_lem 2 (omega arith) ∙ last d.default (start_of ds i + length d.name + length d.type)
     where
       last : (o : Option (List ℕ)) (n : ℕ) → get_or (default_numbers o n) 2 0 ≡ length (text_or o)
-      last none n = refl
-      last (some xs) n = refl
+      last None n = refl
+      last (Some xs) n = refl
 
-  pub default_text : (xs : List ℕ) → d.default ≡ some xs
+  pub default_text : (xs : List ℕ) → d.default ≡ Some xs
       → take (number_at ds (suc i) 7) (drop (number_at ds (suc i) 6) (packed ds)) ≡ xs
   unfolding start_of packed_record
   default_text xs e =
@@ -405,7 +406,7 @@ module _ (ds : List Declared) (i : ℕ) (d : Declared) (h : get_elem? ds i ≡ s
       rw cut (text_at ((u ++ d.name) ++ d.type) xs w _ _ (sym s) n)
 
   -- three zeros where it is absent
-  pub no_default : d.default ≡ none → (j : ℕ) → j < 3 → number_at ds (suc i) (5 + j) ≡ 0
+  pub no_default : d.default ≡ None → (j : ℕ) → j < 3 → number_at ds (suc i) (5 + j) ≡ 0
   unfolding default_numbers
   no_default e j l = (rw e at (default_numbers_lem j l)) ∙ get_or-replicate 3 j 0 0 l
 
@@ -445,7 +446,7 @@ module _ (ds : List Declared) (i : ℕ) (d : Declared) (h : get_elem? ds i ≡ s
   last_end z = record_end ∙ rw z (ap (λ l. length (packed l)) (take-length ds))
 
 -- each other record starts where the one before ends
-pub next_start : (ds : List Declared) (i : ℕ) (d e : Declared) → get_elem? ds i ≡ some d → get_elem? ds (suc i) ≡ some e
+pub next_start : (ds : List Declared) (i : ℕ) (d e : Declared) → get_elem? ds i ≡ maybe.some d → get_elem? ds (suc i) ≡ maybe.some e
     → number_at ds (suc (suc i)) 1 ≡ number_at ds (suc i) 3 + (number_at ds (suc i) 4 + number_at ds (suc i) 7)
 next_start ds i d e h k = number_name ds (suc i) e k ∙ sym (record_end ds i d h)
 

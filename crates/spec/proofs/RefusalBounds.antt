@@ -1,9 +1,9 @@
 -- What a call leaves in its output is never longer than the buffer size: not the text, not `q.n` of refusal 4 and not the
 -- clause of refusal 5. Assumes nothing.
+use Rattle.std.specs.Prelude.{Option, Some, None, Ok, Err, Result}
 use mathlib.Core.Path.{◌≡◌, refl, ap, subst}
 use mathlib.Core.Bool.{not, ◌&&◌}
 use mathlib.Core.List.{List, [], ◌∷◌, ◌++◌}
-use mathlib.Core.Option.{Option, none, some}
 use Prim.Native.Nat.{ℕ, zero, suc, ◌+◌, ◌-◌, ◌≤◌, zero-le, suc-le-suc}
 use native.Mathlib.Omega.{arith}
 use borrow.Author.Tests.{eqb-true}
@@ -29,13 +29,12 @@ use Rattle.spec.specs.declared.Level.{Level}
 use Rattle.spec.specs.declared.RaiseType.{RaiseType}
 use Rattle.spec.specs.declared.Action.{Action}
 use Rattle.spec.specs.declared.Action.TheVariants.{Drop, Raise}
-use Rattle.spec.specs.declared.Actions.{Actions}
-use Rattle.spec.specs.declared.Table.{Table}
-use Rattle.spec.specs.declared.Table.TheVariants as table
+use Rattle.spec.specs.Raise.{Actions}
 use Rattle.spec.specs.Outcome.{qualified_target, using_clause, result_too_long, accepted, refused, Rewriting}
 use Rattle.spec.specs.Body.{buffer_size, rewriting}
 use Rattle.spec.specs.Declarations.{record_limit, Declared, records_of, body_of}
-use Rattle.spec.specs.Answers.{Result, result_of, body_result, function_result, by_table}
+use Rattle.spec.specs.Answers.{CallResult, result_of, body_result, function_result, by_table}
+use Rattle.spec.specs.declared.Refusal.{Refusal}
 
 pub bytes_length : (t : List Marked) → length (bytes t) ≡ length t
 unfolding bytes
@@ -51,12 +50,12 @@ front_seen (x ∷ t) v h = suc-le-suc zero-le
 
 -- what is found, if anything is, has at most this size
 abbrev pub Within : {A : Type 0} → (A → ℕ) → Option A → ℕ → Type 0
-Within size none n = Unit {0}
-Within size (some a) n = size a ≤ n
+Within size None n = Unit {0}
+Within size (Some a) n = size a ≤ n
 
 pub within_le : {A : Type 0} (size : A → ℕ) (o : Option A) (m n : ℕ) → m ≤ n → Within size o m → Within size o n
-within_le size none m n h w = tt
-within_le size (some a) m n h w = omega arith
+within_le size None m n h w = tt
+within_le size (Some a) m n h w = omega arith
 
 -- the length of `q.n`
 abbrev pub target_size : Target → ℕ
@@ -66,13 +65,13 @@ either_within : {A : Type 0} (size : A → ℕ) (o p : Option A) (n : ℕ)
     → Within size o n
     → Within size p n
     → Within size (either_of o p) n
-either_within size none p n v w = w
-either_within size (some r) p n v w = v
+either_within size None p n v w = w
+either_within size (Some r) p n v w = v
 
 else_within : (o p : Option Target) (n : ℕ) → Within target_size o n → Within target_size p n → Within target_size (or_else o p) n
 unfolding or_else
-else_within none p n v w = w
-else_within (some r) p n v w = v
+else_within None p n v w = w
+else_within (Some r) p n v w = v
 
 before_within : (back : List Marked) → Within target_size (target_before back) (length back)
 unfolding target_before
@@ -136,8 +135,8 @@ past_within opens_statement n d t =
 
 behind_within : (m : Option Marking) (d : ℕ) (t : List Marked) → Within target_size (target_behind m d t) (length t)
 unfolding target_behind
-behind_within none d t = tt
-behind_within (some m) d t = past_within m.mark (length m.word) d t
+behind_within None d t = tt
+behind_within (Some m) d t = past_within m.mark (length m.word) d t
 
 marked_within : (d p : ℕ) (t : List Marked) → Within target_size (marked_target d p t) (length t)
 unfolding marked_target
@@ -158,7 +157,7 @@ statement_within t =
 first_within : (b : ℕ) (ss : List (List Marked)) → Within target_size (first_target ss) (length (joined b ss))
 unfolding first_some joined
 first_within b [] = tt
-first_within b (s ∷ []) = either_within target_size (statement_target s) none (length s) (statement_within s) tt
+first_within b (s ∷ []) = either_within target_size (statement_target s) None (length s) (statement_within s) tt
 first_within b (s ∷ r ∷ ss) =
     let rest = live b ∷ joined b (r ∷ ss) in
     let n = length (s ++ rest) in
@@ -233,8 +232,8 @@ content_le t =
 
 raised_within : (act : Level → Action) (l : Option Level) (t : List Marked) → Within length (fate_clause (raised_at act l t).fate) (length t)
 unfolding raised_at
-raised_within act none t = tt
-raised_within act (some l) t =
+raised_within act None t = tt
+raised_within act (Some l) t =
     let n = 6 + level_len l (drop 6 t) in
     let content = content_of (drop n t) in
     within_le length (fate_clause (action_fate (act l) content)) _ _
@@ -290,18 +289,18 @@ body_output_fits xs a = result_fits (action_of a) [] xs
 pub function_output_fits : (xs : List ℕ) (a : Actions) → length (function_result xs a).output ≤ buffer_size
 unfolding function_result
 function_output_fits xs a =
-    cond_case (λ (r : Result). length r.output ≤ buffer_size) (ltb record_limit (length (records_of xs))) _ _
+    cond_case (λ (r : CallResult). length r.output ≤ buffer_size) (ltb record_limit (length (records_of xs))) _ _
     (λ _. zero-le)
     (λ _. result_fits (action_of a) (records_of xs) (body_of xs))
 
 -- so it is whatever the table says: a refused table leaves nothing in it
-pub by_table_fits : (levels : Table) (call : Actions → Result) → ((a : Actions) → length (call a).output ≤ buffer_size)
+pub by_table_fits : (levels : Result Actions Refusal) (call : Actions → CallResult) → ((a : Actions) → length (call a).output ≤ buffer_size)
     → length (by_table levels call).output ≤ buffer_size
-by_table_fits (table.Given a) call fits = fits a
-by_table_fits (table.Refused r) call fits = zero-le
+by_table_fits (Ok a) call fits = fits a
+by_table_fits (Err r) call fits = zero-le
 
-pub body_table_fits : (levels : Table) (xs : List ℕ) → length (by_table levels (body_result xs)).output ≤ buffer_size
+pub body_table_fits : (levels : Result Actions Refusal) (xs : List ℕ) → length (by_table levels (body_result xs)).output ≤ buffer_size
 body_table_fits levels xs = by_table_fits levels (body_result xs) (body_output_fits xs)
 
-pub function_table_fits : (levels : Table) (xs : List ℕ) → length (by_table levels (function_result xs)).output ≤ buffer_size
+pub function_table_fits : (levels : Result Actions Refusal) (xs : List ℕ) → length (by_table levels (function_result xs)).output ≤ buffer_size
 function_table_fits levels xs = by_table_fits levels (function_result xs) (function_output_fits xs)

@@ -1,6 +1,7 @@
 -- What the two calls answer for every table, or without one: 1, 3 and 2 exactly if the checks say so, then 11, 12 and 13
 -- exactly if the table is refused so, then 7 exactly if too many names are declared, the body call never 7 and with no
 -- records, and each other answer exactly if the passes give it with the table's actions. Assumes nothing.
+use Rattle.std.specs.Prelude.{Ok, Err, ⊤, Result}
 use mathlib.Core.Path.{◌≡◌, refl, sym, ap, ◌∙◌, subst}
 use mathlib.Core.Logic.{◌↔◌}
 use mathlib.Core.Bool.{Bool}
@@ -21,18 +22,13 @@ use Rattle.spec.specs.Outcome.{PassRefusal, qualified_target, using_clause, resu
 use Rattle.spec.specs.Raise.{action_of}
 use Rattle.spec.specs.Body.{rewriting}
 use Rattle.spec.specs.Declarations.{record_limit, Declared, records_of, body_of}
-use Rattle.spec.specs.Answers.{text_limit, check_of, refusal_numbers, call_numbers, Result, without_records, result_of, body_result, function_result, by_table, call_answer, body_check, body_answer, function_check, function_answer}
+use Rattle.spec.specs.Answers.{text_limit, check_of, refusal_numbers, call_numbers, CallResult, without_records, result_of, body_result, function_result, by_table, call_answer, body_check, body_answer, function_check, function_answer}
 use Rattle.spec.specs.declared.Level.{Level}
 use Rattle.spec.specs.declared.Action.{Action}
-use Rattle.spec.specs.declared.Actions.{Actions}
-use Rattle.spec.specs.declared.Table.{Table}
-use Rattle.spec.specs.declared.Table.TheVariants as table
+use Rattle.spec.specs.Raise.{Actions}
 use Rattle.spec.specs.declared.Refusal.{Refusal}
 use Rattle.spec.specs.declared.Refusal.TheVariants.{QualifiedTarget, UsingClause, TooManyNames}
-use Rattle.spec.specs.declared.Check.{Check}
-use Rattle.spec.specs.declared.Check.TheVariants as check
-use Rattle.spec.specs.declared.Rewritten.{Rewritten}
-use Rattle.spec.specs.declared.Rewritten.TheVariants as rewritten
+use Rattle.spec.specs.declared.Accepted.{Accepted}
 
 -- ---- what is answered for what the passes give
 
@@ -67,7 +63,7 @@ pub told : (n : ℕ) (f : PassRefusal) → pass_number f ≡ n → NumberTells n
 told n f e = subst (λ (k : ℕ). NumberTells k f) e (number_tells f)
 
 -- so a refusal that is answered for the passes has such a number
-result_number : (ds : List Declared) (r : Rewriting) (f : Refusal) → (result_of ds r).answer ≡ rewritten.Refused f
+result_number : (ds : List Declared) (r : Rewriting) (f : Refusal) → (result_of ds r).answer ≡ Err f
     → (4 ≤ (refusal_numbers f).number) × ((refusal_numbers f).number ≤ 6)
 unfolding result_of
 result_number ds (accepted zs) f h = absurd (apart (cc))
@@ -136,9 +132,9 @@ module _ (act : Level → Action) (ds : List Declared) (xs : List ℕ) where
 -- ---- the checks
 
 -- the checks give 1, 2 and 3 only
-pub check_number : (limit : ℕ) (enough : Bool) (xs needle : List ℕ) (f : Refusal) → check_of limit enough xs needle ≡ check.Refused f
+pub check_number : (limit : ℕ) (enough : Bool) (xs needle : List ℕ) (f : Refusal) → check_of limit enough xs needle ≡ Err f
     → (1 ≤ (refusal_numbers f).number) × ((refusal_numbers f).number ≤ 3)
-check_number limit enough xs needle f e = go (check_only limit enough xs needle (check.Refused f) e)
+check_number limit enough xs needle f e = go (check_only limit enough xs needle (Err f) e)
   where
     go : CheckRefuses limit enough xs needle f → (1 ≤ (refusal_numbers f).number) × ((refusal_numbers f).number ≤ 3)
     go (too_long q h) = rw q (omega arith, omega arith)
@@ -147,86 +143,86 @@ check_number limit enough xs needle f e = go (check_only limit enough xs needle 
 
 -- ---- the checks, then the table, then the call with its actions
 
-module _ (k : Check)
-    (checked : (f : Refusal) → k ≡ check.Refused f → (1 ≤ (refusal_numbers f).number) × ((refusal_numbers f).number ≤ 3))
-    (levels : Table)
-    (call : Actions → Result) where
-  abbrev answer : Rewritten
+module _ (k : Result ⊤ Refusal)
+    (checked : (f : Refusal) → k ≡ Err f → (1 ≤ (refusal_numbers f).number) × ((refusal_numbers f).number ≤ 3))
+    (levels : Result Actions Refusal)
+    (call : Actions → CallResult) where
+  abbrev answer : Result Accepted Refusal
   answer = call_answer k (by_table levels call).answer
 
   -- 0 and 4 to 7 are given exactly if the checks pass, the table is given, and the call with its actions has the number
   call_number : IsTable levels → (n : ℕ) → (n ≡ 1 → ⊥) → (n ≡ 2 → ⊥) → (n ≡ 3 → ⊥) → n < 11
       → ((call_numbers answer).number ≡ n)
-      ↔ ((k ≡ check.Passed) × (a : Actions) × (levels ≡ table.Given a) × ((call_numbers (call a).answer).number ≡ n))
+      ↔ ((k ≡ Ok tt) × (a : Actions) × (levels ≡ Ok a) × ((call_numbers (call a).answer).number ≡ n))
   call_number is n x y z l = (to k levels refl refl, (λ w. rw (w.0, w.2) w.3))
     where
-      to : (c : Check) (t : Table) → k ≡ c → levels ≡ t → (call_numbers answer).number ≡ n
-          → (k ≡ check.Passed) × (a : Actions) × (levels ≡ table.Given a) × ((call_numbers (call a).answer).number ≡ n)
-      to check.Passed (table.Given a) e g h = (e, a, g, rw (e, g) at h)
-      to check.Passed (table.Refused f) e g h =
+      to : (c : Result ⊤ Refusal) (t : Result Actions Refusal) → k ≡ c → levels ≡ t → (call_numbers answer).number ≡ n
+          → (k ≡ Ok tt) × (a : Actions) × (levels ≡ Ok a) × ((call_numbers (call a).answer).number ≡ n)
+      to (Ok tt) (Ok a) e g h = (e, a, g, rw (e, g) at h)
+      to (Ok tt) (Err f) e g h =
           let m : (refusal_numbers f).number ≡ n = rw (e, g) at h in
           absurd (omega (arith, (is f g).0))
-      to (check.Refused f) t e g h =
+      to (Err f) t e g h =
           let w = checked f e in
           let m : (refusal_numbers f).number ≡ n = rw e at h in
           absurd (omega (arith, w.0, w.1, x, y, z))
 
   -- 1, 3 and 2 exactly if the checks say so
-  call_refused : IsTable levels → ((a : Actions) (g : Refusal) → (call a).answer ≡ rewritten.Refused g → 4 ≤ (refusal_numbers g).number)
+  call_refused : IsTable levels → ((a : Actions) (g : Refusal) → (call a).answer ≡ Err g → 4 ≤ (refusal_numbers g).number)
       → (f : Refusal) → (refusal_numbers f).number < 4
-      → (answer ≡ rewritten.Refused f) ↔ (k ≡ check.Refused f)
+      → (answer ≡ Err f) ↔ (k ≡ Err f)
   call_refused is later f l = (to k levels refl refl, (λ e. rw e refl))
     where
-      to : (c : Check) (t : Table) → k ≡ c → levels ≡ t → answer ≡ rewritten.Refused f → k ≡ check.Refused f
-      to check.Passed (table.Given a) e g h = absurd (omega (arith, later a f (rw (e, g) at h)))
-      to check.Passed (table.Refused r) e g h =
-          let q : rewritten.Refused r ≡ rewritten.Refused f = rw (e, g) at h in
+      to : (c : Result ⊤ Refusal) (t : Result Actions Refusal) → k ≡ c → levels ≡ t → answer ≡ Err f → k ≡ Err f
+      to (Ok tt) (Ok a) e g h = absurd (omega (arith, later a f (rw (e, g) at h)))
+      to (Ok tt) (Err r) e g h =
+          let q : Err r ≡ Err f = rw (e, g) at h in
           let i : r ≡ f = cc in
           absurd (omega (arith, (is r g).0, ap (λ (d : Refusal). (refusal_numbers d).number) i))
-      to (check.Refused r) t e g h =
-          let q : rewritten.Refused r ≡ rewritten.Refused f = rw e at h in
+      to (Err r) t e g h =
+          let q : Err r ≡ Err f = rw e at h in
           let i : r ≡ f = cc in
-          e ∙ ap check.Refused i
+          e ∙ ap Err i
 
   -- 11, 12 and 13 exactly if the checks pass and the table is refused so
-  call_table : ((a : Actions) (g : Refusal) → (call a).answer ≡ rewritten.Refused g → (refusal_numbers g).number < 11)
+  call_table : ((a : Actions) (g : Refusal) → (call a).answer ≡ Err g → (refusal_numbers g).number < 11)
       → (f : Refusal) → 11 ≤ (refusal_numbers f).number
-      → (answer ≡ rewritten.Refused f) ↔ ((k ≡ check.Passed) × (levels ≡ table.Refused f))
+      → (answer ≡ Err f) ↔ ((k ≡ Ok tt) × (levels ≡ Err f))
   call_table sooner f l = (to k levels refl refl, (λ w. rw (w.0, w.1) refl))
     where
-      to : (c : Check) (t : Table) → k ≡ c → levels ≡ t → answer ≡ rewritten.Refused f → (k ≡ check.Passed) × (levels ≡ table.Refused f)
-      to check.Passed (table.Given a) e g h = absurd (omega (arith, sooner a f (rw (e, g) at h)))
-      to check.Passed (table.Refused r) e g h =
-          let q : rewritten.Refused r ≡ rewritten.Refused f = rw (e, g) at h in
+      to : (c : Result ⊤ Refusal) (t : Result Actions Refusal) → k ≡ c → levels ≡ t → answer ≡ Err f → (k ≡ Ok tt) × (levels ≡ Err f)
+      to (Ok tt) (Ok a) e g h = absurd (omega (arith, sooner a f (rw (e, g) at h)))
+      to (Ok tt) (Err r) e g h =
+          let q : Err r ≡ Err f = rw (e, g) at h in
           let i : r ≡ f = cc in
-          (e, g ∙ ap table.Refused i)
-      to (check.Refused r) t e g h =
-          let q : rewritten.Refused r ≡ rewritten.Refused f = rw e at h in
+          (e, g ∙ ap Err i)
+      to (Err r) t e g h =
+          let q : Err r ≡ Err f = rw e at h in
           let i : r ≡ f = cc in
           absurd (omega (arith, (checked r e).1, ap (λ (d : Refusal). (refusal_numbers d).number) i))
 
 -- ---- the body call
 
 -- the numbers of the refusals behind the checks and the table
-body_numbers : (xs : List ℕ) (a : Actions) (g : Refusal) → (body_result xs a).answer ≡ rewritten.Refused g
+body_numbers : (xs : List ℕ) (a : Actions) (g : Refusal) → (body_result xs a).answer ≡ Err g
     → (4 ≤ (refusal_numbers g).number) × ((refusal_numbers g).number ≤ 6)
 unfolding body_result
 body_numbers xs a = result_number [] (rewriting (action_of a) xs)
 
-module _ (levels : Table) (xs out work spare : List ℕ) where
+module _ (levels : Result Actions Refusal) (xs out work spare : List ℕ) where
   -- 0 and 4 to 6; the table gives its actions
   pub body_number : IsTable levels → (n : ℕ) → (n ≡ 1 → ⊥) → (n ≡ 2 → ⊥) → (n ≡ 3 → ⊥) → n < 11
       → ((call_numbers (body_answer levels xs out work spare)).number ≡ n)
-      ↔ ((body_check xs out work spare ≡ check.Passed)
+      ↔ ((body_check xs out work spare ≡ Ok tt)
       × (a : Actions)
-      × (levels ≡ table.Given a)
+      × (levels ≡ Ok a)
       × ((call_numbers (result_of [] (rewriting (action_of a) xs)).answer).number ≡ n))
   unfolding body_answer body_result body_check
   body_number = call_number (body_check xs out work spare) (check_number text_limit _ xs []) levels (body_result xs)
 
   -- 1, 3 and 2
   pub body_refused : IsTable levels → (f : Refusal) → (refusal_numbers f).number < 4
-      → (body_answer levels xs out work spare ≡ rewritten.Refused f) ↔ (body_check xs out work spare ≡ check.Refused f)
+      → (body_answer levels xs out work spare ≡ Err f) ↔ (body_check xs out work spare ≡ Err f)
   unfolding body_answer body_check
   body_refused is =
       call_refused (body_check xs out work spare) (check_number text_limit _ xs []) levels (body_result xs) is
@@ -234,8 +230,8 @@ module _ (levels : Table) (xs out work spare : List ℕ) where
 
   -- 11, 12 and 13
   pub body_table : (f : Refusal) → 11 ≤ (refusal_numbers f).number
-      → (body_answer levels xs out work spare ≡ rewritten.Refused f)
-      ↔ ((body_check xs out work spare ≡ check.Passed) × (levels ≡ table.Refused f))
+      → (body_answer levels xs out work spare ≡ Err f)
+      ↔ ((body_check xs out work spare ≡ Ok tt) × (levels ≡ Err f))
   unfolding body_answer body_check
   body_table =
       call_table (body_check xs out work spare) (check_number text_limit _ xs []) levels (body_result xs)
@@ -260,16 +256,16 @@ module _ (levels : Table) (xs out work spare : List ℕ) where
       passes (accepted zs) = refl
       passes (refused f) = refl
 
-      go : (k : Check) (t : Table) → (call_numbers (call_answer k (by_table t (body_result xs)).answer)).records ≡ 0
-      go check.Passed (table.Given a) = passes (rewriting (action_of a) xs)
-      go check.Passed (table.Refused f) = refl
-      go (check.Refused f) t = refl
+      go : (k : Result ⊤ Refusal) (t : Result Actions Refusal) → (call_numbers (call_answer k (by_table t (body_result xs)).answer)).records ≡ 0
+      go (Ok tt) (Ok a) = passes (rewriting (action_of a) xs)
+      go (Ok tt) (Err f) = refl
+      go (Err f) t = refl
 
 -- ---- the function call
 
 -- 7 exactly if over 512 different names are declared, whatever the actions
 pub too_many_names : (xs : List ℕ) (a : Actions)
-    → ((function_result xs a).answer ≡ rewritten.Refused TooManyNames) ↔ (record_limit < length (records_of xs))
+    → ((function_result xs a).answer ≡ Err TooManyNames) ↔ (record_limit < length (records_of xs))
 unfolding function_result
 too_many_names xs a = (
   (λ h. by (ltb record_limit (length (records_of xs)))
@@ -288,34 +284,34 @@ unfolding function_result
 function_passes xs a h = rw (le-ltb record_limit (length (records_of xs)) h)
 
 -- the numbers of the refusals behind the checks and the table
-function_numbers : (xs : List ℕ) (a : Actions) (g : Refusal) → (function_result xs a).answer ≡ rewritten.Refused g
+function_numbers : (xs : List ℕ) (a : Actions) (g : Refusal) → (function_result xs a).answer ≡ Err g
     → (4 ≤ (refusal_numbers g).number) × ((refusal_numbers g).number ≤ 7)
 unfolding function_result
 function_numbers xs a g h =
     by (ltb record_limit (length (records_of xs)))
     (λ e.
-    let q : rewritten.Refused TooManyNames ≡ rewritten.Refused g = rw e at h in
+    let q : Err TooManyNames ≡ Err g = rw e at h in
     let i : TooManyNames ≡ g = cc in
     rw (sym i) (omega arith, omega arith))
     (λ e.
     let n = result_number (records_of xs) (rewriting (action_of a) (body_of xs)) g (rw e at h) in
     (n.0, omega (arith, n.1)))
 
-module _ (levels : Table) (xs out work spare text numbers : List ℕ) where
+module _ (levels : Result Actions Refusal) (xs out work spare text numbers : List ℕ) where
   -- 0 and 4 to 7; what the call gives with the table's actions is said by `too_many_names` and `function_passes`
   pub function_number : IsTable levels → (n : ℕ) → (n ≡ 1 → ⊥) → (n ≡ 2 → ⊥) → (n ≡ 3 → ⊥) → n < 11
       → ((call_numbers (function_answer levels xs out work spare text numbers)).number ≡ n)
-      ↔ ((function_check xs out work spare text numbers ≡ check.Passed)
+      ↔ ((function_check xs out work spare text numbers ≡ Ok tt)
       × (a : Actions)
-      × (levels ≡ table.Given a)
+      × (levels ≡ Ok a)
       × ((call_numbers (function_result xs a).answer).number ≡ n))
   unfolding function_answer function_check
   function_number = call_number (function_check xs out work spare text numbers) (check_number text_limit _ xs []) levels (function_result xs)
 
   -- 1, 3 and 2
   pub function_refused : IsTable levels → (f : Refusal) → (refusal_numbers f).number < 4
-      → (function_answer levels xs out work spare text numbers ≡ rewritten.Refused f)
-      ↔ (function_check xs out work spare text numbers ≡ check.Refused f)
+      → (function_answer levels xs out work spare text numbers ≡ Err f)
+      ↔ (function_check xs out work spare text numbers ≡ Err f)
   unfolding function_answer function_check
   function_refused is =
       call_refused (function_check xs out work spare text numbers) (check_number text_limit _ xs []) levels (function_result xs) is
@@ -323,8 +319,8 @@ module _ (levels : Table) (xs out work spare text numbers : List ℕ) where
 
   -- 11, 12 and 13
   pub function_table : (f : Refusal) → 11 ≤ (refusal_numbers f).number
-      → (function_answer levels xs out work spare text numbers ≡ rewritten.Refused f)
-      ↔ ((function_check xs out work spare text numbers ≡ check.Passed) × (levels ≡ table.Refused f))
+      → (function_answer levels xs out work spare text numbers ≡ Err f)
+      ↔ ((function_check xs out work spare text numbers ≡ Ok tt) × (levels ≡ Err f))
   unfolding function_answer function_check
   function_table =
       call_table (function_check xs out work spare text numbers) (check_number text_limit _ xs []) levels (function_result xs)
@@ -333,15 +329,15 @@ module _ (levels : Table) (xs out work spare text numbers : List ℕ) where
   -- 7 exactly if the checks pass, the table is given, and over 512 different names are declared
   pub function_seven : IsTable levels
       → ((call_numbers (function_answer levels xs out work spare text numbers)).number ≡ 7)
-      ↔ ((function_check xs out work spare text numbers ≡ check.Passed)
+      ↔ ((function_check xs out work spare text numbers ≡ Ok tt)
       × (a : Actions)
-      × (levels ≡ table.Given a)
+      × (levels ≡ Ok a)
       × (record_limit < length (records_of xs)))
   unfolding function_result result_of
   function_seven is =
       let w = function_number is 7 (λ e. omega arith) (λ e. omega arith) (λ e. omega arith) (omega arith) in (
         (λ h. let v = w.0 h in (v.0, v.1, v.2, seven v.1 v.3)),
-        (λ v. w.1 (v.0, v.1, v.2, ap (λ (r : Rewritten). (call_numbers r).number) ((too_many_names xs v.1).1 v.3))),
+        (λ v. w.1 (v.0, v.1, v.2, ap (λ (r : Result Accepted Refusal). (call_numbers r).number) ((too_many_names xs v.1).1 v.3))),
       )
     where
       passes : (r : Rewriting) → (call_numbers (result_of (records_of xs) r).answer).number ≡ 7 → ⊥

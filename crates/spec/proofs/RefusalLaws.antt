@@ -1,9 +1,9 @@
 -- A refusal of the passes, 4, 5 or 6, is given only on its condition, and exactly then; a text is accepted exactly if none of
 -- these holds. The conditions speak of the texts after each pass. Assumes nothing.
+use Rattle.std.specs.Prelude.{Option, Some, None}
 use mathlib.Core.Path.{◌≡◌, refl, sym, ap, ◌∙◌, subst}
 use mathlib.Core.Logic.{◌↔◌}
 use mathlib.Core.List.{List}
-use mathlib.Core.Option.{Option, none, some}
 use Prim.Native.Nat.{ℕ, ◌≤◌, ◌<◌}
 use borrow.Author.Tests.{ltb-true, ltb-false, lt-ltb, le-ltb}
 use lib.Dec.{ltb}
@@ -88,21 +88,21 @@ abbrev pub after5 : (Level → Action) → List ℕ → List ℕ
 after5 act xs = raised_text act (after4 xs)
 
 -- pass 3 by its first target, pass 5 by its first clause
-pub assign_done : (ys : List ℕ) → target_in ys ≡ none → assign_pass ys ≡ accepted (assigned ys)
+pub assign_done : (ys : List ℕ) → target_in ys ≡ None → assign_pass ys ≡ accepted (assigned ys)
 unfolding target_in assigned assign_pass assignments forget
 assign_done ys e = rw (join_statements_lem (pieces (byte_here 59) (marked_text ys)), e)
 
 pub assign_refused : (ys : List ℕ) (r : Target)
-    → target_in ys ≡ some r
+    → target_in ys ≡ Some r
     → assign_pass ys ≡ refused (qualified_target (bytes r.qualifier) (bytes r.name))
 unfolding target_in assign_pass assignments forget
 assign_refused ys r e = rw (join_statements_lem (pieces (byte_here 59) (marked_text ys)), e)
 
-pub raise_done : (act : Level → Action) (ys : List ℕ) → clause_in act ys ≡ none → raise_pass act ys ≡ accepted (raised_text act ys)
+pub raise_done : (act : Level → Action) (ys : List ℕ) → clause_in act ys ≡ None → raise_pass act ys ≡ accepted (raised_text act ys)
 unfolding clause_in raised_text raise_pass raise forget
 raise_done act ys e = rw (join_tokens_lem (raises_from act 0 0 (marked_text ys)), e)
 
-pub raise_refused : (act : Level → Action) (ys c : List ℕ) → clause_in act ys ≡ some c → raise_pass act ys ≡ refused (using_clause c)
+pub raise_refused : (act : Level → Action) (ys c : List ℕ) → clause_in act ys ≡ Some c → raise_pass act ys ≡ refused (using_clause c)
 unfolding clause_in raise_pass raise forget
 raise_refused act ys c e = rw (join_tokens_lem (raises_from act 0 0 (marked_text ys)), e)
 
@@ -116,7 +116,7 @@ pub record Through2 (xs : List ℕ) : Type 0 where
 -- and pass 3: no statement has a qualified target
 pub record Through3 (xs : List ℕ) : Type 0 where
   pub before : Through2 xs
-  pub no_target : target_in (after2 xs) ≡ none
+  pub no_target : target_in (after2 xs) ≡ None
   pub fits3 : length (after3 xs) ≤ buffer_size
 
 -- and pass 4
@@ -127,7 +127,7 @@ pub record Through4 (xs : List ℕ) : Type 0 where
 -- 0: all five accept, pass 5 where no RAISE has a refused clause; zs is the text after it
 pub record Accepts (act : Level → Action) (xs zs : List ℕ) : Type 0 where
   pub before : Through4 xs
-  pub no_clause : clause_in act (after4 xs) ≡ none
+  pub no_clause : clause_in act (after4 xs) ≡ None
   pub fits5 : length (after5 act xs) ≤ buffer_size
   pub text : after5 act xs ≡ zs
 
@@ -135,22 +135,22 @@ pub record Accepts (act : Level → Action) (xs zs : List ℕ) : Type 0 where
 pub record Qualifies (xs q n : List ℕ) : Type 0 where
   pub before : Through2 xs
   pub target : Target
-  pub first : target_in (after2 xs) ≡ some target
+  pub first : target_in (after2 xs) ≡ Some target
   pub qualifier : bytes target.qualifier ≡ q
   pub name : bytes target.name ≡ n
 
 -- 5: passes 1 to 4 accept, and the first RAISE that is refused has the clause c
 pub record Uses (act : Level → Action) (xs c : List ℕ) : Type 0 where
   pub before : Through4 xs
-  pub first : clause_in act (after4 xs) ≡ some c
+  pub first : clause_in act (after4 xs) ≡ Some c
 
 -- 6: the text after a pass is longer than the buffer size, the passes before accept, and this one gives no 4 or 5
 pub data Exceeds (act : Level → Action) (xs : List ℕ) : Type 0 where
   in1 : buffer_size < length (after1 xs) → Exceeds act xs
   in2 : length (after1 xs) ≤ buffer_size → buffer_size < length (after2 xs) → Exceeds act xs
-  in3 : Through2 xs → target_in (after2 xs) ≡ none → buffer_size < length (after3 xs) → Exceeds act xs
+  in3 : Through2 xs → target_in (after2 xs) ≡ None → buffer_size < length (after3 xs) → Exceeds act xs
   in4 : Through3 xs → buffer_size < length (after4 xs) → Exceeds act xs
-  in5 : Through4 xs → clause_in act (after4 xs) ≡ none → buffer_size < length (after5 act xs) → Exceeds act xs
+  in5 : Through4 xs → clause_in act (after4 xs) ≡ None → buffer_size < length (after5 act xs) → Exceeds act xs
 
 -- the condition of each answer
 abbrev pub Condition : (Level → Action) → List ℕ → Rewriting → Type 0
@@ -213,18 +213,18 @@ decided act xs =
     short ys f g = by (ltb buffer_size (length ys)) (λ e. f (ltb-true _ _ e)) (λ e. g (ltb-false _ _ e))
 
     fifth : Through4 xs → (o : Option (List ℕ)) → clause_in act (after4 xs) ≡ o → (r : Rewriting) × Condition act xs r
-    fifth t none e =
+    fifth t None e =
         short (after5 act xs) (λ h. (refused result_too_long, in5 t e h))
         (λ h. (accepted (after5 act xs), record { before = t; no_clause = e; fits5 = h; text = refl }))
-    fifth t (some c) e = (refused (using_clause c), record { before = t; first = e })
+    fifth t (Some c) e = (refused (using_clause c), record { before = t; first = e })
 
     third : Through2 xs → (o : Option Target) → target_in (after2 xs) ≡ o → (r : Rewriting) × Condition act xs r
-    third t none e =
+    third t None e =
         short (after3 xs) (λ h. (refused result_too_long, in3 t e h)) (λ c.
         let u : Through3 xs = record { before = t; no_target = e; fits3 = c } in
         short (after4 xs) (λ h. (refused result_too_long, in4 u h)) (λ d.
         fifth (record { before = u; fits4 = d }) (clause_in act (after4 xs)) refl))
-    third t (some r) e =
+    third t (Some r) e =
         (refused (qualified_target (bytes r.qualifier) (bytes r.name)), record { before = t; target = r; first = e; qualifier = refl; name = refl })
 
 -- the passes give each answer exactly on its condition

@@ -1,8 +1,8 @@
 -- What passes 3 and 5 give: the refusal of the first qualified target or USING clause, and text exactly if there is none.
 -- Assumes nothing.
+use Rattle.std.specs.Prelude.{Option, Some, None}
 use mathlib.Core.Path.{◌≡◌, refl, ◌∙◌}
 use mathlib.Core.List.{List, [], ◌∷◌, ◌++◌}
-use mathlib.Core.Option.{Option, none, some}
 use Prim.Native.Nat.{ℕ}
 use Rattle.spec.proofs.FirstFound.{either_of, first_some}
 use Rattle.spec.specs.Lists.{is_empty, take_while, drop_while}
@@ -33,20 +33,20 @@ assigned_text (s ∷ r ∷ ss) = assignment s ++ (live 59 ∷ assigned_text (r �
 
 -- text, or the refusal of this target
 abbrev pub target_or : Option Target → List Marked → Outcome (List Marked)
-target_or none t = accepted t
-target_or (some r) t = refused (qualified_target (bytes r.qualifier) (bytes r.name))
+target_or None t = accepted t
+target_or (Some r) t = refused (qualified_target (bytes r.qualifier) (bytes r.name))
 
 check_target : (o : Option Target) (t : List Marked) → checked_statement o t ≡ target_or o (assignment t)
 unfolding checked_statement
-check_target none t = refl
-check_target (some r) t = refl
+check_target None t = refl
+check_target (Some r) t = refl
 
 -- one part's outcome, then the rest's, by their targets
 join_targets : (o p : Option Target) (t u : List Marked) → target_or o t ⊕ target_or p u ≡ target_or (either_of o p) (t ++ u)
 unfolding ◌⊕◌
-join_targets none none t u = refl
-join_targets none (some r) t u = refl
-join_targets (some r) p t u = refl
+join_targets None None t u = refl
+join_targets None (Some r) t u = refl
+join_targets (Some r) p t u = refl
 
 -- an empty statement comes through
 pub statement_nil : statement [] ≡ accepted []
@@ -59,23 +59,23 @@ unfolding join_statements first_some assigned_text statement
 join_statements_lem [] = refl
 join_statements_lem (s ∷ []) = check_target (statement_target s) s ∙ last (statement_target s)
   where
-    last : (o : Option Target) → target_or o (assignment s) ≡ target_or (either_of o none) (assignment s)
-    last none = refl
-    last (some r) = refl
+    last : (o : Option Target) → target_or o (assignment s) ≡ target_or (either_of o None) (assignment s)
+    last None = refl
+    last (Some r) = refl
 join_statements_lem (s ∷ r ∷ ss) =
-    rw (check_target (statement_target s) s, join_statements_lem (r ∷ ss), join_targets none (first_target (r ∷ ss)) (live 59 ∷ []) (assigned_text (r ∷ ss)))
+    rw (check_target (statement_target s) s, join_statements_lem (r ∷ ss), join_targets None (first_target (r ∷ ss)) (live 59 ∷ []) (assigned_text (r ∷ ss)))
     (join_targets (statement_target s) (first_target (r ∷ ss)) (assignment s) (live 59 ∷ assigned_text (r ∷ ss)))
 
 -- ---- tokens with their first refused clause
 
 abbrev pub fate_clause : Fate → Option (List ℕ)
-fate_clause (rewritten w m) = none
-fate_clause dropped = none
-fate_clause (passed t) = none
-fate_clause (refused_clause c) = some c
+fate_clause (rewritten w m) = None
+fate_clause dropped = None
+fate_clause (passed t) = None
+fate_clause (refused_clause c) = Some c
 
 abbrev pub token_clause : Token → Option (List ℕ)
-token_clause (kept x) = none
+token_clause (kept x) = None
 token_clause (raised r) = fate_clause r.fate
 
 -- the clause of the first RAISE that is refused
@@ -98,8 +98,8 @@ tokens_text [] = []
 tokens_text (p ∷ ps) = token_bytes p ++ tokens_text ps
 
 abbrev pub clause_or : Option (List ℕ) → List Marked → Outcome (List Marked)
-clause_or none t = accepted t
-clause_or (some c) t = refused (using_clause c)
+clause_or None t = accepted t
+clause_or (Some c) t = refused (using_clause c)
 
 -- pass 5's outcome is the refusal of the first refused RAISE, and the tokens' text if there is none
 pub join_tokens_lem : (ps : List Token) → join_tokens ps ≡ clause_or (first_clause ps) (tokens_text ps)
@@ -108,15 +108,15 @@ join_tokens_lem [] = refl
 join_tokens_lem (kept x ∷ ps) = rw (join_tokens_lem ps) (go (first_clause ps) (x ∷ []) (tokens_text ps))
   where
     go : (o : Option (List ℕ)) (t u : List Marked) → accepted t ⊕ clause_or o u ≡ clause_or o (t ++ u)
-    go none t u = refl
-    go (some c) t u = refl
+    go None t u = refl
+    go (Some c) t u = refl
 join_tokens_lem (raised r ∷ ps) = rw (join_tokens_lem ps) (go r.fate (first_clause ps) (tokens_text ps))
   where
     go : (f : Fate) (o : Option (List ℕ)) (u : List Marked) → fate_text f ⊕ clause_or o u ≡ clause_or (either_of (fate_clause f) o) (fate_bytes f ++ u)
-    go (rewritten w m) none u = refl
-    go (rewritten w m) (some c) u = refl
-    go dropped none u = refl
-    go dropped (some c) u = refl
-    go (passed t) none u = refl
-    go (passed t) (some c) u = refl
+    go (rewritten w m) None u = refl
+    go (rewritten w m) (Some c) u = refl
+    go dropped None u = refl
+    go dropped (Some c) u = refl
+    go (passed t) None u = refl
+    go (passed t) (Some c) u = refl
     go (refused_clause c) o u = refl

@@ -1,11 +1,11 @@
 -- Rows for Note 1, each by computation: the requoted length, the buffer of just that length, and 2 before 3. Assumes nothing.
+use Rattle.std.specs.Prelude.{Ok, Err}
 use mathlib.Core.Path.{◌≡◌, refl}
 use mathlib.Core.List.{[], ◌∷◌, ◌++◌}
 use lib.ListN.{replicate}
 use Rattle.spec.specs.Bytes.{ascii}
 use Rattle.spec.specs.Requote.{requoted_length}
 use Rattle.spec.specs.Answers.{requoted_length_answer, requote_answer, requote_exit}
-use Rattle.spec.specs.declared.Filled.TheVariants.{Count, Refused}
 use Rattle.spec.specs.declared.Refusal.TheVariants.{NotAscii, BufferTooShort}
 use Rattle.spec.proofs.RowForms.{tabled}
 
@@ -30,16 +30,16 @@ unfolding tabled
 others = refl
 
 -- the empty text takes an empty buffer
-empty_text : requote_answer [] [] ≡ Count 0
+empty_text : requote_answer [] [] ≡ Ok 0
 unfolding tabled
 empty_text = refl
 
 -- a buffer of just that length, and one byte less
-just_enough : requote_answer (ascii "$$'$$") (replicate 4 0) ≡ Count 4
+just_enough : requote_answer (ascii "$$'$$") (replicate 4 0) ≡ Ok 4
 unfolding tabled
 just_enough = refl
 
-one_less : requote_answer (ascii "$$'$$") (replicate 3 0) ≡ Refused BufferTooShort
+one_less : requote_answer (ascii "$$'$$") (replicate 3 0) ≡ Err BufferTooShort
 unfolding tabled
 one_less = refl
 
@@ -53,10 +53,10 @@ unfolding tabled
 past_kept = refl
 
 -- 2 before 3
-high_first : requote_answer (97 ∷ 200 ∷ []) [] ≡ Refused (NotAscii 1)
+high_first : requote_answer (97 ∷ 200 ∷ []) [] ≡ Err (NotAscii 1)
 unfolding tabled
 high_first = refl
 
-high_length : requoted_length_answer (97 ∷ 200 ∷ []) ≡ Refused (NotAscii 1)
+high_length : requoted_length_answer (97 ∷ 200 ∷ []) ≡ Err (NotAscii 1)
 unfolding tabled
 high_length = refl

@@ -1,5 +1,6 @@
 -- Note 1: the sum over the spans is the length of the requoted text, at most twice the text's; the checks of requoting, each
 -- answer exactly on its condition; and requoting behind the call that tells the length. Assumes nothing.
+use Rattle.std.specs.Prelude.{Result, Ok, Err, ⊤}
 use mathlib.Core.Path.{◌≡◌, refl, sym, ap, ◌∙◌}
 use mathlib.Core.Bool.{true, false≢true}
 use mathlib.Core.List.{List, [], ◌∷◌, map, append-nil}
@@ -18,15 +19,11 @@ use Rattle.spec.proofs.ListLaws.{keep_le}
 use Rattle.spec.specs.Lists.{keep, concat, total}
 use Rattle.spec.specs.Requote.{doubled, single_quoted, inside_of, requote_span, requote_lexeme, requoted, quotes_in, requoted_span_length, requoted_lexeme_length, requoted_length}
 use Rattle.spec.specs.Spans.{Lexeme, lexemes}
-use Rattle.spec.specs.Answers.{search_limit, kept_behind, filled_answer, text_check, requoted_length_answer, short_last, requote_check, requote_answer, requote_exit}
+use Rattle.spec.specs.Answers.{search_limit, kept_behind, if_passed, text_check, requoted_length_answer, short_last, requote_check, requote_answer, requote_exit}
 use Rattle.spec.specs.declared.Span.{Span}
 use Rattle.spec.specs.declared.Span.TheVariants.{Verbatim, Dollar, Code}
-use Rattle.spec.specs.declared.Filled.TheVariants as filled
-use Rattle.spec.specs.declared.Filled.TheVariants.{Count}
 use Rattle.spec.specs.declared.Refusal.{Refusal}
 use Rattle.spec.specs.declared.Refusal.TheVariants.{TextTooLong, NotAscii, BufferTooShort}
-use Rattle.spec.specs.declared.Check.{Check}
-use Rattle.spec.specs.declared.Check.TheVariants.{Passed, Refused}
 
 -- ---- the length
 
@@ -79,15 +76,15 @@ requoted_twice xs = omega (arith, requoted_exactly xs, requoted_length_lem xs)
 
 -- requoting's checks, by those of the text and the lent length
 module _ (xs lent : List ℕ) where
-  pub text_refused : (r : Refusal) → text_check xs ≡ Refused r → requote_check xs lent ≡ Refused r
+  pub text_refused : (r : Refusal) → text_check xs ≡ Err r → requote_check xs lent ≡ Err r
   unfolding requote_check
   text_refused r e = rw e refl
 
-  pub text_fits : text_check xs ≡ Passed → length (requoted xs) ≤ length lent → requote_check xs lent ≡ Passed
+  pub text_fits : text_check xs ≡ Ok tt → length (requoted xs) ≤ length lent → requote_check xs lent ≡ Ok tt
   unfolding requote_check
   text_fits e h = rw (e, requoted_exactly xs, le-leb (length (requoted xs)) (length lent) h) refl
 
-  pub text_short : text_check xs ≡ Passed → length lent < length (requoted xs) → requote_check xs lent ≡ Refused BufferTooShort
+  pub text_short : text_check xs ≡ Ok tt → length lent < length (requoted xs) → requote_check xs lent ≡ Err BufferTooShort
   unfolding requote_check
   text_short e h = rw (e, requoted_exactly xs, lt-leb (length (requoted xs)) (length lent) h) refl
 
@@ -99,22 +96,22 @@ pub data RequoteRefuses (xs lent : List ℕ) (r : Refusal) : Type 0 where
       → RequoteRefuses xs lent r
 
 -- the condition of each answer
-abbrev pub RequoteCondition : List ℕ → List ℕ → Check → Type 0
-RequoteCondition xs lent Passed = (length xs ≤ search_limit) × NoHigh xs × (length (requoted xs) ≤ length lent)
-RequoteCondition xs lent (Refused r) = RequoteRefuses xs lent r
+abbrev pub RequoteCondition : List ℕ → List ℕ → Result ⊤ Refusal → Type 0
+RequoteCondition xs lent (Ok tt) = (length xs ≤ search_limit) × NoHigh xs × (length (requoted xs) ≤ length lent)
+RequoteCondition xs lent (Err r) = RequoteRefuses xs lent r
 
 module _ (xs lent : List ℕ) where
   holds : RequoteCondition xs lent (requote_check xs lent)
   unfolding requote_check
   holds = behind (text_check xs) refl
     where
-      behind : (c : Check) → text_check xs ≡ c → RequoteCondition xs lent (short_last c (leb (requoted_length xs) (length lent)))
-      behind Passed e =
-          let p = check_only search_limit true xs [] Passed e in
+      behind : (c : Result ⊤ Refusal) → text_check xs ≡ c → RequoteCondition xs lent (short_last c (leb (requoted_length xs) (length lent)))
+      behind (Ok tt) e =
+          let p = check_only search_limit true xs [] (Ok tt) e in
           cond_case (RequoteCondition xs lent) (leb (requoted_length xs) (length lent)) _ _
           (λ y. (p.0, p.2, omega (arith, leb-true (requoted_length xs) (length lent) y, requoted_exactly xs)))
           (λ n. short refl p.0 p.2 (omega (arith, leb-false (requoted_length xs) (length lent) n, requoted_exactly xs)))
-      behind (Refused r) e = refused (check_only search_limit true xs [] (Refused r) e)
+      behind (Err r) e = refused (check_only search_limit true xs [] (Err r) e)
         where
           refused : CheckRefuses search_limit true xs [] r → RequoteRefuses xs lent r
           refused (too_long q h) = long q h
@@ -122,62 +119,62 @@ module _ (xs lent : List ℕ) where
           refused (not_ascii {i} q h y w) = ⊎_elim (λ f. high q h f) (λ f. absurd (not-suc-le-zero f.1.inside)) w
 
   -- each answer is given only on its condition
-  pub requote_only : (c : Check) → requote_check xs lent ≡ c → RequoteCondition xs lent c
+  pub requote_only : (c : Result ⊤ Refusal) → requote_check xs lent ≡ c → RequoteCondition xs lent c
   requote_only c e = rw e at holds
 
-  passes : length xs ≤ search_limit → NoHigh xs → text_check xs ≡ Passed
-  passes h n = check_always search_limit true xs [] Passed (h, refl, n, λ k l. absurd (not-suc-le-zero l))
+  passes : length xs ≤ search_limit → NoHigh xs → text_check xs ≡ Ok tt
+  passes h n = check_always search_limit true xs [] (Ok tt) (h, refl, n, λ k l. absurd (not-suc-le-zero l))
 
   -- and always on it
-  pub requote_always : (c : Check) → RequoteCondition xs lent c → requote_check xs lent ≡ c
-  requote_always Passed h = text_fits xs lent (passes h.0 h.1) h.2
-  requote_always (Refused r) (long e h) =
-      rw e (text_refused xs lent _ (check_always search_limit true xs [] (Refused TextTooLong) (too_long refl h)))
-  requote_always (Refused r) (high {i} e h f) =
-      rw e (text_refused xs lent _ (check_always search_limit true xs [] (Refused (NotAscii i)) (not_ascii refl h refl (inl f))))
-  requote_always (Refused r) (short e h n k) = rw e (text_short xs lent (passes h n) k)
+  pub requote_always : (c : Result ⊤ Refusal) → RequoteCondition xs lent c → requote_check xs lent ≡ c
+  requote_always (Ok tt) h = text_fits xs lent (passes h.0 h.1) h.2
+  requote_always (Err r) (long e h) =
+      rw e (text_refused xs lent _ (check_always search_limit true xs [] (Err TextTooLong) (too_long refl h)))
+  requote_always (Err r) (high {i} e h f) =
+      rw e (text_refused xs lent _ (check_always search_limit true xs [] (Err (NotAscii i)) (not_ascii refl h refl (inl f))))
+  requote_always (Err r) (short e h n k) = rw e (text_short xs lent (passes h n) k)
 
 -- ---- the two calls together
 
 -- where a length is told, the text passes 1 and 2, and it is that of the requoted text
-pub length_told : (xs : List ℕ) (n : ℕ) → requoted_length_answer xs ≡ Count n → (text_check xs ≡ Passed) × (length (requoted xs) ≡ n)
+pub length_told : (xs : List ℕ) (n : ℕ) → requoted_length_answer xs ≡ Ok n → (text_check xs ≡ Ok tt) × (length (requoted xs) ≡ n)
 unfolding requoted_length_answer
 length_told xs n e = go (text_check xs) e
   where
-    go : (c : Check) → filled_answer c (requoted_length xs) ≡ Count n → (c ≡ Passed) × (length (requoted xs) ≡ n)
-    go Passed e = let same : requoted_length xs ≡ n = cc in (refl, sym (requoted_exactly xs) ∙ same)
-    go (Refused r) e = absurd (apart cc)
+    go : (c : Result ⊤ Refusal) → if_passed c (requoted_length xs) ≡ Ok n → (c ≡ Ok tt) × (length (requoted xs) ≡ n)
+    go (Ok tt) e = let same : requoted_length xs ≡ n = cc in (refl, sym (requoted_exactly xs) ∙ same)
+    go (Err r) e = absurd (apart cc)
 
 -- where it is refused, the text does not pass, so requoting is refused alike (`text_refused`)
-pub length_refused : (xs : List ℕ) (r : Refusal) → requoted_length_answer xs ≡ filled.Refused r → text_check xs ≡ Refused r
+pub length_refused : (xs : List ℕ) (r : Refusal) → requoted_length_answer xs ≡ Err r → text_check xs ≡ Err r
 unfolding requoted_length_answer
 length_refused xs r e = go (text_check xs) e
   where
-    go : (c : Check) → filled_answer c (requoted_length xs) ≡ filled.Refused r → c ≡ Refused r
-    go Passed e = absurd (apart cc)
-    go (Refused q) e = let same : q ≡ r = cc in ap Refused same
+    go : (c : Result ⊤ Refusal) → if_passed c (requoted_length xs) ≡ Err r → c ≡ Err r
+    go (Ok tt) e = absurd (apart cc)
+    go (Err q) e = let same : q ≡ r = cc in ap Err same
 
 -- that call never gives 3; that it gives nothing but 1 and 2 follows from `length_refused` and `check_only`
-pub length_not_short : (xs : List ℕ) → requoted_length_answer xs ≡ filled.Refused BufferTooShort → ⊥
-length_not_short xs e = go (check_only search_limit true xs [] (Refused BufferTooShort) (length_refused xs BufferTooShort e))
+pub length_not_short : (xs : List ℕ) → requoted_length_answer xs ≡ Err BufferTooShort → ⊥
+length_not_short xs e = go (check_only search_limit true xs [] (Err BufferTooShort) (length_refused xs BufferTooShort e))
   where
     go : CheckRefuses search_limit true xs [] BufferTooShort → ⊥
     go (too_long q h) = apart cc
     go (too_short q h n) = false≢true (sym n)
     go (not_ascii q h y w) = apart cc
 
-module _ (xs lent : List ℕ) (n : ℕ) (e : requoted_length_answer xs ≡ Count n) where
+module _ (xs lent : List ℕ) (n : ℕ) (e : requoted_length_answer xs ≡ Ok n) where
   -- a buffer of the length that was told passes, and one byte less is 3
-  pub told_fits : n ≤ length lent → requote_check xs lent ≡ Passed
+  pub told_fits : n ≤ length lent → requote_check xs lent ≡ Ok tt
   told_fits h = let t = length_told xs n e in text_fits xs lent t.0 (omega (arith, t.1))
 
-  pub told_short : length lent < n → requote_check xs lent ≡ Refused BufferTooShort
+  pub told_short : length lent < n → requote_check xs lent ≡ Err BufferTooShort
   told_short h = let t = length_told xs n e in text_short xs lent t.0 (omega (arith, t.1))
 
   -- so what was told is what requoting answers, and a buffer of that length holds the requoted text and nothing else
-  pub told_answer : n ≤ length lent → requote_answer xs lent ≡ Count n
+  pub told_answer : n ≤ length lent → requote_answer xs lent ≡ Ok n
   unfolding requote_answer
-  told_answer h = rw (told_fits h) (ap Count (requoted_exactly xs ∙ (length_told xs n e).1))
+  told_answer h = rw (told_fits h) (ap Ok (requoted_exactly xs ∙ (length_told xs n e).1))
 
   pub told_exit : length lent ≡ n → requote_exit xs lent ≡ requoted xs
   unfolding requote_exit kept_behind

@@ -1,10 +1,10 @@
 -- How a row of document 01's table is written down, and a row of the function call for `oracle/check-definitions`. Assumes
 -- nothing.
+use Rattle.std.specs.Prelude.{Option}
 use Prim.Native.Nat.{ℕ, ◌+◌, ◌*◌}
 use Prim.Native.String.{String}
 use mathlib.Core.Bool.{Bool, cond, not, ◌&&◌}
 use mathlib.Core.List.{List, [], ◌∷◌, ◌++◌}
-use mathlib.Core.Option.{Option}
 use lib.Dec.{eqb}
 use lib.ListN.{get_or, take, drop}
 use Rattle.spec.specs.Bytes.{ascii, is_same}
@@ -12,7 +12,7 @@ use Rattle.spec.specs.Closed.{is_closed}
 use Rattle.spec.specs.Declarations.{Declared, records_of, record_width, record_limit, chain_from}
 use Rattle.spec.specs.Raise.{default_actions}
 use Rattle.spec.specs.Computed.{computed}
-use Rattle.spec.specs.Answers.{CallNumbers, call_numbers, Result, body_result, function_result}
+use Rattle.spec.specs.Answers.{CallNumbers, call_numbers, CallResult, body_result, function_result}
 
 -- what a call whose checks pass gives: the four numbers and the output
 pub record Row : Type 0 where
@@ -20,7 +20,7 @@ pub record Row : Type 0 where
   pub output : List ℕ
 
 -- the row of what a call gives
-unfoldable pub result_row : Result → Row
+unfoldable pub result_row : CallResult → Row
 result_row r = record { numbers = call_numbers r.answer; output = r.output }
 
 -- the body call on this text, without a table
@@ -58,7 +58,7 @@ pub record FunctionRow : Type 0 where
   pub row : Row
   pub declared : List ℕ
 
-unfoldable pub row_of : Result → FunctionRow
+unfoldable pub row_of : CallResult → FunctionRow
 row_of r =
     let declared = unpacked_all r.records r.declared (chain_from record_limit r.records (get_or r.records 0 0)) in
     record { row = result_row r; declared = declared }

@@ -1,5 +1,6 @@
 -- The searches for a keyword, a byte and a needle in document 01's words: what each finds is the least offset of what it seeks,
 -- and none exactly if there is none. Assumes nothing.
+use Rattle.std.specs.Prelude.{Some, None}
 use mathlib.Core.Path.{◌≡◌, refl, sym, ◌∙◌}
 use mathlib.Core.List.{List, []}
 use mathlib.Core.Logic.{◌⊎◌, inr}
@@ -16,7 +17,6 @@ use Rattle.spec.proofs.FirstLaws.{LeastOf, NoneOf, Says, found_least, least_foun
 use Rattle.spec.specs.Bytes.{is_word, prefix_by}
 use Rattle.spec.specs.Map.{map_of, marked_text}
 use Rattle.spec.specs.Search.{keyword_here, find_keyword, byte_here, find_in_code, needle_here, find_str_in_code}
-use Rattle.spec.specs.declared.Found.TheVariants.{At, Nothing}
 use Rattle.spec.proofs.MatchLaws.{word_complete, IsWordAt, Same, at_prefix, prefix_at, word_sound}
 
 -- ---- `find_keyword`
@@ -37,29 +37,29 @@ keyword_says xs w =
 
 module _ (xs w : List ℕ) (from : ℕ) where
   -- the least offset at or after the starting one
-  pub keyword_found : (j : ℕ) → find_keyword xs w from ≡ At j → LeastOf (IsKeywordAt xs w) from j
+  pub keyword_found : (j : ℕ) → find_keyword xs w from ≡ Some j → LeastOf (IsKeywordAt xs w) from j
   unfolding find_keyword
   keyword_found = sought_least (keyword_here w) (marked_text xs) (IsKeywordAt xs w) (keyword_says xs w) w from
 
-  pub found_keyword : (j : ℕ) → 0 < length w → LeastOf (IsKeywordAt xs w) from j → find_keyword xs w from ≡ At j
+  pub found_keyword : (j : ℕ) → 0 < length w → LeastOf (IsKeywordAt xs w) from j → find_keyword xs w from ≡ Some j
   unfolding find_keyword
   found_keyword = least_sought (keyword_here w) (marked_text xs) (IsKeywordAt xs w) (keyword_says xs w) w from
 
   -- none exactly if none exists or the keyword is empty
-  pub keyword_none : find_keyword xs w from ≡ Nothing → (w ≡ []) ⊎ NoneOf (IsKeywordAt xs w) from
+  pub keyword_none : find_keyword xs w from ≡ None → (w ≡ []) ⊎ NoneOf (IsKeywordAt xs w) from
   unfolding find_keyword
   keyword_none = sought_none (keyword_here w) (marked_text xs) (IsKeywordAt xs w) (keyword_says xs w) w from
 
-  pub none_keyword : (w ≡ []) ⊎ NoneOf (IsKeywordAt xs w) from → find_keyword xs w from ≡ Nothing
+  pub none_keyword : (w ≡ []) ⊎ NoneOf (IsKeywordAt xs w) from → find_keyword xs w from ≡ None
   unfolding find_keyword
   none_keyword = none_sought (keyword_here w) (marked_text xs) (IsKeywordAt xs w) (keyword_says xs w) w from
 
   -- a start past the end finds none
-  pub keyword_past : length xs ≤ from → find_keyword xs w from ≡ Nothing
+  pub keyword_past : length xs ≤ from → find_keyword xs w from ≡ None
   keyword_past h = none_keyword (inr (λ k a r. omega (arith, live_inside (map_of xs) k r.is_live_lem, map_length xs)))
 
   -- nor does one with too few bytes behind it
-  pub keyword_short : length xs < from + length w → find_keyword xs w from ≡ Nothing
+  pub keyword_short : length xs < from + length w → find_keyword xs w from ≡ None
   keyword_short h = none_keyword (inr (λ k a r. omega (arith, r.matches.fits)))
 
 -- ---- `find_in_code`
@@ -86,19 +86,19 @@ byte_says xs b =
 
 module _ (xs : List ℕ) (b : ℕ) where
   -- the least offset of that live byte, none exactly if there is none
-  pub byte_found : (j : ℕ) → find_in_code xs b ≡ At j → LeastOf (IsByteAt xs b) 0 j
+  pub byte_found : (j : ℕ) → find_in_code xs b ≡ Some j → LeastOf (IsByteAt xs b) 0 j
   unfolding find_in_code
   byte_found j e = found_least (byte_here b) (marked_text xs) (IsByteAt xs b) (byte_says xs b) 0 j e
 
-  pub found_byte : (j : ℕ) → LeastOf (IsByteAt xs b) 0 j → find_in_code xs b ≡ At j
+  pub found_byte : (j : ℕ) → LeastOf (IsByteAt xs b) 0 j → find_in_code xs b ≡ Some j
   unfolding find_in_code
   found_byte j r = least_found (byte_here b) (marked_text xs) (IsByteAt xs b) (byte_says xs b) 0 j r
 
-  pub byte_none : find_in_code xs b ≡ Nothing → NoneOf (IsByteAt xs b) 0
+  pub byte_none : find_in_code xs b ≡ None → NoneOf (IsByteAt xs b) 0
   unfolding find_in_code
   byte_none e = found_none (byte_here b) (marked_text xs) (IsByteAt xs b) (byte_says xs b) 0 e
 
-  pub none_byte : NoneOf (IsByteAt xs b) 0 → find_in_code xs b ≡ Nothing
+  pub none_byte : NoneOf (IsByteAt xs b) 0 → find_in_code xs b ≡ None
   unfolding find_in_code
   none_byte r = none_found (byte_here b) (marked_text xs) (IsByteAt xs b) (byte_says xs b) 0 r
 
@@ -132,19 +132,19 @@ needle_says xs w =
 
 module _ (xs w : List ℕ) where
   -- the least offset of the needle
-  pub needle_found : (j : ℕ) → find_str_in_code xs w ≡ At j → LeastOf (IsNeedleAt xs w) 0 j
+  pub needle_found : (j : ℕ) → find_str_in_code xs w ≡ Some j → LeastOf (IsNeedleAt xs w) 0 j
   unfolding find_str_in_code
   needle_found = sought_least (needle_here w) (marked_text xs) (IsNeedleAt xs w) (needle_says xs w) w 0
 
-  pub found_needle : (j : ℕ) → 0 < length w → LeastOf (IsNeedleAt xs w) 0 j → find_str_in_code xs w ≡ At j
+  pub found_needle : (j : ℕ) → 0 < length w → LeastOf (IsNeedleAt xs w) 0 j → find_str_in_code xs w ≡ Some j
   unfolding find_str_in_code
   found_needle = least_sought (needle_here w) (marked_text xs) (IsNeedleAt xs w) (needle_says xs w) w 0
 
   -- none exactly if none exists or the needle is empty
-  pub needle_none : find_str_in_code xs w ≡ Nothing → (w ≡ []) ⊎ NoneOf (IsNeedleAt xs w) 0
+  pub needle_none : find_str_in_code xs w ≡ None → (w ≡ []) ⊎ NoneOf (IsNeedleAt xs w) 0
   unfolding find_str_in_code
   needle_none = sought_none (needle_here w) (marked_text xs) (IsNeedleAt xs w) (needle_says xs w) w 0
 
-  pub none_needle : (w ≡ []) ⊎ NoneOf (IsNeedleAt xs w) 0 → find_str_in_code xs w ≡ Nothing
+  pub none_needle : (w ≡ []) ⊎ NoneOf (IsNeedleAt xs w) 0 → find_str_in_code xs w ≡ None
   unfolding find_str_in_code
   none_needle = none_sought (needle_here w) (marked_text xs) (IsNeedleAt xs w) (needle_says xs w) w 0

@@ -1,9 +1,9 @@
 -- Pass 3 finds the target of a text's first statement that has one, where statements are the parts between live `;`, and
 -- none exactly if no statement has one. Assumes nothing.
+use Rattle.std.specs.Prelude.{Option, Some, None}
 use mathlib.Core.Path.{◌≡◌, refl, sym, ◌∙◌}
 use mathlib.Core.List.{List, [], ◌∷◌}
 use mathlib.Core.Logic.{◌↔◌, ◌⊎◌, inl, inr, ⊎_elim}
-use mathlib.Core.Option.{Option, none, some}
 use Prim.Native.Nat.{ℕ, zero, suc, ◌+◌, ◌-◌, ◌≤◌, ◌<◌}
 use native.Mathlib.Omega.{arith}
 use borrow.Author.Tests.{ltb-true, ltb-false, eqb-true, eqb-false}
@@ -26,15 +26,13 @@ use Rattle.spec.proofs.WalkLaws.{pieces_at, pieces_cut, pieces_last}
 use Rattle.spec.specs.Map.{Marked, marked_text}
 use Rattle.spec.specs.Search.{first, byte_here, pieces}
 use Rattle.spec.specs.Assignments.{Target, or_else, statement_target}
-use Rattle.spec.specs.declared.Found.{Found}
-use Rattle.spec.specs.declared.Found.TheVariants.{At, Nothing}
 
 -- ---- a list of statements
 
 -- what it finds, and that it finds none, in words
 record Finds (ss : List (List Marked)) (F : Target → Type 0) (N : Type 0) : Type 0 where
   some_target : Exactly (first_target ss) F
-  no_target_lem : (first_target ss ≡ none) ↔ N
+  no_target_lem : (first_target ss ≡ None) ↔ N
 
 finds_nothing : Finds [] (λ r. ⊥) (⊥ → ⊥)
 unfolding first_some
@@ -48,8 +46,8 @@ module _ (p : List Marked) (ps : List (List Marked)) where
   first_cons = go (statement_target p)
     where
       go : (o : Option Target) → either_of o (first_target ps) ≡ or_else o (first_target ps)
-      go none = refl
-      go (some r) = refl
+      go None = refl
+      go (Some r) = refl
 
   finds_cons : {F : Target → Type 0} {N : Type 0} → Finds ps F N
       → Finds (p ∷ ps) (λ r. IsTargetOf p r ⊎ (HasNoTarget p × F r)) (HasNoTarget p × N)
@@ -215,7 +213,7 @@ module _ (ys : List ℕ) (i : ℕ) (h : i ≤ length ys) (s : IsStart ys i) wher
         )
 
 -- what stands from i on, by the first live `;` at or behind i
-from_last : (ys : List ℕ) (i : ℕ) → i ≤ length ys → IsStart ys i → first (byte_here 59) i (marked_text ys) ≡ Nothing
+from_last : (ys : List ℕ) (i : ℕ) → i ≤ length ys → IsStart ys i → first (byte_here 59) i (marked_text ys) ≡ None
     → FindsFrom ys i (from ys i)
 from_last ys i h s e =
     rw (pieces_last (byte_here 59) (marked_text ys) i e)
@@ -224,7 +222,7 @@ from_last ys i h s e =
 cut_inside : (ys : List ℕ) (j : ℕ) → IsByteAt ys 59 j → j < length ys
 cut_inside ys j m = omega (arith, (byte_says ys 59).inside j m, text_length ys)
 
-from_cut : (ys : List ℕ) (i j : ℕ) → i ≤ length ys → IsStart ys i → first (byte_here 59) i (marked_text ys) ≡ At j
+from_cut : (ys : List ℕ) (i j : ℕ) → i ≤ length ys → IsStart ys i → first (byte_here 59) i (marked_text ys) ≡ Some j
     → (i ≤ j → j < length ys → IsStart ys (j + 1) → FindsFrom ys (j + 1) (from ys (j + 1)))
     → FindsFrom ys i (from ys i)
 from_cut ys i j h s e more =
@@ -243,10 +241,10 @@ finds ys zero i h b s = absurd (omega arith)
 finds ys (suc n) i h b s = go (λ j. finds ys n (j + 1)) (first (byte_here 59) i (marked_text ys)) refl
   where
     go : ((j : ℕ) → j + 1 ≤ length ys → length ys < j + 1 + n → IsStart ys (j + 1) → FindsFrom ys (j + 1) (from ys (j + 1)))
-        → (f : Found) → first (byte_here 59) i (marked_text ys) ≡ f
+        → (f : Option ℕ) → first (byte_here 59) i (marked_text ys) ≡ f
         → FindsFrom ys i (from ys i)
-    go more Nothing e = from_last ys i h s e
-    go more (At j) e = from_cut ys i j h s e (λ l g. more j (omega arith) (omega arith))
+    go more None e = from_last ys i h s e
+    go more (Some j) e = from_cut ys i j h s e (λ l g. more j (omega arith) (omega arith))
 
 -- ---- the laws
 
@@ -260,7 +258,7 @@ module _ (ys : List ℕ) where
   target_in_exactly = whole.some_target
 
   -- and none exactly if no statement has one
-  pub target_in_none : (target_in ys ≡ none) ↔ ((a e : ℕ) → IsStatement ys a e → HasNoTarget (part a e (marked_text ys)))
+  pub target_in_none : (target_in ys ≡ None) ↔ ((a e : ℕ) → IsStatement ys a e → HasNoTarget (part a e (marked_text ys)))
   unfolding target_in pieces
   target_in_none =
       ((λ h a e. whole.no_target_lem.0 h a e (omega arith)), (λ n. whole.no_target_lem.1 (λ a e l. n a e)))

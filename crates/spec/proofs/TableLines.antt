@@ -1,11 +1,11 @@
 -- The lines of a table by their levels: which levels stand in them, that all are different, and what they give at the table's
 -- end. Assumes nothing.
+use Rattle.std.specs.Prelude.{Option, Some, None, Result, Ok, Err}
 use mathlib.Core.Path.{◌≡◌, refl, sym, ap, ap₂, ◌∙◌}
 use mathlib.Core.Bool.{true, false≢true}
 use mathlib.Core.List.Memᴰ
 use mathlib.Core.List.{List, [], ◌∷◌, map, Memᴰ}
 use mathlib.Core.Logic.{◌⊎◌, inl, inr, ⊎_elim}
-use mathlib.Core.Option.{Option, none, some}
 use Prim.Native.Nat.{ℕ}
 use Rattle.spec.proofs.Apart.{apart}
 use Rattle.spec.proofs.Choice.{by}
@@ -18,10 +18,9 @@ use Rattle.spec.specs.declared.Level.{Level}
 use Rattle.spec.specs.declared.Level.TheVariants.{Debug, Log, Info, Notice, Warning, Exception}
 use Rattle.spec.specs.declared.Action.{Action}
 use Rattle.spec.specs.declared.Action.TheVariants.{Drop}
-use Rattle.spec.specs.declared.Actions.{Actions}
+use Rattle.spec.specs.Raise.{Actions}
 use Rattle.spec.specs.declared.Refusal.TheVariants.{MissingLevel}
-use Rattle.spec.specs.declared.Table.{Table}
-use Rattle.spec.specs.declared.Table.TheVariants.{Given, Refused}
+use Rattle.spec.specs.declared.Refusal.{Refusal}
 
 -- ---- the words
 
@@ -63,44 +62,44 @@ eq_level k l h = rw h (same_refl (level_name l))
 -- ---- the action that lines give a level
 
 -- it is that of one of the lines
-pub given_line : (es : List Entry) (l : Level) (a : Action) → given_action es l ≡ some a → Memᴰ (entry l a) es
+pub given_line : (es : List Entry) (l : Level) (a : Action) → given_action es l ≡ Some a → Memᴰ (entry l a) es
 unfolding given_action
 given_line [] l a h = absurd (apart (cc))
 given_line (e ∷ es) l a h =
     by (is_level e.level l)
     (λ q.
-    let k : some e.action ≡ some a = rw q at h in
+    let k : Some e.action ≡ Some a = rw q at h in
     let same : a ≡ e.action = cc in
     Memᴰ.head (ap₂ entry (sym (level_eq e.level l q)) same))
-    (λ q. let k : given_action es l ≡ some a = rw q at h in Memᴰ.tail (given_line es l a k))
+    (λ q. let k : given_action es l ≡ Some a = rw q at h in Memᴰ.tail (given_line es l a k))
 
 -- there is none exactly if no line has the level, and else there is one
-pub none_given : (es : List Entry) (l : Level) → given_action es l ≡ none → Stands l es → ⊥
+pub none_given : (es : List Entry) (l : Level) → given_action es l ≡ None → Stands l es → ⊥
 unfolding given_action
 none_given [] l h s = Memᴰ.not-nil s.1
 none_given (e ∷ es) l h s =
     by (is_level e.level l)
-    (λ q. let k : some e.action ≡ none = rw q at h in apart (cc))
+    (λ q. let k : Some e.action ≡ None = rw q at h in apart (cc))
     (λ q.
-    let k : given_action es l ≡ none = rw q at h in
+    let k : given_action es l ≡ None = rw q at h in
     ⊎_elim
     (λ i. false≢true (sym q ∙ eq_level e.level l (sym (ap (λ (f : Entry). f.level) i) ∙ s.2)))
     (λ m. none_given es l k (s.0, m, s.2))
     (Memᴰ.cases_cons s.1))
 
-pub given_none : (es : List Entry) (l : Level) → (Stands l es → ⊥) → given_action es l ≡ none
+pub given_none : (es : List Entry) (l : Level) → (Stands l es → ⊥) → given_action es l ≡ None
 given_none es l w = go (given_action es l) refl
   where
-    go : (o : Option Action) → given_action es l ≡ o → given_action es l ≡ none
-    go none h = h
-    go (some a) h = absurd (w (entry l a, given_line es l a h, refl))
+    go : (o : Option Action) → given_action es l ≡ o → given_action es l ≡ None
+    go None h = h
+    go (Some a) h = absurd (w (entry l a, given_line es l a h, refl))
 
-pub given_some : (es : List Entry) (l : Level) → Stands l es → (a : Action) × (given_action es l ≡ some a)
+pub given_some : (es : List Entry) (l : Level) → Stands l es → (a : Action) × (given_action es l ≡ Some a)
 given_some es l s = go (given_action es l) refl
   where
-    go : (o : Option Action) → given_action es l ≡ o → (a : Action) × (given_action es l ≡ some a)
-    go none h = absurd (none_given es l h s)
-    go (some a) h = (a, h)
+    go : (o : Option Action) → given_action es l ≡ o → (a : Action) × (given_action es l ≡ Some a)
+    go None h = absurd (none_given es l h s)
+    go (Some a) h = (a, h)
 
 -- of different levels a line is told by its level
 pub only_line : (es : List Entry) (e f : Entry) → Different es → Memᴰ e es → Memᴰ f es → e.level ≡ f.level → e ≡ f
@@ -114,19 +113,19 @@ only_line (g ∷ es) e f d m n q =
 -- ---- the table's end
 
 -- t says the lines' actions, or that a level is missing
-abbrev Ends : List Entry → ℕ → Table → Type 0
+abbrev Ends : List Entry → ℕ → Result Actions Refusal → Type 0
 Ends es n t =
-    ((a : Actions) × ((l : Level) → given_action es l ≡ some (action_of a l)) × (t ≡ Given a))
-    ⊎ ((l : Level) × (given_action es l ≡ none) × (t ≡ Refused (MissingLevel n)))
+    ((a : Actions) × ((l : Level) → given_action es l ≡ Some (action_of a l)) × (t ≡ Ok a))
+    ⊎ ((l : Level) × (given_action es l ≡ None) × (t ≡ Err (MissingLevel n)))
 
-by_level : (es : List Entry) (n : ℕ) (l : Level) (next : Action → Table)
-    → ((a : Action) → given_action es l ≡ some a → Ends es n (next a))
+by_level : (es : List Entry) (n : ℕ) (l : Level) (next : Action → Result Actions Refusal)
+    → ((a : Action) → given_action es l ≡ Some a → Ends es n (next a))
     → Ends es n (or_missing n (given_action es l) next)
 by_level es n l next more = go (given_action es l) refl
   where
     go : (o : Option Action) → given_action es l ≡ o → Ends es n (or_missing n (given_action es l) next)
-    go none h = inr (l, h, ap (λ p. or_missing n p next) h)
-    go (some a) h = rw h (more a h)
+    go None h = inr (l, h, ap (λ p. or_missing n p next) h)
+    go (Some a) h = rw h (more a h)
 
 -- so the table's end says one of the two
 pub end_cases : (es : List Entry) (n : ℕ) → Ends es n (table_end es n)
@@ -139,4 +138,4 @@ end_cases es n =
     by_level es n Warning _ (λ w hw.
     by_level es n Exception _ (λ x hx.
     let a : Actions = record { debug = d; log = l; info = i; notice = m; warning = w; exception = x } in
-    inl (a, each_level (λ k. given_action es k ≡ some (action_of a k)) hd hl hi hm hw hx, refl)))))))
+    inl (a, each_level (λ k. given_action es k ≡ Some (action_of a k)) hd hl hi hm hw hx, refl)))))))

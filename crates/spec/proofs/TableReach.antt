@@ -1,5 +1,6 @@
 -- How far a table is read: what stands behind its first bad line does not matter, its first 133 bytes decide, and the places
 -- are within bounds. Assumes nothing.
+use Rattle.std.specs.Prelude.{Result, Err}
 use mathlib.Core.Path.{◌≡◌, refl, sym, ap, ◌∙◌}
 use mathlib.Core.Bool.{true, false≢true}
 use mathlib.Core.List.{List, [], ◌∷◌, ◌++◌, append_assoc}
@@ -13,10 +14,9 @@ use Rattle.spec.proofs.LevelLaws.{HasMalformedLine, HasRepeatedLevel, HasActions
 use Rattle.spec.proofs.TableLines.{table_text, Stands, Different}
 use Rattle.spec.proofs.TableSize.{at_most_six, at_most_five, all_six, lines_size}
 use Rattle.spec.specs.Levels.{Entry, line_text, table_of}
-use Rattle.spec.specs.declared.Actions.{Actions}
+use Rattle.spec.specs.Raise.{Actions}
 use Rattle.spec.specs.declared.Refusal.TheVariants.{MalformedLine, RepeatedLevel, MissingLevel}
-use Rattle.spec.specs.declared.Table.{Table}
-use Rattle.spec.specs.declared.Table.TheVariants.{Refused}
+use Rattle.spec.specs.declared.Refusal.{Refusal}
 
 -- ---- behind the first bad line
 
@@ -35,7 +35,7 @@ pub bad_line_decides : (es : List Entry) (line xs ys : List ℕ) → Different e
 bad_line_decides es line xs ys d o bad =
     ⊎_elim (λ w. malformed xs w ∙ sym (malformed ys w)) (λ w. repeated xs w ∙ sym (repeated ys w)) bad
   where
-    malformed : (rest : List ℕ) → ((e : Entry) → line ≡ line_text e → ⊥) → table_of (table_text es ++ (line ++ rest)) ≡ Refused (MalformedLine (length (table_text es)))
+    malformed : (rest : List ℕ) → ((e : Entry) → line ≡ line_text e → ⊥) → table_of (table_text es ++ (line ++ rest)) ≡ Err (MalformedLine (length (table_text es)))
     malformed rest w =
         (malformed_line_exactly (table_text es ++ (line ++ rest)) (length (table_text es))).1
         (record {
@@ -48,7 +48,7 @@ bad_line_decides es line xs ys d o bad =
           place = refl;
         })
 
-    repeated : (rest : List ℕ) → ((e : Entry) × (line ≡ line_text e) × Stands e.level es) → table_of (table_text es ++ (line ++ rest)) ≡ Refused (RepeatedLevel (length (table_text es)))
+    repeated : (rest : List ℕ) → ((e : Entry) × (line ≡ line_text e) × Stands e.level es) → table_of (table_text es ++ (line ++ rest)) ≡ Err (RepeatedLevel (length (table_text es)))
     repeated rest w =
         (repeated_level_exactly (table_text es ++ (line ++ rest)) (length (table_text es))).1
         (record {
@@ -114,7 +114,7 @@ module _ (xs : List ℕ) (k : ℕ) (h : 133 ≤ k) where
   whole : (es : List Entry) → xs ≡ table_text es → Different es → take k xs ≡ xs
   whole es p d = take_all k xs (omega (arith, ap length p, lines_bound es d))
 
-  decided : (t : Table) → Says xs t → table_of (take k xs) ≡ t
+  decided : (t : Result Actions Refusal) → Says xs t → table_of (take k xs) ≡ t
   decided =
       by_words xs (λ t. table_of (take k xs) ≡ t)
       (λ a w. ap table_of (whole w.lines w.parts w.different) ∙ (actions_exactly xs a).1 w)
@@ -129,13 +129,13 @@ module _ (xs : List ℕ) (k : ℕ) (h : 133 ≤ k) where
 -- ---- the places
 
 -- of 11 and 12 at most 114, of 13 at most 95
-pub malformed_place : (xs : List ℕ) (i : ℕ) → table_of xs ≡ Refused (MalformedLine i) → i ≤ 114
+pub malformed_place : (xs : List ℕ) (i : ℕ) → table_of xs ≡ Err (MalformedLine i) → i ≤ 114
 malformed_place xs i h = let w = (malformed_line_exactly xs i).0 h in omega (arith, w.place, lines_bound w.before w.different)
 
-pub repeated_place : (xs : List ℕ) (i : ℕ) → table_of xs ≡ Refused (RepeatedLevel i) → i ≤ 114
+pub repeated_place : (xs : List ℕ) (i : ℕ) → table_of xs ≡ Err (RepeatedLevel i) → i ≤ 114
 repeated_place xs i h = let w = (repeated_level_exactly xs i).0 h in omega (arith, w.place, lines_bound w.before w.different)
 
-pub missing_place : (xs : List ℕ) (i : ℕ) → table_of xs ≡ Refused (MissingLevel i) → i ≤ 95
+pub missing_place : (xs : List ℕ) (i : ℕ) → table_of xs ≡ Err (MissingLevel i) → i ≤ 95
 missing_place xs i h =
     let w = (missing_level_exactly xs i).0 h in
     omega (arith, w.place, ap length w.parts, lines_size w.lines, at_most_five w.lines w.level w.different w.missing)

@@ -1,7 +1,7 @@
 -- How many lines of different levels there can be, and how long they are. Assumes nothing.
+use Rattle.std.specs.Prelude.{Option, Some, None}
 use mathlib.Core.Path.{◌≡◌, ap, ◌∙◌}
 use mathlib.Core.List.{List, [], ◌∷◌}
-use mathlib.Core.Option.{Option, none, some}
 use Prim.Native.Nat.{ℕ, suc, ◌*◌, ◌≤◌}
 use native.Mathlib.Omega.{arith}
 use lib.ListN.{length, length-append}
@@ -16,22 +16,22 @@ use Rattle.spec.specs.declared.Action.{Action}
 use Rattle.spec.specs.declared.Action.TheVariants.{Drop}
 
 abbrev counted : Option Action → ℕ
-counted none = 0
-counted (some a) = 1
+counted None = 0
+counted (Some a) = 1
 
 -- how many levels the lines give an action
 abbrev level_count : List Entry → ℕ
 level_count es = total (λ (l : Level). counted (given_action es l)) all_levels
 
 counted_le : (o : Option Action) → counted o ≤ 1
-counted_le none = omega arith
-counted_le (some a) = omega arith
+counted_le None = omega arith
+counted_le (Some a) = omega arith
 
 -- a line of a new level gives one more
-one_more_lem : (es : List Entry) (l : Level) (a : Action) → given_action es l ≡ none → level_count (entry l a ∷ es) ≡ suc (level_count es)
+one_more_lem : (es : List Entry) (l : Level) (a : Action) → given_action es l ≡ None → level_count (entry l a ∷ es) ≡ suc (level_count es)
 unfolding total all_levels given_action is_level level_name is_same
 one_more_lem es =
-    each_level (λ l. (a : Action) → given_action es l ≡ none → level_count (entry l a ∷ es) ≡ suc (level_count es))
+    each_level (λ l. (a : Action) → given_action es l ≡ None → level_count (entry l a ∷ es) ≡ suc (level_count es))
     (λ a h. omega (arith, ap counted h))
     (λ a h. omega (arith, ap counted h))
     (λ a h. omega (arith, ap counted h))

@@ -1,10 +1,10 @@
 -- A table read through its lines: those in front that are well formed and of different levels, and what stands behind them.
 -- Assumes nothing.
+use Rattle.std.specs.Prelude.{Option, Some, None}
 use mathlib.Core.Path.{◌≡◌, refl, sym, ap, ◌∙◌}
 use mathlib.Core.List.Memᴰ
 use mathlib.Core.List.{List, [], ◌∷◌, ◌++◌, reverse, reverse_aux, append_assoc, Memᴰ}
 use mathlib.Core.Logic.{◌↔◌, ◌⊎◌, inl, inr, ⊎_elim}
-use mathlib.Core.Option.{Option, none, some}
 use Prim.Native.Nat.{ℕ, zero, suc, ◌+◌, ◌≤◌, ◌<◌}
 use native.Mathlib.Omega.{arith}
 use lib.ListN.{length, drop, length-append}
@@ -94,7 +94,7 @@ none_before : (es : List Entry) (xs : List ℕ) → Ending [] es xs → Reading 
 unfolding concat
 none_before es xs e = record { before = []; rest = xs; parts = refl; different = tt; new = (λ e m s. Memᴰ.not-nil m); ending = e }
 
-front_line : (es : List Entry) (xs ys : List ℕ) (e : Entry) → xs ≡ line_text e ++ ys → given_action es e.level ≡ none → Reading (e ∷ es) ys → Reading es xs
+front_line : (es : List Entry) (xs ys : List ℕ) (e : Entry) → xs ≡ line_text e ++ ys → given_action es e.level ≡ None → Reading (e ∷ es) ys → Reading es xs
 unfolding concat
 front_line es xs ys e t g r =
     record {
@@ -128,16 +128,16 @@ step : (es : List Entry) (xs : List ℕ) → 0 < length xs → ((e : Entry) (ys 
 step es xs p more = by_entry (entry_of (first_line xs)) refl
   where
     by_given : (e : Entry) → xs ≡ line_text e ++ drop (length (line_text e)) xs → (o : Option Action) → given_action es e.level ≡ o → Reading es xs
-    by_given e t (some a) g =
+    by_given e t (Some a) g =
         none_before es xs (repeats e (drop (length (line_text e)) xs) t (inr (entry e.level a, given_line es e.level a g, refl)))
-    by_given e t none g =
+    by_given e t None g =
         let ys = drop (length (line_text e)) xs in
         let less : length ys < length xs = omega (arith, ap length t, length-append (line_text e) ys, text_size e) in
         front_line es xs ys e t g (more e ys less)
 
     by_entry : (o : Option Entry) → entry_of (first_line xs) ≡ o → Reading es xs
-    by_entry none q = none_before es xs (malformed p ((no_entry_exactly (first_line xs)).0 q))
-    by_entry (some e) q =
+    by_entry None q = none_before es xs (malformed p ((no_entry_exactly (first_line xs)).0 q))
+    by_entry (Some e) q =
         by_given e (text_first e xs ((entry_exactly (first_line xs) e).0 q)) (given_action es e.level) refl
 
 reading_of : (k : ℕ) (es : List Entry) (xs : List ℕ) → length xs ≤ k → Reading es xs

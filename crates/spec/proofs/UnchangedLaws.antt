@@ -1,4 +1,5 @@
 -- Passes 1, 2 and 5: a text that has none of a pass's places comes through that pass byte for byte. Assumes nothing.
+use Rattle.std.specs.Prelude.{Some, None}
 use mathlib.Core.Path.{◌≡◌, refl, sym, ap, ◌∙◌}
 use mathlib.Core.Bool.{Bool, true, false, false≢true}
 use mathlib.Core.List.{List, [], ◌∷◌, map}
@@ -20,7 +21,6 @@ use Rattle.spec.specs.Raise.{raises_from, token_text, join_tokens, raise}
 use Rattle.spec.specs.declared.Level.{Level}
 use Rattle.spec.specs.declared.Action.{Action}
 use Rattle.spec.specs.Body.{requote_pass, elsif_pass, raise_pass}
-use Rattle.spec.specs.declared.Found.TheVariants.{At, Nothing}
 use Rattle.spec.specs.declared.Span.{Span}
 use Rattle.spec.specs.declared.Span.TheVariants.{Verbatim, Dollar, Code}
 
@@ -59,12 +59,12 @@ pub requote_unchanged : (xs : List ℕ) → has_dollar xs ≡ false → requote_
 unfolding requote_pass
 requote_unchanged xs h = ap accepted (requoted_kept xs h)
 
-at_is_some : (i : ℕ) → At i ≡ Nothing → ⊥
+at_is_some : (i : ℕ) → Some i ≡ None → ⊥
 at_is_some i h = absurd (apart (cc))
 
 -- a search that finds none: the test fails at this place, and the search from the next one finds none
 pub none_here : (p : Test) (back : List Marked) (x : Marked) (t : List Marked)
-    → first_from p back (x ∷ t) ≡ Nothing
+    → first_from p back (x ∷ t) ≡ None
     → p back (x ∷ t) ≡ false
 unfolding first_from
 none_here p back x t h =
@@ -73,20 +73,20 @@ none_here p back x t h =
     (λ e. e)
 
 pub none_behind : (p : Test) (back : List Marked) (x : Marked) (t : List Marked)
-    → first_from p back (x ∷ t) ≡ Nothing
-    → first_from p (x ∷ back) t ≡ Nothing
+    → first_from p back (x ∷ t) ≡ None
+    → first_from p (x ∷ back) t ≡ None
 unfolding first_from
 none_behind p back x t h = rw (none_here p back x t h) at h
 
 -- a keyword that is not found stands at no place of the text
 pub keyword_nowhere : (xs : List ℕ) (a : ℕ) (w : List ℕ)
-    → find_keyword xs (a ∷ w) 0 ≡ Nothing
-    → first_from (keyword_here (a ∷ w)) [] (marked_text xs) ≡ Nothing
+    → find_keyword xs (a ∷ w) 0 ≡ None
+    → first_from (keyword_here (a ∷ w)) [] (marked_text xs) ≡ None
 unfolding find_keyword first is_empty
 keyword_nowhere xs a w h = h
 
 elsif_from_lem : (back t : List Marked)
-    → first_from (keyword_here (ascii "ELSIF")) back t ≡ Nothing
+    → first_from (keyword_here (ascii "ELSIF")) back t ≡ None
     → elsif_from 0 (front_byte back) t ≡ t
 unfolding elsif_from keyword_here front_byte
 elsif_from_lem back [] h = refl
@@ -95,17 +95,17 @@ elsif_from_lem back (x ∷ t) h =
     rw e (ap (λ l. x ∷ l) (elsif_from_lem (x ∷ back) t (none_behind (keyword_here (ascii "ELSIF")) back x t h)))
 
 -- pass 2: no live ELSIF, no byte changed
-pub elsif_kept : (xs : List ℕ) → find_keyword xs (ascii "ELSIF") 0 ≡ Nothing → bytes (elsif (marked_text xs)) ≡ xs
+pub elsif_kept : (xs : List ℕ) → find_keyword xs (ascii "ELSIF") 0 ≡ None → bytes (elsif (marked_text xs)) ≡ xs
 unfolding elsif front_byte
 elsif_kept xs h =
     ap bytes (elsif_from_lem [] (marked_text xs) (keyword_nowhere xs 69 (ascii "LSIF") h)) ∙ text_bytes xs
 
-pub elsif_unchanged : (xs : List ℕ) → find_keyword xs (ascii "ELSIF") 0 ≡ Nothing → elsif_pass xs ≡ accepted xs
+pub elsif_unchanged : (xs : List ℕ) → find_keyword xs (ascii "ELSIF") 0 ≡ None → elsif_pass xs ≡ accepted xs
 unfolding elsif_pass
 elsif_unchanged xs h = ap accepted (elsif_kept xs h)
 
 raise_from : (act : Level → Action) (back t : List Marked)
-    → first_from (keyword_here (ascii "RAISE")) back t ≡ Nothing
+    → first_from (keyword_here (ascii "RAISE")) back t ≡ None
     → join_tokens (raises_from act 0 (front_byte back) t) ≡ accepted t
 unfolding raises_from keyword_here front_byte join_tokens token_text ◌⊕◌
 raise_from act back [] h = refl
@@ -114,7 +114,7 @@ raise_from act back (x ∷ t) h =
     rw (e, raise_from act (x ∷ back) t (none_behind (keyword_here (ascii "RAISE")) back x t h))
 
 -- pass 5: no live RAISE, no byte changed
-pub raise_unchanged : (act : Level → Action) (xs : List ℕ) → find_keyword xs (ascii "RAISE") 0 ≡ Nothing → raise_pass act xs ≡ accepted xs
+pub raise_unchanged : (act : Level → Action) (xs : List ℕ) → find_keyword xs (ascii "RAISE") 0 ≡ None → raise_pass act xs ≡ accepted xs
 unfolding raise_pass raise forget front_byte
 raise_unchanged act xs h =
     rw (raise_from act [] (marked_text xs) (keyword_nowhere xs 82 (ascii "AISE") h)) (ap accepted (text_bytes xs))

@@ -1,9 +1,9 @@
 -- Passes 3 and 4, then all five: a text that has none of a pass's places comes through byte for byte, and the body call
 -- accepts it as it is. Assumes nothing.
+use Rattle.std.specs.Prelude.{Option, Some, None, Ok}
 use mathlib.Core.Path.{◌≡◌, refl, sym, ap, ◌∙◌}
 use mathlib.Core.Bool.{Bool, true, false, cond, not, ◌&&◌, false≢true}
 use mathlib.Core.List.{List, [], ◌∷◌, ◌++◌, reverse_aux, append-nil, append_assoc}
-use mathlib.Core.Option.{none}
 use Prim.Native.Nat.{ℕ, ◌≤◌}
 use native.Mathlib.Omega.{arith}
 use lib.Dec.{eqb}
@@ -25,13 +25,10 @@ use Rattle.spec.specs.Outcome.{accepted}
 use Rattle.spec.specs.Raise.{action_of}
 use Rattle.spec.specs.declared.Level.{Level}
 use Rattle.spec.specs.declared.Action.{Action}
-use Rattle.spec.specs.declared.Actions.{Actions}
+use Rattle.spec.specs.Raise.{Actions}
 use Rattle.spec.specs.Body.{buffer_size, requote_pass, elsif_pass, assign_pass, select_pass, raise_pass, rewriting}
 use Rattle.spec.specs.Answers.{result_of, body_result}
 use Rattle.spec.specs.Computed.{computed}
-use Rattle.spec.specs.declared.Found.{Found}
-use Rattle.spec.specs.declared.Found.TheVariants.{At, Nothing}
-use Rattle.spec.specs.declared.Rewritten.TheVariants as rewritten
 
 -- ---- pass 3
 
@@ -57,8 +54,8 @@ needle_more w back past x t u h =
 
 -- a needle that is nowhere in a text is nowhere in its front
 pub none_front : (w : List ℕ) (back past t u : List Marked)
-    → first_from (needle_here w) past (t ++ u) ≡ Nothing
-    → first_from (needle_here w) back t ≡ Nothing
+    → first_from (needle_here w) past (t ++ u) ≡ None
+    → first_from (needle_here w) back t ≡ None
 unfolding first_from
 none_front w back past [] u h = refl
 none_front w back past (x ∷ t) u h =
@@ -67,17 +64,17 @@ none_front w back past (x ∷ t) u h =
 
 -- and nowhere in what stands behind that
 pub none_rest : (p : Test) (back t u : List Marked)
-    → first_from p back (t ++ u) ≡ Nothing
-    → first_from p (reverse_aux t back) u ≡ Nothing
+    → first_from p back (t ++ u) ≡ None
+    → first_from p (reverse_aux t back) u ≡ None
 none_rest p back [] u h = h
 none_rest p back (x ∷ t) u h = none_rest p (x ∷ back) t u (none_behind p back x (t ++ u) h)
 
-assignment_kept : (back s u : List Marked) → first_from (needle_here (ascii ":=")) back (s ++ u) ≡ Nothing → assignment s ≡ s
+assignment_kept : (back s u : List Marked) → first_from (needle_here (ascii ":=")) back (s ++ u) ≡ None → assignment s ≡ s
 unfolding assignment assignment_at assign_here first
 assignment_kept back s u h = rw (none_front (ascii ":=") [] back s u h)
 
 assigned_kept : (back : List Marked) (ss : List (List Marked))
-    → first_from (needle_here (ascii ":=")) back (joined 59 ss) ≡ Nothing
+    → first_from (needle_here (ascii ":=")) back (joined 59 ss) ≡ None
     → assigned_text ss ≡ joined 59 ss
 unfolding assigned_text joined
 assigned_kept back [] h = refl
@@ -89,22 +86,22 @@ assigned_kept back (s ∷ r ∷ ss) h =
 
 -- pass 3: no live `:=` and no qualified target, no byte changed
 pub assign_unchanged : (xs : List ℕ)
-    → find_str_in_code xs (ascii ":=") ≡ Nothing
-    → target_in xs ≡ none
+    → find_str_in_code xs (ascii ":=") ≡ None
+    → target_in xs ≡ None
     → assign_pass xs ≡ accepted xs
 unfolding assigned find_str_in_code first is_empty pieces
 assign_unchanged xs h e =
     let t = marked_text xs in
     let j = pieces_joined 59 [] t in
-    let n : first_from (needle_here (ascii ":=")) [] (joined 59 (pieces_from (byte_here 59) [] t)) ≡ Nothing = rw j h in
+    let n : first_from (needle_here (ascii ":=")) [] (joined 59 (pieces_from (byte_here 59) [] t)) ≡ None = rw j h in
     assign_done xs e ∙ ap accepted (ap bytes (assigned_kept [] (pieces_from (byte_here 59) [] t) n ∙ j) ∙ text_bytes xs)
 
 -- ---- pass 4
 
 -- INTO stands at or behind this SELECT, outside parentheses and quotes
-abbrev pub into_behind : Found → List Marked → Bool
-into_behind Nothing t = false
-into_behind (At s) t = is_found (first (top_word_here (ascii "INTO")) s t)
+abbrev pub into_behind : Option ℕ → List Marked → Bool
+into_behind None t = false
+into_behind (Some s) t = is_found (first (top_word_here (ascii "INTO")) s t)
 
 -- the statement has SELECT and then INTO, outside parentheses and quotes
 unfoldable pub has_select_into : List Marked → Bool
@@ -133,13 +130,13 @@ select_kept : (t : List Marked) → has_select_into t ≡ false → select_state
 unfolding has_select_into select_statement select_at into_at
 select_kept t h = at (first (top_word_here (ascii "SELECT")) 0 t) h
   where
-    into : (s : ℕ) (f : Found) → is_found f ≡ false → into_at s f t ≡ t
-    into s Nothing h = refl
-    into s (At i) h = absurd (false≢true (sym h))
+    into : (s : ℕ) (f : Option ℕ) → is_found f ≡ false → into_at s f t ≡ t
+    into s None h = refl
+    into s (Some i) h = absurd (false≢true (sym h))
 
-    at : (f : Found) → into_behind f t ≡ false → select_at f t ≡ t
-    at Nothing h = refl
-    at (At s) h = into s (first (top_word_here (ascii "INTO")) s t) h
+    at : (f : Option ℕ) → into_behind f t ≡ false → select_at f t ≡ t
+    at None h = refl
+    at (Some s) h = into s (first (top_word_here (ascii "INTO")) s t) h
 
 selects_kept : (ss : List (List Marked)) → any has_select_into (ended ss) ≡ false → join_selects ss ≡ joined 59 ss
 unfolding join_selects joined any ended
@@ -164,11 +161,11 @@ select_unchanged xs h =
 pub record Plain (xs : List ℕ) : Type 0 where
   pub fits : length xs ≤ buffer_size
   pub no_dollar : has_dollar xs ≡ false
-  pub no_elsif : find_keyword xs (ascii "ELSIF") 0 ≡ Nothing
-  pub no_assignment : find_str_in_code xs (ascii ":=") ≡ Nothing
-  pub no_target : target_in xs ≡ none
+  pub no_elsif : find_keyword xs (ascii "ELSIF") 0 ≡ None
+  pub no_assignment : find_str_in_code xs (ascii ":=") ≡ None
+  pub no_target : target_in xs ≡ None
   pub no_select_into : has_into xs ≡ false
-  pub no_raise : find_keyword xs (ascii "RAISE") 0 ≡ Nothing
+  pub no_raise : find_keyword xs (ascii "RAISE") 0 ≡ None
 
 -- not one byte more
 pub plain_unchanged : (act : Level → Action) (xs : List ℕ) → Plain xs → rewriting act xs ≡ accepted xs
@@ -186,7 +183,7 @@ plain_unchanged act xs p =
     (raise_unchanged act xs p.no_raise) h
 
 -- the body call accepts it with any actions, with the text as the output
-pub plain_answer : (xs : List ℕ) (a : Actions) → Plain xs → (body_result xs a).answer ≡ rewritten.Accepted (length xs) 0
+pub plain_answer : (xs : List ℕ) (a : Actions) → Plain xs → (body_result xs a).answer ≡ Ok (record { length = length xs; records = 0 })
 unfolding body_result result_of
 plain_answer xs a p = rw (plain_unchanged (action_of a) xs p)
 

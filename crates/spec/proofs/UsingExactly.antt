@@ -1,9 +1,9 @@
 -- Refusal 5 in document 01's words: which RAISEs are read, and that the passes give it exactly where the first of these that
 -- is refused has its clause. Assumes nothing.
+use Rattle.std.specs.Prelude.{Option, Some, None}
 use mathlib.Core.Path.{◌≡◌, refl, sym, ap, ◌∙◌}
 use mathlib.Core.Logic.{◌↔◌, ◌⊎◌, inl, inr, ⊎_elim}
 use mathlib.Core.List.{List}
-use mathlib.Core.Option.{Option, none, some}
 use Prim.Native.Nat.{ℕ, zero, suc, ◌+◌, ◌≤◌, ◌<◌, zero-le}
 use native.Mathlib.Omega.{arith}
 use borrow.Author.Tests.{eqb-true, eqb-false}
@@ -27,8 +27,6 @@ use Rattle.spec.specs.declared.Level.{Level}
 use Rattle.spec.specs.declared.Action.{Action}
 use Rattle.spec.specs.Outcome.{using_clause, accepted, refused}
 use Rattle.spec.specs.Body.{rewriting}
-use Rattle.spec.specs.declared.Found.{Found}
-use Rattle.spec.specs.declared.Found.TheVariants.{At, Nothing}
 
 -- ---- the words
 
@@ -60,7 +58,7 @@ NoneRefused act xs = (k : ℕ) (d : List ℕ) → IsReadAt xs k → IsRefusedRai
 
 -- ---- the definition, in these words
 
-fate_refused : (f : Fate) (c : List ℕ) → fate_clause f ≡ some c → f ≡ refused_clause c
+fate_refused : (f : Fate) (c : List ℕ) → fate_clause f ≡ Some c → f ≡ refused_clause c
 fate_refused (rewritten w m) c e = absurd (apart (cc))
 fate_refused dropped c e = absurd (apart (cc))
 fate_refused (passed u) c e = absurd (apart (cc))
@@ -74,12 +72,12 @@ module _ (act : Level → Action) (xs : List ℕ) where
   abbrev next_of : ℕ → ℕ
   next_of k = k + (raise_of act (drop k (marked_text xs))).length
 
-  refused_some : (k : ℕ) (c : List ℕ) → IsRefusedRaise act xs k c → clause_of k ≡ some c
+  refused_some : (k : ℕ) (c : List ℕ) → IsRefusedRaise act xs k c → clause_of k ≡ Some c
   refused_some k c w =
       let v : IsRefusedRaise act (bytes (marked_text xs)) k c = rw (text_bytes xs) w in
       ap fate_clause ((raise_refused_exactly act (marked_text xs) k c).1 v)
 
-  some_refused : (k : ℕ) (c : List ℕ) → clause_of k ≡ some c → IsRefusedRaise act xs k c
+  some_refused : (k : ℕ) (c : List ℕ) → clause_of k ≡ Some c → IsRefusedRaise act xs k c
   some_refused k c e =
       let f = fate_refused (raise_of act (drop k (marked_text xs))).fate c e in
       rw (text_bytes xs) at ((raise_refused_exactly act (marked_text xs) k c).0 f)
@@ -92,10 +90,10 @@ module _ (act : Level → Action) (xs : List ℕ) where
       let h : GoesOn (bytes (marked_text xs)) k n = rw (text_bytes xs) g in
       (goes_exactly act (marked_text xs) k n).0 h
 
-  next_found : (s k : ℕ) → NextRaise xs s k → first raise_here s (marked_text xs) ≡ At k
+  next_found : (s k : ℕ) → NextRaise xs s k → first raise_here s (marked_text xs) ≡ Some k
   next_found s k = least_found raise_here (marked_text xs) (IsKeywordAt xs (ascii "RAISE")) (keyword_says xs (ascii "RAISE")) s k
 
-  found_next : (s k : ℕ) → first raise_here s (marked_text xs) ≡ At k → NextRaise xs s k
+  found_next : (s k : ℕ) → first raise_here s (marked_text xs) ≡ Some k → NextRaise xs s k
   found_next s k = found_least raise_here (marked_text xs) (IsKeywordAt xs (ascii "RAISE")) (keyword_says xs (ascii "RAISE")) s k
 
   next_only : (s k j : ℕ) → NextRaise xs s k → NextRaise xs s j → k ≡ j
@@ -112,12 +110,12 @@ module _ (act : Level → Action) (xs : List ℕ) where
 
   -- ---- none is refused
 
-  none_from : from 0 ≡ none → (m : ℕ) → Begins xs m → from m ≡ none
+  none_from : from 0 ≡ None → (m : ℕ) → Begins xs m → from m ≡ None
   none_from e m at_front = e
   none_from e m (behind {s} {k} {n} b a g) =
       (either_none (clause_of k) (from n) (sym (from_step s k n a g) ∙ none_from e s b)).1
 
-  none_refused : from 0 ≡ none → NoneRefused act xs
+  none_refused : from 0 ≡ None → NoneRefused act xs
   none_refused e k d r w =
       let s = r.from in
       let step = from_step s k (next_of k) r.found (goes_next k) in
@@ -171,7 +169,7 @@ module _ (act : Level → Action) (xs : List ℕ) where
         (between s r.begins)
 
     -- and where that at j is not refused either, all is passed up to m
-    passed_on : clause_of j ≡ none → Passed m
+    passed_on : clause_of j ≡ None → Passed m
     passed_on e s k n h b c f =
         ⊎_elim
         (λ q.
@@ -182,13 +180,13 @@ module _ (act : Level → Action) (xs : List ℕ) where
         (λ z.
         let same = same_raise s k z c in
         let further = same_next k n same f in
-        (omega arith, λ d w. let v = refused_some k d w in let u : clause_of k ≡ none = ap clause_of same ∙ e in apart (cc))))
+        (omega arith, λ d w. let v = refused_some k d w in let u : clause_of k ≡ None = ap clause_of same ∙ e in apart (cc))))
         (λ q. absurd (omega arith))
         (between s b)
 
   -- the RAISE at k, which the search from i on finds, is the first that is refused, or the next search finds that one
-  first_step : (c : List ℕ) (i k : ℕ) → Begins xs i → Passed i → NextRaise xs i k → from i ≡ some c
-      → (Begins xs (next_of k) → Passed (next_of k) → from (next_of k) ≡ some c → FirstRefused act xs c)
+  first_step : (c : List ℕ) (i k : ℕ) → Begins xs i → Passed i → NextRaise xs i k → from i ≡ Some c
+      → (Begins xs (next_of k) → Passed (next_of k) → from (next_of k) ≡ Some c → FirstRefused act xs c)
       → FirstRefused act xs c
   first_step c i k b p a e more = at (clause_of k) refl
     where
@@ -199,35 +197,35 @@ module _ (act : Level → Action) (xs : List ℕ) where
       step = from_step i k (next_of k) a g
 
       at : (o : Option (List ℕ)) → clause_of k ≡ o → FirstRefused act xs c
-      at none o =
+      at None o =
           let r : from i ≡ from (next_of k) = step ∙ ap (λ (l : Option (List ℕ)). either_of l (from (next_of k))) o in
           more (behind b a g) (passed_on i k (next_of k) p a g o) (sym r ∙ e)
-      at (some d) o =
-          let r : from i ≡ some d = step ∙ ap (λ (l : Option (List ℕ)). either_of l (from (next_of k))) o in
+      at (Some d) o =
+          let r : from i ≡ Some d = step ∙ ap (λ (l : Option (List ℕ)). either_of l (from (next_of k))) o in
           let same : d ≡ c = cc in
           record {
             at = k;
             is_read = record { from = i; begins = b; found = a };
-            is_refused = some_refused k c (o ∙ ap some same);
+            is_refused = some_refused k c (o ∙ ap Some same);
             none_before = none_yet i k (next_of k) p a g;
           }
 
-  first_from_lem : (c : List ℕ) (f i : ℕ) → length (marked_text xs) ≤ i + f → Begins xs i → Passed i → from i ≡ some c
+  first_from_lem : (c : List ℕ) (f i : ℕ) → length (marked_text xs) ≤ i + f → Begins xs i → Passed i → from i ≡ Some c
       → FirstRefused act xs c
   first_from_lem c zero i h b p e = let n = clause_end act (marked_text xs) i (omega arith) in absurd (apart (cc))
   first_from_lem c (suc f) i h b p e = go (λ n l. first_from_lem c f n l) (first raise_here i (marked_text xs)) refl
     where
-      go : ((n : ℕ) → length (marked_text xs) ≤ n + f → Begins xs n → Passed n → from n ≡ some c → FirstRefused act xs c)
-          → (q : Found)
+      go : ((n : ℕ) → length (marked_text xs) ≤ n + f → Begins xs n → Passed n → from n ≡ Some c → FirstRefused act xs c)
+          → (q : Option ℕ)
           → first raise_here i (marked_text xs) ≡ q
           → FirstRefused act xs c
-      go more Nothing q = let n = clause_last act (marked_text xs) i q in absurd (apart (cc))
-      go more (At k) q =
+      go more None q = let n = clause_last act (marked_text xs) i q in absurd (apart (cc))
+      go more (Some k) q =
           let a = found_next i k q in
           let g = goes_further xs k (next_of k) (goes_next k) in
           first_step c i k b p a e (more (next_of k) (omega (arith, a.from)))
 
-  some_first : (c : List ℕ) → from 0 ≡ some c → FirstRefused act xs c
+  some_first : (c : List ℕ) → from 0 ≡ Some c → FirstRefused act xs c
   some_first c e = first_from_lem c (length (marked_text xs)) 0 (omega arith) at_front (λ s k n h. absurd (omega arith)) e
 
   -- there is but one first
@@ -241,24 +239,24 @@ module _ (act : Level → Action) (xs : List ℕ) where
       let f = ap clause_of same ∙ refused_some w.at d w.is_refused in
       cc
 
-  first_some_lem : (c : List ℕ) → FirstRefused act xs c → (o : Option (List ℕ)) → from 0 ≡ o → from 0 ≡ some c
-  first_some_lem c w none e = absurd (none_refused e w.at c w.is_read w.is_refused)
-  first_some_lem c w (some d) e = e ∙ ap some (first_only d c (some_first d e) w)
+  first_some_lem : (c : List ℕ) → FirstRefused act xs c → (o : Option (List ℕ)) → from 0 ≡ o → from 0 ≡ Some c
+  first_some_lem c w None e = absurd (none_refused e w.at c w.is_read w.is_refused)
+  first_some_lem c w (Some d) e = e ∙ ap Some (first_only d c (some_first d e) w)
 
-  refused_none : NoneRefused act xs → (o : Option (List ℕ)) → from 0 ≡ o → from 0 ≡ none
-  refused_none h none e = e
-  refused_none h (some d) e = let w = some_first d e in absurd (h w.at d w.is_read w.is_refused)
+  refused_none : NoneRefused act xs → (o : Option (List ℕ)) → from 0 ≡ o → from 0 ≡ None
+  refused_none h None e = e
+  refused_none h (Some d) e = let w = some_first d e in absurd (h w.at d w.is_read w.is_refused)
 
   clause_from : clause_in act xs ≡ from 0
   unfolding clause_in front_byte
   clause_from = refl
 
   -- the definition finds the clause of the first RAISE that is read and refused, and none exactly if there is no such RAISE
-  pub clause_exactly : (c : List ℕ) → (clause_in act xs ≡ some c) ↔ FirstRefused act xs c
+  pub clause_exactly : (c : List ℕ) → (clause_in act xs ≡ Some c) ↔ FirstRefused act xs c
   clause_exactly c =
       ((λ h. some_first c (sym clause_from ∙ h)), (λ w. clause_from ∙ first_some_lem c w (from 0) refl))
 
-  pub no_clause_exactly : (clause_in act xs ≡ none) ↔ NoneRefused act xs
+  pub no_clause_exactly : (clause_in act xs ≡ None) ↔ NoneRefused act xs
   no_clause_exactly = ((λ h. none_refused (sym clause_from ∙ h)), (λ h. clause_from ∙ refused_none h (from 0) refl))
 
 -- ---- the answers

@@ -1,5 +1,6 @@
 -- A text read from an index on: what stands there, one step of each search, of `take_while` and `drop_while`, and the pieces
 -- up to a separator, for every test. Assumes nothing.
+use Rattle.std.specs.Prelude.{Some, None}
 use mathlib.Core.Path.{◌≡◌, refl, sym, ap, ◌∙◌}
 use mathlib.Core.Bool.{Bool, true, false, cond, not, ◌&&◌, false≢true}
 use mathlib.Core.List.{List, [], ◌∷◌, ◌++◌, map, reverse, reverse-append}
@@ -19,7 +20,6 @@ use Rattle.spec.specs.Lists.{take_while, drop_while}
 use Rattle.spec.specs.Map.{Marked, live, quoted, byte, is_live, mark, map_of, marked, marked_text, bytes, front_byte, front_live, is_live_byte}
 use Rattle.spec.specs.Search.{Test, first_from, first, starts_ignoring_case, starts, word_here, byte_here, needle_here, is_skipped, is_word_mark, onto_first, pieces_from, starts_from}
 use Rattle.spec.specs.Answers.{kept_behind}
-use Rattle.spec.specs.declared.Found.TheVariants.{At, Nothing}
 
 -- ---- lists
 
@@ -283,7 +283,7 @@ byte_at b xs ms e j =
 abbrev pub passes_at : Test → List Marked → ℕ → Bool
 passes_at p t k = p (reverse (take k t)) (drop k t)
 
-front_hit : (p : Test) (back u : List Marked) → 0 < length u → p back u ≡ true → first_from p back u ≡ At (length back)
+front_hit : (p : Test) (back u : List Marked) → 0 < length u → p back u ≡ true → first_from p back u ≡ Some (length back)
 unfolding first_from
 front_hit p back [] h e = absurd (omega arith)
 front_hit p back (x ∷ u) h e = simp e
@@ -294,16 +294,16 @@ front_miss p back u v x q e = rw q (simp (rw q at e))
 
 -- past the end none is found; a place that passes is found; one that fails is passed over
 module _ (p : Test) (t : List Marked) (i : ℕ) where
-  pub first_end : length t ≤ i → first p i t ≡ Nothing
+  pub first_end : length t ≤ i → first p i t ≡ None
   unfolding first first_from
   first_end h = rw (drop_of_length-le t h) refl
 
   module _ (h : i < length t) where
-    pub first_hit : passes_at p t i ≡ true → first p i t ≡ At i
+    pub first_hit : passes_at p t i ≡ true → first p i t ≡ Some i
     unfolding first
     first_hit e =
         front_hit p (reverse (take i t)) (drop i t) (omega (arith, length-drop i t)) e
-        ∙ ap At (back_length t i (omega arith))
+        ∙ ap Some (back_length t i (omega arith))
 
     pub first_miss : passes_at p t i ≡ false → first p i t ≡ first p (i + 1) t
     unfolding first
@@ -313,9 +313,9 @@ module _ (p : Test) (t : List Marked) (i : ℕ) where
         ∙ ap (λ (b : List Marked). first_from p b (drop (i + 1) t)) (sym (back_step t i (live 0) h))
 
 -- where a place is found, it stands at or behind the start and within the text
-pub first_within : (p : Test) (t : List Marked) (i j : ℕ) → first p i t ≡ At j → (i ≤ j) × (j < length t)
+pub first_within : (p : Test) (t : List Marked) (i j : ℕ) → first p i t ≡ Some j → (i ≤ j) × (j < length t)
 first_within p t i j =
-    climb (λ (k : ℕ). first p k t ≡ At j → (k ≤ j) × (j < length t)) (length t)
+    climb (λ (k : ℕ). first p k t ≡ Some j → (k ≤ j) × (j < length t)) (length t)
     (λ k h e. let n = first_end p t k h in let z : ◌≡◌ {A = ℕ} 0 1 = cc in absurd (omega arith))
     (λ k h more e.
     by (passes_at p t k)
@@ -461,10 +461,10 @@ module _ (p : Test) (t : List Marked) (i : ℕ) where
         ∙ ap (λ (b : List Marked). onto_first (get_or t i (live 0)) (pieces_from p b (drop (i + 1) t))) (sym (back_step t i (live 0) h))
 
 -- up to the first place at or behind i that passes, there is one piece, and behind that place the pieces go on
-pub pieces_cut : (p : Test) (t : List Marked) (i j : ℕ) → first p i t ≡ At j → pieces_at p t i ≡ take (j - i) (drop i t) ∷ pieces_at p t (j + 1)
+pub pieces_cut : (p : Test) (t : List Marked) (i j : ℕ) → first p i t ≡ Some j → pieces_at p t i ≡ take (j - i) (drop i t) ∷ pieces_at p t (j + 1)
 unfolding onto_first
 pieces_cut p t i j =
-    climb (λ (k : ℕ). first p k t ≡ At j → pieces_at p t k ≡ take (j - k) (drop k t) ∷ pieces_at p t (j + 1)) (length t)
+    climb (λ (k : ℕ). first p k t ≡ Some j → pieces_at p t k ≡ take (j - k) (drop k t) ∷ pieces_at p t (j + 1)) (length t)
     (λ k h e. let n = first_end p t k h in let z : ◌≡◌ {A = ℕ} 0 1 = cc in absurd (omega arith))
     (λ k h more e.
     by (passes_at p t k)
@@ -474,7 +474,7 @@ pieces_cut p t i j =
     let none : j - k ≡ 0 = omega arith in
     rw none (pieces_hit p t k h q ∙ ap (λ (n : ℕ). [] ∷ pieces_at p t (n + 1)) same))
     (λ q.
-    let r : first p (k + 1) t ≡ At j = sym (first_miss p t k h q) ∙ e in
+    let r : first p (k + 1) t ≡ Some j = sym (first_miss p t k h q) ∙ e in
     let b = first_within p t (k + 1) j r in
     let one : j - k ≡ suc (j - (k + 1)) = omega arith in
     rw one
@@ -484,10 +484,10 @@ pieces_cut p t i j =
     i
 
 -- where none passes, there is one piece
-pub pieces_last : (p : Test) (t : List Marked) (i : ℕ) → first p i t ≡ Nothing → pieces_at p t i ≡ drop i t ∷ []
+pub pieces_last : (p : Test) (t : List Marked) (i : ℕ) → first p i t ≡ None → pieces_at p t i ≡ drop i t ∷ []
 unfolding onto_first
 pieces_last p t i =
-    climb (λ (k : ℕ). first p k t ≡ Nothing → pieces_at p t k ≡ drop k t ∷ []) (length t)
+    climb (λ (k : ℕ). first p k t ≡ None → pieces_at p t k ≡ drop k t ∷ []) (length t)
     (λ k h e. pieces_end p t k h ∙ ap (λ (l : List Marked). l ∷ []) (sym (drop_of_length-le t h)))
     (λ k h more e.
     by (passes_at p t k)

@@ -1,14 +1,11 @@
 -- Document 01, "The rewritten body", pass 3: assignments, and refusal 4. Assumes nothing.
-use Rattle.std.specs.Prelude.{ℕ, suc, ◌+◌, ◌-◌, Bool, cond, not, ◌&&◌, ◌||◌, List, [], ◌∷◌, ◌++◌, reverse, eqb, length, take, drop}
-use Rattle.std.proofs.Math.Option.{Option, none, some}
+use Rattle.std.specs.Prelude.{ℕ, suc, ◌+◌, ◌-◌, Bool, cond, not, ◌&&◌, ◌||◌, List, [], ◌∷◌, ◌++◌, reverse, eqb, length, take, drop, Option, Some, None}
 use Rattle.spec.specs.Bytes.{ascii, is_ident, is_digit, is_word, is_w, is_n}
 use Rattle.spec.specs.Lists.{is_empty, take_while, drop_while, drop_end}
 use Rattle.spec.specs.Map.{Marked, live, byte, bytes, lives, front_byte, of_byte}
 use Rattle.spec.specs.Outcome.{qualified_target, Outcome, accepted, refused, ◌⊕◌}
 use Rattle.spec.specs.Parts.{trim}
 use Rattle.spec.specs.Search.{Test, first, word_here, needle_here, byte_here, pieces}
-use Rattle.spec.specs.declared.Found.{Found}
-use Rattle.spec.specs.declared.Found.TheVariants.{At, Nothing}
 
 -- a qualified target `q.n`
 pub record Target : Type 0 where
@@ -16,8 +13,8 @@ pub record Target : Type 0 where
   pub name : List Marked
 
 unfoldable pub or_else : Option Target → Option Target → Option Target
-or_else none o = o
-or_else (some t) o = some t
+or_else None o = o
+or_else (Some t) o = Some t
 
 -- a live `:=` stands here
 unfoldable pub assign_here : Test
@@ -30,12 +27,12 @@ target_before back =
     let n = take_while (of_byte is_ident) b in
     let r = drop_while (of_byte is_ident) b in
     let q = take_while (of_byte is_ident) (drop 1 r) in
-    let found : Option Target = some record { qualifier = reverse q; name = reverse n } in
-    cond (not (is_empty n) && (eqb (front_byte r) 46 && not (is_empty q))) found none
+    let found : Option Target = Some record { qualifier = reverse q; name = reverse n } in
+    cond (not (is_empty n) && (eqb (front_byte r) 46 && not (is_empty q))) found None
 
 -- first, from the left, any live `:=` with `q.n` before it
 unfoldable pub assign_target : List Marked → List Marked → Option Target
-assign_target back [] = none
+assign_target back [] = None
 assign_target back (x ∷ t) =
     let more = assign_target (x ∷ back) t in
     let here = or_else (target_before back) more in
@@ -53,8 +50,8 @@ equals_target t =
     let r = drop_while (of_byte is_ident) a in
     let n = take_while (of_byte is_ident) (drop 1 r) in
     let e = drop_while (of_byte is_n) (drop_while (of_byte is_ident) (drop 1 r)) in
-    let found : Option Target = some record { qualifier = q; name = n } in
-    cond (not (is_empty q) && (eqb (front_byte r) 46 && (not (is_empty n) && lone_equals e))) found none
+    let found : Option Target = Some record { qualifier = q; name = n } in
+    cond (not (is_empty q) && (eqb (front_byte r) 46 && (not (is_empty n) && lone_equals e))) found None
 
 -- what a marking word does: CASE opens one, END closes one, a statement may follow the others
 pub data Mark : Type 0 where
@@ -77,10 +74,10 @@ markings =
 
 -- the marking word that stands here live; p is the byte before
 unfoldable pub marking_here : List Marking → ℕ → List Marked → Option Marking
-marking_here [] p t = none
+marking_here [] p t = None
 marking_here (m ∷ ms) p t =
     let more = marking_here ms p t in
-    cond (word_here is_word m.word p t) (some m) more
+    cond (word_here is_word m.word p t) (Some m) more
 
 -- how many CASEs are open behind a mark, never below zero
 unfoldable pub cases_after : Mark → ℕ → ℕ
@@ -89,24 +86,24 @@ cases_after closes_case d = d - 1
 cases_after opens_statement d = d
 
 unfoldable pub cases_behind : Option Marking → ℕ → ℕ
-cases_behind none d = d
-cases_behind (some m) d = cases_after m.mark d
+cases_behind None d = d
+cases_behind (Some m) d = cases_after m.mark d
 
 -- the target just past a marking word of n bytes, where no CASE is open
 unfoldable pub target_past : Mark → ℕ → ℕ → List Marked → Option Target
-target_past opens_case n d t = none
-target_past closes_case n d t = none
+target_past opens_case n d t = None
+target_past closes_case n d t = None
 target_past opens_statement n d t =
     let found = equals_target (drop n t) in
-    cond (eqb d 0) found none
+    cond (eqb d 0) found None
 
 unfoldable pub target_behind : Option Marking → ℕ → List Marked → Option Target
-target_behind none d t = none
-target_behind (some m) d t = target_past m.mark (length m.word) d t
+target_behind None d t = None
+target_behind (Some m) d t = target_past m.mark (length m.word) d t
 
 -- the first such target behind a marking word, d CASEs being open here
 unfoldable pub marked_target : ℕ → ℕ → List Marked → Option Target
-marked_target d p [] = none
+marked_target d p [] = None
 marked_target d p (x ∷ t) =
     let m = marking_here markings p (x ∷ t) in
     let more = marked_target (cases_behind m d) (byte x) t in
@@ -125,9 +122,9 @@ unfoldable pub starts_name : List Marked → Bool
 starts_name t = is_ident (front_byte t) && not (is_digit (front_byte t))
 
 -- the statement with its first live `:=` at this place: read back over W to an identifier
-unfoldable pub assignment_at : Found → List Marked → List Marked
-assignment_at Nothing t = t
-assignment_at (At i) t =
+unfoldable pub assignment_at : Option ℕ → List Marked → List Marked
+assignment_at None t = t
+assignment_at (Some i) t =
     let b = drop_while (of_byte is_w) (reverse (take i t)) in
     let name = reverse (take_while (of_byte is_ident) b) in
     let front = reverse (drop_while (of_byte is_ident) b) in
@@ -140,8 +137,8 @@ unfoldable pub assignment : List Marked → List Marked
 assignment t = assignment_at (first assign_here 0 t) t
 
 unfoldable pub checked_statement : Option Target → List Marked → Outcome (List Marked)
-checked_statement none t = accepted (assignment t)
-checked_statement (some r) t = refused (qualified_target (bytes r.qualifier) (bytes r.name))
+checked_statement None t = accepted (assignment t)
+checked_statement (Some r) t = refused (qualified_target (bytes r.qualifier) (bytes r.name))
 
 -- a statement is checked before it is rewritten
 unfoldable pub statement : List Marked → Outcome (List Marked)

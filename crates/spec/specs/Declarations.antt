@@ -1,7 +1,6 @@
 -- Document 01, "The declaration records", Note 2, where a default begins, and Note 5, the words around a type. Assumes
 -- nothing.
-use Rattle.std.specs.Prelude.{ℕ, zero, suc, ◌+◌, ◌-◌, ◌*◌, Bool, true, false, cond, not, ◌&&◌, ◌||◌, List, [], ◌∷◌, ◌++◌, eqb, ltb, leb, length, get_or, take, drop, replicate}
-use Rattle.std.proofs.Math.Option.{Option, none, some}
+use Rattle.std.specs.Prelude.{ℕ, zero, suc, ◌+◌, ◌-◌, ◌*◌, Bool, true, false, cond, not, ◌&&◌, ◌||◌, List, [], ◌∷◌, ◌++◌, eqb, ltb, leb, length, get_or, take, drop, replicate, Option, Some, None}
 use Rattle.spec.specs.Bytes.{ascii, is_ident, is_w, is_prefix, is_same, is_before}
 use Rattle.spec.specs.Lists.{is_empty, take_while, keep}
 use Rattle.spec.specs.Map.{Marked, bytes, marked_text, front_byte, front_live}
@@ -9,8 +8,6 @@ use Rattle.spec.specs.Search.{Test, first, keyword_here, byte_here, pieces, is_w
 use Rattle.spec.specs.Requote.{single_quoted}
 use Rattle.spec.specs.Assignments.{assign_here, lone_equals}
 use Rattle.spec.specs.Parts.{trim, part}
-use Rattle.spec.specs.declared.Found.{Found}
-use Rattle.spec.specs.declared.Found.TheVariants.{At, Nothing}
 
 -- how many numbers a record has (Note 5: ten), and how many records may be declared
 unfoldable pub record_width : ℕ
@@ -84,7 +81,7 @@ ahead_of_not_null ws = cond (is_not_null ws) (take (length ws - 2) ws) ws
 
 -- name, then type; fewer than two words or, by Note 5, no type left: no record
 unfoldable pub declared_of : List (List Marked) → Option (List ℕ) → Option Declared
-declared_of [] d = none
+declared_of [] d = None
 declared_of (n ∷ ws) d =
     let rest = behind_constant ws in
     let type = ahead_of_not_null rest in
@@ -95,7 +92,7 @@ declared_of (n ∷ ws) d =
       constant = is_constant ws;
       not_null = is_not_null rest;
     } in
-    cond (is_empty type) none (some made)
+    cond (is_empty type) None (Some made)
 
 -- Note 2: lone here means no `=` on either side and no `>` behind; what is behind is pass 3's question too
 unfoldable pub is_lone : Test
@@ -114,11 +111,11 @@ unfoldable pub key_length : List Marked → ℕ
 key_length t = cond (eqb (front_byte t) 58) 2 (cond (eqb (front_byte t) 61) 1 7)
 
 -- the part with its default key at this place, or with no default
-unfoldable pub part_at : Found → List Marked → Option Declared
-part_at (At i) t =
+unfoldable pub part_at : Option ℕ → List Marked → Option Declared
+part_at (Some i) t =
     let behind = drop (i + key_length (drop i t)) t in
-    declared_of (words (take i t)) (some (requoted_default (bytes (trim behind))))
-part_at Nothing t = declared_of (words t) none
+    declared_of (words (take i t)) (Some (requoted_default (bytes (trim behind))))
+part_at None t = declared_of (words t) None
 
 -- Note 2: the default begins after the leftmost default key; the part is trimmed of W first
 unfoldable pub declaration : List Marked → Option Declared
@@ -133,18 +130,18 @@ declare d (e ∷ es) =
     cond (is_same d.name e.name) replaced kept
 
 unfoldable pub declare_maybe : Option Declared → List Declared → List Declared
-declare_maybe none ds = ds
-declare_maybe (some d) ds = declare d ds
+declare_maybe None ds = ds
+declare_maybe (Some d) ds = declare d ds
 
 unfoldable pub declare_all : List (List Marked) → List Declared → List Declared
 declare_all [] ds = ds
 declare_all (p ∷ ps) ds = declare_all ps (declare_maybe (declaration p) ds)
 
 -- the text between DECLARE at d and BEGIN at b, if DECLARE comes before BEGIN
-unfoldable pub declare_section : Found → Found → List Marked → List Marked
-declare_section Nothing b t = []
-declare_section (At d) Nothing t = []
-declare_section (At d) (At b) t = cond (ltb d b) (part (d + 7) b t) []
+unfoldable pub declare_section : Option ℕ → Option ℕ → List Marked → List Marked
+declare_section None b t = []
+declare_section (Some d) None t = []
+declare_section (Some d) (Some b) t = cond (ltb d b) (part (d + 7) b t) []
 
 -- the records of a text: the section is cut at live `;`
 unfoldable pub records_of : List ℕ → List Declared
@@ -154,16 +151,16 @@ records_of xs =
     declare_all (pieces (byte_here 59) found) []
 
 -- text before BEGIN is dropped from the body; without BEGIN the body is all
-unfoldable pub body_from : Found → List ℕ → List ℕ
-body_from Nothing xs = xs
-body_from (At b) xs = drop b xs
+unfoldable pub body_from : Option ℕ → List ℕ → List ℕ
+body_from None xs = xs
+body_from (Some b) xs = drop b xs
 
 unfoldable pub body_of : List ℕ → List ℕ
 body_of xs = body_from (first (keyword_here (ascii "BEGIN")) 0 (marked_text xs)) xs
 
 abbrev pub text_or : Option (List ℕ) → List ℕ
-text_or none = []
-text_or (some xs) = xs
+text_or None = []
+text_or (Some xs) = xs
 
 -- texts are packed from offset 0 in record order, each record's name, type, default
 unfoldable pub packed_record : Declared → List ℕ
@@ -196,8 +193,8 @@ next_of ds name = (first_in_order (is_before name) 1 ds).number
 
 -- 1 if a default is present else 0, default start, default length (0, 0 if absent)
 unfoldable pub default_numbers : Option (List ℕ) → ℕ → List ℕ
-default_numbers none at = 0 ∷ 0 ∷ 0 ∷ []
-default_numbers (some xs) at = 1 ∷ at ∷ length xs ∷ []
+default_numbers None at = 0 ∷ 0 ∷ 0 ∷ []
+default_numbers (Some xs) at = 1 ∷ at ∷ length xs ∷ []
 
 -- 1 if so, else 0
 abbrev pub one_if : Bool → ℕ

@@ -1,18 +1,16 @@
 -- Note 10, "RAISE levels by site": what a table says, read line by line, and refusals 11, 12 and 13. Assumes nothing.
-use Rattle.std.specs.Prelude.{ℕ, ◌+◌, Bool, cond, List, [], ◌∷◌, ◌++◌, map, eqb, length}
-use Rattle.std.proofs.Math.Option.{Option, none, some}
+use Rattle.std.specs.Prelude.{ℕ, ◌+◌, Bool, cond, List, [], ◌∷◌, ◌++◌, map, eqb, length, Option, Some, None, Result, Ok, Err}
 use Rattle.spec.specs.Bytes.{ascii, is_same}
 use Rattle.spec.specs.Lists.{concat}
 use Rattle.spec.specs.Search.{onto_first}
-use Rattle.spec.specs.Raise.{action_name, default_actions}
+use Rattle.spec.specs.Raise.{action_name, default_actions, Actions}
 use Rattle.spec.specs.declared.Level.{Level}
 use Rattle.spec.specs.declared.Level.TheVariants.{Debug, Log, Info, Notice, Warning, Exception}
 use Rattle.spec.specs.declared.RaiseType.TheVariants.{Abort, Fail, Rollback}
 use Rattle.spec.specs.declared.Action.{Action}
 use Rattle.spec.specs.declared.Action.TheVariants.{Drop, Raise}
 use Rattle.spec.specs.declared.Refusal.TheVariants.{MalformedLine, RepeatedLevel, MissingLevel}
-use Rattle.spec.specs.declared.Table.{Table}
-use Rattle.spec.specs.declared.Table.TheVariants.{Given, Refused}
+use Rattle.spec.specs.declared.Refusal.{Refusal}
 
 -- DEBUG, LOG, INFO, NOTICE, WARNING or EXCEPTION in capitals
 unfoldable pub level_name : Level → List ℕ
@@ -48,10 +46,10 @@ all_entries = concat (map (λ (l : Level). map (λ (a : Action). record { level 
 
 -- the one of these entries that is written so
 unfoldable pub entry_in : List Entry → List ℕ → Option Entry
-entry_in [] line = none
+entry_in [] line = None
 entry_in (e ∷ es) line =
     let more = entry_in es line in
-    cond (is_same (line_text e) line) (some e) more
+    cond (is_same (line_text e) line) (Some e) more
 
 -- what a line says; none if it is malformed
 unfoldable pub entry_of : List ℕ → Option Entry
@@ -68,18 +66,18 @@ lines_of (b ∷ xs) =
 
 -- the action that the lines give a level
 unfoldable pub given_action : List Entry → Level → Option Action
-given_action [] l = none
+given_action [] l = None
 given_action (e ∷ es) l =
     let more = given_action es l in
-    cond (is_level e.level l) (some e.action) more
+    cond (is_level e.level l) (Some e.action) more
 
 -- refusal 13, whose place is the table's length n, if there is no action, else what is read next
-abbrev pub or_missing : ℕ → Option Action → (Action → Table) → Table
-or_missing n none next = Refused (MissingLevel n)
-or_missing n (some a) next = next a
+abbrev pub or_missing : ℕ → Option Action → (Action → Result Actions Refusal) → Result Actions Refusal
+or_missing n None next = Err (MissingLevel n)
+or_missing n (Some a) next = next a
 
 -- no line was bad: the actions, or 13 for a level missing
-unfoldable pub table_end : List Entry → ℕ → Table
+unfoldable pub table_end : List Entry → ℕ → Result Actions Refusal
 table_end es n =
     or_missing n (given_action es Debug) (λ d.
     or_missing n (given_action es Log) (λ l.
@@ -87,27 +85,27 @@ table_end es n =
     or_missing n (given_action es Notice) (λ m.
     or_missing n (given_action es Warning) (λ w.
     or_missing n (given_action es Exception) (λ x.
-    Given (record { debug = d; log = l; info = i; notice = m; warning = w; exception = x })))))))
+    Ok (record { debug = d; log = l; info = i; notice = m; warning = w; exception = x })))))))
 
 -- refusal 11 for a line at n that is malformed, else what is read next
-abbrev pub or_malformed : ℕ → Option Entry → (Entry → Table) → Table
-or_malformed n none next = Refused (MalformedLine n)
-or_malformed n (some e) next = next e
+abbrev pub or_malformed : ℕ → Option Entry → (Entry → Result Actions Refusal) → Result Actions Refusal
+or_malformed n None next = Err (MalformedLine n)
+or_malformed n (Some e) next = next e
 
 -- refusal 12 for a line at n whose level already has an action, else what is read next
-abbrev pub or_repeated : ℕ → Option Action → Table → Table
-or_repeated n none next = next
-or_repeated n (some a) next = Refused (RepeatedLevel n)
+abbrev pub or_repeated : ℕ → Option Action → Result Actions Refusal → Result Actions Refusal
+or_repeated n None next = next
+or_repeated n (Some a) next = Err (RepeatedLevel n)
 
 -- the lines from offset n on, behind those that said es: the first bad line decides, and its offset is the place
-unfoldable pub table_from : List Entry → ℕ → List (List ℕ) → Table
+unfoldable pub table_from : List Entry → ℕ → List (List ℕ) → Result Actions Refusal
 table_from es n [] = table_end es n
 table_from es n (line ∷ more) =
     or_malformed n (entry_of line) (λ e. or_repeated n (given_action es e.level) (table_from (e ∷ es) (n + length line) more))
 
-unfoldable pub table_of : List ℕ → Table
+unfoldable pub table_of : List ℕ → Result Actions Refusal
 table_of xs = table_from [] 0 (lines_of xs)
 
 -- rewriting without a table behaves as before
-abbrev pub no_table : Table
-no_table = Given default_actions
+abbrev pub no_table : Result Actions Refusal
+no_table = Ok default_actions

@@ -1,7 +1,6 @@
 -- Document 01, "The rewritten body", pass 5: RAISE, and refusal 5; Note 10 for the action of each level. First what becomes
 -- of each RAISE, then the text made of it. Assumes nothing.
-use Rattle.std.specs.Prelude.{ℕ, zero, suc, ◌+◌, ◌-◌, Bool, true, false, cond, not, ◌&&◌, ◌||◌, List, [], ◌∷◌, ◌++◌, map, eqb, length, take, drop}
-use Rattle.std.proofs.Math.Option.{Option, none, some}
+use Rattle.std.specs.Prelude.{ℕ, zero, suc, ◌+◌, ◌-◌, Bool, true, false, cond, not, ◌&&◌, ◌||◌, List, [], ◌∷◌, ◌++◌, map, eqb, length, take, drop, Option, Some, None}
 use Rattle.spec.specs.Bytes.{ascii, is_word, is_w, upper}
 use Rattle.spec.specs.Lists.{is_empty, take_while, drop_while}
 use Rattle.spec.specs.Map.{Marked, byte, bytes, lives, marked_text, front_byte, of_byte, is_live_byte}
@@ -14,7 +13,7 @@ use Rattle.spec.specs.declared.RaiseType.{RaiseType}
 use Rattle.spec.specs.declared.RaiseType.TheVariants.{Abort, Fail, Rollback}
 use Rattle.spec.specs.declared.Action.{Action}
 use Rattle.spec.specs.declared.Action.TheVariants.{Drop, Raise}
-use Rattle.spec.specs.declared.Actions.{Actions}
+use Rattle.spec.specs.declared.ByLevel.{ByLevel}
 
 -- behind an opening `'`: the length through the quote that closes the literal, 0 if none does; `''` stays inside,
 -- backslash is plain
@@ -87,10 +86,10 @@ level_words =
 
 -- the level that stands at the front, ignoring case
 unfoldable pub level_in : List LevelWord → List Marked → Option Level
-level_in [] t = none
+level_in [] t = None
 level_in (w ∷ ws) t =
     let more = level_in ws t in
-    cond (starts_ignoring_case w.word t) (some w.level) more
+    cond (starts_ignoring_case w.word t) (Some w.level) more
 
 -- W or `;`
 unfoldable pub ends_level : ℕ → Bool
@@ -111,14 +110,35 @@ level_len l t =
     let run = length (take_while (of_byte (λ c. not (ends_level c))) t) in
     cond (is_exception l) 9 run
 
+-- what stands there for a level
+abbrev pub at_level : {A : Type 0} → ByLevel A → Level → A
+at_level a Debug = a.debug
+at_level a Log = a.log
+at_level a Info = a.info
+at_level a Notice = a.notice
+at_level a Warning = a.warning
+at_level a Exception = a.exception
+
+-- the same for every level
+abbrev pub at_all : {A : Type 0} → A → ByLevel A
+at_all x = record { debug = x; log = x; info = x; notice = x; warning = x; exception = x }
+
+-- the same as before with x for a level
+abbrev pub with_level : {A : Type 0} → ByLevel A → Level → A → ByLevel A
+with_level g Debug x = record { debug = x; log = g.log; info = g.info; notice = g.notice; warning = g.warning; exception = g.exception }
+with_level g Log x = record { debug = g.debug; log = x; info = g.info; notice = g.notice; warning = g.warning; exception = g.exception }
+with_level g Info x = record { debug = g.debug; log = g.log; info = x; notice = g.notice; warning = g.warning; exception = g.exception }
+with_level g Notice x = record { debug = g.debug; log = g.log; info = g.info; notice = x; warning = g.warning; exception = g.exception }
+with_level g Warning x = record { debug = g.debug; log = g.log; info = g.info; notice = g.notice; warning = x; exception = g.exception }
+with_level g Exception x = record { debug = g.debug; log = g.log; info = g.info; notice = g.notice; warning = g.warning; exception = x }
+
+-- the action of each level
+abbrev pub Actions : Type 0
+Actions = ByLevel Action
+
 -- the action of a level; what follows takes it as `act`
 abbrev pub action_of : Actions → Level → Action
-action_of a Debug = a.debug
-action_of a Log = a.log
-action_of a Info = a.info
-action_of a Notice = a.notice
-action_of a Warning = a.warning
-action_of a Exception = a.exception
+action_of a l = at_level a l
 
 -- without a table: EXCEPTION aborts, the others vanish
 abbrev pub default_actions : Actions
@@ -141,8 +161,8 @@ pub record Raised : Type 0 where
 
 -- t starts with RAISE, one separator byte follows, and then perhaps a level
 unfoldable pub raised_at : (Level → Action) → Option Level → List Marked → Raised
-raised_at act none t = record { length = 6; fate = passed (take 6 t) }
-raised_at act (some l) t =
+raised_at act None t = record { length = 6; fate = passed (take 6 t) }
+raised_at act (Some l) t =
     let n = level_len l (drop 6 t) in
     let content = content_of (drop (6 + n) t) in
     record { length = 6 + n + length content + 1; fate = action_fate (act l) content }

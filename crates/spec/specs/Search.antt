@@ -1,12 +1,10 @@
 -- Document 01, "The region map and searches": the searches of live text. A place in a text is what stands before it, read
 -- backwards, and what stands from it on; a search gives the first place that passes a test. Assumes nothing.
-use Rattle.std.specs.Prelude.{ℕ, suc, ◌+◌, ◌-◌, Bool, true, false, cond, not, ◌&&◌, List, [], ◌∷◌, reverse, eqb, length, take, drop}
+use Rattle.std.specs.Prelude.{ℕ, suc, ◌+◌, ◌-◌, Bool, true, false, cond, not, ◌&&◌, List, [], ◌∷◌, reverse, eqb, length, take, drop, Option, Some, None}
 use Rattle.spec.specs.Bytes.{ascii, upper, is_word, is_n}
 use Rattle.spec.specs.Lists.{is_empty, take_while, drop_while, any}
 use Rattle.spec.specs.Spans.{Lexeme, lexemes}
 use Rattle.spec.specs.Map.{Marked, live, quoted, byte, marked_text, bytes, front_byte, front_live, is_live_byte}
-use Rattle.spec.specs.declared.Found.{Found}
-use Rattle.spec.specs.declared.Found.TheVariants.{At, Nothing}
 use Rattle.spec.specs.declared.Span.{Span}
 use Rattle.spec.specs.declared.Span.TheVariants.{Verbatim, Dollar, Code}
 
@@ -15,20 +13,20 @@ abbrev pub Test : Type 0
 Test = List Marked → List Marked → Bool
 
 -- the offset of the first place at or behind this one that passes the test
-unfoldable pub first_from : Test → List Marked → List Marked → Found
-first_from p back [] = Nothing
+unfoldable pub first_from : Test → List Marked → List Marked → Option ℕ
+first_from p back [] = None
 first_from p back (x ∷ t) =
     let more = first_from p (x ∷ back) t in
-    let here = At (length back) in
+    let here = Some (length back) in
     cond (p back (x ∷ t)) here more
 
 -- the same from an offset on: a start past the end finds none
-unfoldable pub first : Test → ℕ → List Marked → Found
+unfoldable pub first : Test → ℕ → List Marked → Option ℕ
 first p from t = first_from p (reverse (take from t)) (drop from t)
 
-abbrev pub is_found : Found → Bool
-is_found (At i) = true
-is_found Nothing = false
+abbrev pub is_found : Option ℕ → Bool
+is_found (Some i) = true
+is_found None = false
 
 -- w stands at the front of t, ignoring ASCII case
 unfoldable pub starts_ignoring_case : List ℕ → List Marked → Bool
@@ -57,10 +55,10 @@ unfoldable pub keyword_here : List ℕ → Test
 keyword_here w back t = word_here is_word w (front_byte back) t
 
 -- `find_keyword`: an empty keyword finds none
-unfoldable pub find_keyword : List ℕ → List ℕ → ℕ → Found
+unfoldable pub find_keyword : List ℕ → List ℕ → ℕ → Option ℕ
 find_keyword xs w from =
     let found = first (keyword_here w) from (marked_text xs) in
-    cond (is_empty w) Nothing found
+    cond (is_empty w) None found
 
 -- the live byte b stands here
 unfoldable pub byte_here : ℕ → Test
@@ -68,7 +66,7 @@ byte_here b back [] = false
 byte_here b back (x ∷ t) = is_live_byte b x
 
 -- `find_in_code`
-unfoldable pub find_in_code : List ℕ → ℕ → Found
+unfoldable pub find_in_code : List ℕ → ℕ → Option ℕ
 find_in_code xs b = first (byte_here b) 0 (marked_text xs)
 
 -- the needle stands here, its first byte live
@@ -76,10 +74,10 @@ unfoldable pub needle_here : List ℕ → Test
 needle_here w back t = front_live t && starts w t
 
 -- `find_str_in_code`: an empty needle gives none
-unfoldable pub find_str_in_code : List ℕ → List ℕ → Found
+unfoldable pub find_str_in_code : List ℕ → List ℕ → Option ℕ
 find_str_in_code xs w =
     let found = first (needle_here w) 0 (marked_text xs) in
-    cond (is_empty w) Nothing found
+    cond (is_empty w) None found
 
 -- skipped ahead of a word: N and quoted bytes
 abbrev pub is_skipped : Marked → Bool
@@ -96,11 +94,11 @@ unfoldable pub next_word : List Marked → List Marked
 next_word t = take_while is_word_mark (drop_while is_skipped t)
 
 -- `next_word_in_code`: where that word stands, none if it is empty
-unfoldable pub word_place : List ℕ → ℕ → Found
+unfoldable pub word_place : List ℕ → ℕ → Option ℕ
 word_place xs from =
     let t = drop from (marked_text xs) in
-    let place = At (length xs - length (drop_while is_skipped t)) in
-    cond (is_empty (next_word t)) Nothing place
+    let place = Some (length xs - length (drop_while is_skipped t)) in
+    cond (is_empty (next_word t)) None place
 
 -- `next_word_in_code`: that part of the caller's text
 unfoldable pub word_text : List ℕ → ℕ → List ℕ

@@ -1,12 +1,10 @@
 -- Document 01, "The rewritten body", pass 4: SELECT INTO, with a quote walk of its own. Assumes nothing.
-use Rattle.std.specs.Prelude.{ℕ, suc, ◌+◌, ◌-◌, Bool, cond, not, ◌&&◌, List, [], ◌∷◌, ◌++◌, map, reverse, eqb, ltb, length, take, drop}
+use Rattle.std.specs.Prelude.{ℕ, suc, ◌+◌, ◌-◌, Bool, cond, not, ◌&&◌, List, [], ◌∷◌, ◌++◌, map, reverse, eqb, ltb, length, take, drop, Option, Some, None}
 use Rattle.spec.specs.Bytes.{ascii, is_ident, is_quote, is_w}
 use Rattle.spec.specs.Lists.{is_empty, take_while, drop_end, any, keep}
 use Rattle.spec.specs.Map.{Marked, live, quoted, lives, front_byte, of_byte}
 use Rattle.spec.specs.Search.{Test, first, is_found, word_here, starts_ignoring_case, byte_here, pieces}
 use Rattle.spec.specs.Parts.{trim, trim_end, part}
-use Rattle.spec.specs.declared.Found.{Found}
-use Rattle.spec.specs.declared.Found.TheVariants.{At, Nothing}
 
 -- the quote that is open behind c, q being open before it; 0 for none
 unfoldable pub quote_after : ℕ → ℕ → ℕ
@@ -72,22 +70,22 @@ unfoldable pub pair_up : List (List Marked) → List (List Marked) → Bool
 pair_up cols vars =
     eqb (length cols) (length vars) && (not (is_empty cols) && not (any (λ (v : List Marked). any (of_byte is_w) v) vars))
 
-abbrev pub place_or : Found → ℕ → ℕ
-place_or (At i) n = i
-place_or Nothing n = n
+abbrev pub place_or : Option ℕ → ℕ → ℕ
+place_or (Some i) n = i
+place_or None n = n
 
 -- the FROM part loses W, then `;`, at its end; it is empty if there is no FROM
-unfoldable pub from_part : Found → List Marked → List Marked
-from_part Nothing t = []
-from_part (At f) t = drop_end (of_byte (λ c. eqb c 59)) (trim_end (drop f t))
+unfoldable pub from_part : Option ℕ → List Marked → List Marked
+from_part None t = []
+from_part (Some f) t = drop_end (of_byte (λ c. eqb c 59)) (trim_end (drop f t))
 
 -- the first WITH goes into each subquery if it stands before SELECT
-unfoldable pub front_place : Found → ℕ → ℕ
-front_place Nothing s = s
-front_place (At w) s = cond (ltb w s) w s
+unfoldable pub front_place : Option ℕ → ℕ → ℕ
+front_place None s = s
+front_place (Some w) s = cond (ltb w s) w s
 
 -- the statement t, its `;` at its end, with SELECT at s, INTO at i and perhaps FROM
-unfoldable pub select_cut : ℕ → ℕ → Found → List Marked → List Marked
+unfoldable pub select_cut : ℕ → ℕ → Option ℕ → List Marked → List Marked
 select_cut s i from t =
     let front = front_place (first (top_word_here (ascii "WITH")) 0 t) s in
     let cols = listed (part (s + 6) i t) in
@@ -96,13 +94,13 @@ select_cut s i from t =
     let lines = set_lines (indentation (take front t)) line cols vars in
     cond (pair_up cols vars) (take front t ++ lines) t
 
-unfoldable pub into_at : ℕ → Found → List Marked → List Marked
-into_at s Nothing t = t
-into_at s (At i) t = select_cut s i (first (top_word_here (ascii "FROM")) i t) t
+unfoldable pub into_at : ℕ → Option ℕ → List Marked → List Marked
+into_at s None t = t
+into_at s (Some i) t = select_cut s i (first (top_word_here (ascii "FROM")) i t) t
 
-unfoldable pub select_at : Found → List Marked → List Marked
-select_at Nothing t = t
-select_at (At s) t = into_at s (first (top_word_here (ascii "INTO")) s t) t
+unfoldable pub select_at : Option ℕ → List Marked → List Marked
+select_at None t = t
+select_at (Some s) t = into_at s (first (top_word_here (ascii "INTO")) s t) t
 
 -- a statement that ends in `;`: the first SELECT, then INTO, then FROM if any, cut it
 unfoldable pub select_statement : List Marked → List Marked

@@ -1,6 +1,10 @@
 // The types that the definitions of document 01 and of the requests name. The definitions themselves stand in specs/.
 #![tactic(auto)]
 
+ghost use Rattle.std.specs.Prelude.{◌≡◌};
+ghost use Rattle.spec.specs.Answers.{refusal_numbers};
+ghost use Rattle.spec.specs.Raise.{at_all, at_level, with_level};
+
 // A dollar literal: its length, where its inside starts and how long that is, and whether it is closed.
 #[derive(Clone, Copy)]
 pub struct DollarQuoted {
@@ -19,13 +23,6 @@ pub enum Span {
     Dollar(DollarQuoted),
     // Live text.
     Code(usize),
-}
-
-// Where something stands first.
-#[derive(Clone, Copy)]
-pub enum Found {
-    At(usize),
-    Nothing,
 }
 
 // Why a call or a search refuses its text, by number. 1, 3 and 2 are checked before anything is written; a search gives no
@@ -62,35 +59,11 @@ pub struct RefusalNumbers {
     pub length: usize,
 }
 
-// Whether a call may begin.
+// What a rewriting call answers that accepts its text: how many bytes the result has, and how many records were declared.
 #[derive(Clone, Copy)]
-pub enum Check {
-    Passed,
-    Refused(Refusal),
-}
-
-// What a search answers.
-#[derive(Clone, Copy)]
-pub enum Search {
-    // Found, at this place; 0 for a yes/no search.
-    Found(usize),
-    NotFound,
-    Refused(Refusal),
-}
-
-// What a search that fills a buffer answers.
-#[derive(Clone, Copy)]
-pub enum Filled {
-    // How many pieces or bytes the result has; 0 for a map.
-    Count(usize),
-    Refused(Refusal),
-}
-
-// What a rewriting call answers.
-#[derive(Clone, Copy)]
-pub enum Rewritten {
-    Accepted { length: usize, records: usize },
-    Refused(Refusal),
+pub struct Accepted {
+    pub length: usize,
+    pub records: usize,
 }
 
 // The level of a RAISE.
@@ -119,20 +92,93 @@ pub enum Action {
     Raise(RaiseType),
 }
 
-// The action of each level.
-#[derive(Clone, Copy)]
-pub struct Actions {
-    pub debug: Action,
-    pub log: Action,
-    pub info: Action,
-    pub notice: Action,
-    pub warning: Action,
-    pub exception: Action,
+// A refusal's number, place and length of what the output holds.
+fn told(number: u32, place: usize, length: usize) -> RefusalNumbers
+    ensures { result ≡ record { number = number; place = place; length = length } }
+{
+    RefusalNumbers {
+        number,
+        place,
+        length,
+    }
 }
 
-// What a table of levels says.
-#[derive(Clone, Copy)]
-pub enum Table {
-    Given(Actions),
-    Refused(Refusal),
+impl From<Refusal> for RefusalNumbers {
+    ghost from_gives = { λ r n. n ≡ refusal_numbers r };
+
+    fn from(r: Refusal) -> RefusalNumbers {
+        match r {
+            Refusal::TextTooLong => told(1, 0, 0),
+            Refusal::NotAscii(i) => told(2, i, 0),
+            Refusal::BufferTooShort => told(3, 0, 0),
+            Refusal::QualifiedTarget { qualifier, length } => told(4, qualifier, length),
+            Refusal::UsingClause { length } => told(5, 0, length),
+            Refusal::ResultTooLong => told(6, 0, 0),
+            Refusal::TooManyNames => told(7, 0, 0),
+            Refusal::MalformedLine(i) => told(11, i, 0),
+            Refusal::RepeatedLevel(i) => told(12, i, 0),
+            Refusal::MissingLevel(i) => told(13, i, 0),
+        }
+    }
 }
+
+// Something for each level.
+#[derive(Clone, Copy)]
+pub struct ByLevel<T> {
+    pub debug: T,
+    pub log: T,
+    pub info: T,
+    pub notice: T,
+    pub warning: T,
+    pub exception: T,
+}
+
+impl<T: Copy> ByLevel<T> {
+    // The same for every level.
+    pub fn all(x: T) -> ByLevel<T>
+        ensures { result ≡ at_all x }
+    {
+        ByLevel {
+            debug: x,
+            log: x,
+            info: x,
+            notice: x,
+            warning: x,
+            exception: x,
+        }
+    }
+
+    // What it has for a level.
+    pub fn get(self, level: Level) -> T
+        ensures { result ≡ at_level self level }
+    {
+        match level {
+            Level::Debug => self.debug,
+            Level::Log => self.log,
+            Level::Info => self.info,
+            Level::Notice => self.notice,
+            Level::Warning => self.warning,
+            Level::Exception => self.exception,
+        }
+    }
+
+    // The same with x for a level.
+    pub fn with(self, level: Level, x: T) -> ByLevel<T>
+        ensures { result ≡ with_level self level x }
+    {
+        match level {
+            Level::Debug => ByLevel { debug: x, ..self },
+            Level::Log => ByLevel { log: x, ..self },
+            Level::Info => ByLevel { info: x, ..self },
+            Level::Notice => ByLevel { notice: x, ..self },
+            Level::Warning => ByLevel { warning: x, ..self },
+            Level::Exception => ByLevel {
+                exception: x,
+                ..self
+            },
+        }
+    }
+}
+
+// The action of each level.
+pub type Actions = ByLevel<Action>;

@@ -1,16 +1,24 @@
--- Parts, places and fields at an index. Assumes nothing.
+-- Parts and places at an index. Assumes nothing.
 use mathlib.Core.Path.{◌≡◌, refl, sym, ap, ◌∙◌}
-use mathlib.Core.Bool.{true, false, false≢true}
-use mathlib.Core.List.{List, [], ◌∷◌}
-use Prim.Native.Nat.{ℕ, ◌+◌, ◌-◌, ◌≤◌, ◌<◌}
+use mathlib.Core.Bool.{false≢true, cond, not}
+use mathlib.Core.List.{List, []}
+use Prim.Native.Nat.{ℕ, ◌+◌, ◌-◌, ◌≤◌, ◌<◌, min}
 use native.Mathlib.Omega.{arith}
-use borrow.Author.Tests.{le-leb, lt-leb, eq-eqb, ne_eqb, eqb-true, not-false}
-use lib.Dec.{eqb}
+use denote.Ref.{Bor}
+use borrow.Author.Tests.{le-leb, lt-leb, eq-eqb, eqb-true, not-false, leb-true, leb-false, ltb-false}
+use lib.Dec.{eqb, leb, ltb}
 use lib.ListN.{length, take, drop, get_or, length-drop, drop_of_length-le}
-use Rattle.spec.specs.Lists.{take_while}
-use Rattle.spec.proofs.AheadLaws.{drop_one}
-use Rattle.spec.proofs.WalkLaws.{while_take, while_length, while_length_hit, while_length_miss, while_length_end, while_fails_at, while_passes_at}
-use Rattle.stored_list.specs.Fields.{part_of, is_other, place_of, behind_spaces, field_of}
+use Rattle.std.specs.Option.{unwrap_or, option_map}
+use Rattle.std.specs.Slice.{IsGetRangeResult}
+use Rattle.std.specs.List.{prefix_len, position_or_len, slice_get}
+use Rattle.std.proofs.Common.{Option, Some, None, inl, inr}
+use lib.Seq.{take_all, take-nil}
+use Rattle.std.proofs.lemmas.List.{get_or-drop}
+use Rattle.std.proofs.lemmas.Option.{unwrap_or-slice_get}
+use Rattle.std.proofs.lemmas.List.Sums.{prefix_len_passes, prefix_len_stops, prefix_len-le-length}
+use Rattle.spec.proofs.AheadLaws.{rest_of}
+use Rattle.spec.proofs.Choice.{by}
+use Rattle.stored_list.specs.Fields.{part_of, place_of}
 
 -- ---- parts
 
@@ -23,93 +31,82 @@ module _ (a e : ℕ) (xs : List ℕ) where
   unfolding part_of
   part_long h = simp (lt-leb e (length xs) h)
 
-  pub part_back : e ≤ length xs → e < a → part_of a e xs ≡ []
+  pub part_back : e < a → part_of a e xs ≡ []
   unfolding part_of
-  part_back h k = simp (le-leb e (length xs) h, lt-leb a e k)
+  part_back h = by (leb e (length xs)) (λ t. simp (t, lt-leb a e h)) (λ t. simp t)
+
+  -- what `get` gives of a range, or else the empty list
+  pub part_get : (r : Option (Bor (List ℕ))) (d : Bor (List ℕ)) → IsGetRangeResult xs a e r → d.now ≡ [] → (unwrap_or r d).now ≡ part_of a e xs
+  part_get None d h k = k ∙ sym (elim h.0 [ inl p ↦ part_back p | inr p ↦ part_long p ])
+  part_get (Some x) d h k = h.0.2 ∙ sym (part_in h.0.1 h.0.0)
 
 -- ---- places
 
-module _ (b c : ℕ) where
-  other_hit : (c ≡ b → ⊥) → is_other b c ≡ true
-  unfolding is_other
-  other_hit e = simp (ne_eqb c b e)
-
-  other_miss : c ≡ b → is_other b c ≡ false
-  unfolding is_other
-  other_miss e = simp (eq-eqb c b e)
-
-  other_same : is_other b c ≡ false → c ≡ b
-  unfolding is_other
-  other_same e = eqb-true c b (not-false (eqb c b) e)
-
 module _ (b : ℕ) (xs : List ℕ) (i : ℕ) where
-  pub place_here : i < length xs → get_or xs i 0 ≡ b → place_of b i xs ≡ i
-  unfolding place_of
-  place_here h e = omega (arith, while_length_miss (is_other b) xs i 0 h (other_miss b (get_or xs i 0) e))
-
-  pub place_on : i < length xs → (get_or xs i 0 ≡ b → ⊥) → place_of b i xs ≡ place_of b (i + 1) xs
-  unfolding place_of
-  place_on h e = omega (arith, while_length_hit (is_other b) xs i 0 h (other_hit b (get_or xs i 0) e))
-
-  pub place_end : length xs ≤ i → place_of b i xs ≡ i
-  unfolding place_of
-  place_end h = omega (arith, while_length_end (is_other b) xs i h)
-
   pub place_ge : i ≤ place_of b i xs
   unfolding place_of
   place_ge = omega arith
 
   pub place_at : place_of b i xs < length xs → get_or xs (place_of b i xs) 0 ≡ b
   unfolding place_of
-  place_at h = other_same b _ (while_fails_at (is_other b) xs 0 i h)
+  place_at h =
+      let other = λ (c : ℕ). not (eqb c b) in
+      let k = prefix_len other (drop i xs) in
+      let e = prefix_len_stops other (drop i xs) 0 (omega (arith, length-drop i xs)) in
+      sym (get_or-drop i xs k 0) ∙ eqb-true (get_or (drop i xs) k 0) b (not-false (eqb (get_or (drop i xs) k 0) b) e)
 
   pub place_before : (k : ℕ) → i ≤ k → k < place_of b i xs → get_or xs k 0 ≡ b → ⊥
   unfolding place_of
   place_before k h m e =
-      false≢true (sym (other_miss b (get_or xs k 0) e) ∙ while_passes_at (is_other b) xs 0 i k h m)
+      let other = λ (c : ℕ). not (eqb c b) in
+      let j : i + (k - i) ≡ k = omega arith in
+      let p = prefix_len_passes other (drop i xs) (k - i) 0 (omega arith) in
+      let q : get_or (drop i xs) (k - i) 0 ≡ b = get_or-drop i xs (k - i) 0 ∙ rw j e in
+      false≢true (rw (q, eq-eqb b b refl) at p)
 
-  pub place_next : (e : ℕ) → e ≡ place_of b i xs → e < length xs → get_or xs e 0 ≡ b
-  place_next e p h = rw p (place_at (rw p at h))
-
-  -- what stands up to the place
-  pub place_part : i ≤ length xs → part_of i (place_of b i xs) xs ≡ take_while (is_other b) (drop i xs)
+  -- from what `get` and `position` give
+  pub place_get : (rest : List ℕ) (r : Option ℕ) → rest ≡ drop i xs
+      → r ≡ cond (ltb (position_or_len (λ c. eqb c b) rest) (length rest)) (Some (position_or_len (λ c. eqb c b) rest)) None
+      → i + unwrap_or r (length rest) ≡ place_of b i xs
   unfolding place_of
-  place_part h =
-      let n = length (take_while (is_other b) (drop i xs)) in
-      let k : i + n - i ≡ n = omega arith in
-      part_in i (i + n) xs (omega (arith, while_length (is_other b) (drop i xs), length-drop i xs)) (omega arith)
-      ∙ (ap (λ (m : ℕ). take m (drop i xs)) k ∙ sym (while_take (is_other b) (drop i xs)))
+  place_get rest r e p =
+      let n = position_or_len (λ c. eqb c b) rest in
+      let q : unwrap_or r (length rest) ≡ n =
+      by (ltb n (length rest))
+      (λ t. rw (p, t) refl)
+      (λ t. rw (p, t) (omega (arith, ltb-false n (length rest) t, prefix_len-le-length (λ (c : ℕ). not (eqb c b)) rest))) in
+      rw (q, e) refl
+
+  -- what stands from i on
+  pub rest_get : (r : Option (Bor (List ℕ))) (d : Bor (List ℕ)) → IsGetRangeResult xs i (length xs) r → d.now ≡ []
+      → (unwrap_or r d).now ≡ drop i xs
+  rest_get r d h k =
+      part_get i (length xs) xs r d h k
+      ∙ by (leb i (length xs))
+      (λ t. part_in i (length xs) xs (omega arith) (leb-true i (length xs) t) ∙ rest_of xs i)
+      (λ t. let n = leb-false i (length xs) t in part_back i (length xs) xs n ∙ sym (drop_of_length-le xs (omega arith)))
 
 -- ---- fields
 
-pub behind_none : (xs : List ℕ) (k : ℕ) → k ≡ 0 → behind_spaces k xs ≡ xs
-unfolding behind_spaces
-behind_none [] k h = refl
-behind_none (c ∷ cs) k h = simp (eq-eqb k 0 h)
+-- from what `nth` gives
+pub nth_get : (all : List (List ℕ)) (k : ℕ) (r : Option (Bor (List ℕ))) (d : Bor (List ℕ)) → option_map (λ x. x.now) r ≡ slice_get all k
+    → d.now ≡ [] → (unwrap_or r d).now ≡ get_or all k []
+nth_get all k None d h e = e ∙ (ap (λ (o : Option (List ℕ)). unwrap_or o []) h ∙ unwrap_or-slice_get all k [])
+nth_get all k (Some x) d h e = ap (λ (o : Option (List ℕ)). unwrap_or o []) h ∙ unwrap_or-slice_get all k []
 
-module _ (k c : ℕ) (cs : List ℕ) (n : k ≡ 0 → ⊥) where
-  front_space : c ≡ 32 → behind_spaces k (c ∷ cs) ≡ behind_spaces (k - 1) cs
-  unfolding behind_spaces
-  front_space e = simp (ne_eqb k 0 n, eq-eqb c 32 e)
+-- ---- the part of a buffer up to a place, as far as the buffer reaches
 
-  front_other : (c ≡ 32 → ⊥) → behind_spaces k (c ∷ cs) ≡ behind_spaces k cs
-  unfolding behind_spaces
-  front_other e = simp (ne_eqb k 0 n, ne_eqb c 32 e)
-
-module _ (k : ℕ) (xs : List ℕ) (i : ℕ) where
-  pub behind_space : (k ≡ 0 → ⊥) → i < length xs → get_or xs i 0 ≡ 32
-      → behind_spaces k (drop i xs) ≡ behind_spaces (k - 1) (drop (i + 1) xs)
-  behind_space n h e = rw (drop_one xs i 0 h) (front_space k (get_or xs i 0) (drop (i + 1) xs) n e)
-
-  pub behind_other : (k ≡ 0 → ⊥) → i < length xs → (get_or xs i 0 ≡ 32 → ⊥)
-      → behind_spaces k (drop i xs) ≡ behind_spaces k (drop (i + 1) xs)
-  behind_other n h e = rw (drop_one xs i 0 h) (front_other k (get_or xs i 0) (drop (i + 1) xs) n e)
-
-  pub behind_end : length xs ≤ i → behind_spaces k (drop i xs) ≡ drop i xs
-  unfolding behind_spaces
-  behind_end h = rw (drop_of_length-le xs h) refl
-
-  -- the field is the part from its start up to the next space
-  pub field_part : drop i xs ≡ behind_spaces k xs → i ≤ length xs → part_of i (place_of 32 i xs) xs ≡ field_of k xs
-  unfolding field_of
-  field_part e h = place_part 32 xs i h ∙ ap (λ (l : List ℕ). take_while (is_other 32) l) e
+pub reached : {A : Type 0} (xs : List A) (from end : ℕ) (r : Option (Bor (List A))) (d : Bor (List A))
+    → IsGetRangeResult xs from (min end (length xs)) r → d.now ≡ [] → (unwrap_or r d).now ≡ take (end - from) (drop from xs)
+reached xs from end None d h k =
+    k ∙ by (leb (length xs) from)
+    (λ t. let n = leb-true (length xs) from t in rw (drop_of_length-le xs n) (sym (take-nil (end - from))))
+    (λ t. let n = leb-false (length xs) from t in
+    let z : end - from ≡ 0 = elim h.0 [ inl p ↦ omega arith | inr p ↦ omega arith ] in
+    rw z refl)
+reached xs from end (Some x) d h k =
+    let ys = drop from xs in
+    h.0.2 ∙ by (leb end (length xs))
+    (λ t. let n = leb-true end (length xs) t in let e : min end (length xs) ≡ end = omega arith in rw e refl)
+    (λ t. let n = leb-false end (length xs) t in
+    take_all (min end (length xs) - from) ys (omega (arith, length-drop from xs)) ∙ sym (take_all (end - from) ys (omega (arith, length-drop from xs))))

@@ -2,9 +2,8 @@ pub mod CountLaws
 pub mod StoringLaws
 pub mod FieldLaws
 pub mod NumberLaws
-pub mod FilledLaws
 pub mod ListLineLaws
 pub mod RepeatLaws
-pub mod FaultLaws
-pub mod TallyLaws
+pub mod ChangedLaws
+pub mod CopyLaws
 pub mod ListRows

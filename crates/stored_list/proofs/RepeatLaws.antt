@@ -2,7 +2,7 @@
 use mathlib.Core.Path.{◌≡◌, refl, sym, ap, ◌∙◌}
 use mathlib.Core.Bool.{true, false}
 use mathlib.Core.List.{List, [], ◌∷◌, ◌++◌}
-use Prim.Native.Nat.{ℕ, zero, suc, ◌+◌, ◌-◌, ◌*◌, ◌≤◌, ◌<◌, min}
+use Prim.Native.Nat.{ℕ, ◌+◌, ◌-◌, ◌*◌, ◌≤◌, ◌<◌, min}
 use native.Mathlib.Omega.{arith}
 use borrow.Author.Tests.{leb-true, leb-false}
 use lib.Dec.{leb}
@@ -11,21 +11,19 @@ use lib.Seq.{sets, length-sets, length-take-le, take_all}
 use Rattle.output.proofs.StoreLaws.{sets_append, sets_out, front_stored}
 use Rattle.spec.specs.Lists.{is_empty}
 use Rattle.spec.proofs.Choice.{by}
-use Rattle.stored_list.specs.Fields.{part_of, field_of}
-use Rattle.stored_list.specs.Numbers.{number_of}
+use Rattle.stored_list.specs.Fields.{field_of}
+use Rattle.stored_list.specs.Numbers.{counted}
 use Rattle.stored_list.specs.Runs.{repeated, hex_run, run_at, runs_from}
-use Rattle.stored_list.proofs.FieldLaws.{part_in}
 use Rattle.stored_list.proofs.CountLaws.{one_less}
 
-pub repeated_step : (n : ℕ) (xs : List ℕ) → 0 < n → repeated n xs ≡ xs ++ repeated (n - 1) xs
-unfolding repeated
-repeated_step zero xs h = absurd (omega arith)
-repeated_step (suc n) xs h = let k : suc n - 1 ≡ n = omega arith in rw k refl
+module _ (n i : ℕ) (xs : List ℕ) where
+  pub repeated_step : i < n → repeated (n - i) xs ≡ xs ++ repeated (n - (i + 1)) xs
+  unfolding repeated
+  repeated_step h = rw (one_less n i h) refl
 
-pub repeated_end : (n : ℕ) (xs : List ℕ) → n ≤ 0 → repeated n xs ≡ []
-unfolding repeated
-repeated_end zero xs h = refl
-repeated_end (suc n) xs h = absurd (omega arith)
+  pub repeated_end : n ≤ i → repeated (n - i) xs ≡ []
+  unfolding repeated
+  repeated_end h = let k : n - i ≡ 0 = omega arith in rw k refl
 
 -- ---- the runs of a line
 
@@ -54,16 +52,16 @@ module _ (n j : ℕ) (line : List ℕ) where
     unfolding runs_from
     runs_step e = rw (one_less n j h, empty_some (field_of (2 * j + 1) line) e) refl
 
--- a run from what the code computes: its fields, and the number of the first
-pub run_fields : (j : ℕ) (line count hex : List ℕ) (n : ℕ) → count ≡ field_of (2 * j + 1) line → n ≡ number_of count
-    → hex ≡ field_of (2 * j + 1 + 1) line → hex_run n hex ≡ run_at j line
+-- a run from what the code computes: its fields, and what the first counts as
+pub run_fields : (j : ℕ) (line times hex : List ℕ) (n : ℕ) → times ≡ field_of (2 * j + 1) line → n ≡ counted times
+    → hex ≡ field_of (2 * j + 2) line → hex_run n hex ≡ run_at j line
 unfolding run_at
-run_fields j line count hex n p q r = rw (q, p, r) refl
+run_fields j line times hex n p q r = rw (q, p, r) refl
 
 -- ---- the text of a run: what a buffer holds of it
 
 module _ (d d' vs : List ℕ) (k : ℕ) (p : d' ≡ sets d 0 vs) (q : k ≡ min (length vs) (length d)) where
-  held : take k d' ≡ take (length d) vs
+  pub held : take k d' ≡ take (length d) vs
   held =
       by (leb (length vs) (length d))
       (λ e. let h : length vs ≤ length d = leb-true (length vs) (length d) e in
@@ -75,9 +73,3 @@ module _ (d d' vs : List ℕ) (k : ℕ) (p : d' ≡ sets d 0 vs) (q : k ≡ min 
       ap (λ (l : List ℕ). sets d 0 l) (sym (take-append-drop (length d) vs)) ∙ sets_append u (drop (length d) vs) d 0 in
       front_stored d d' u k (omega arith) (omega arith)
       (p ∙ (s ∙ sets_out (drop (length d) vs) (sets d 0 u) (0 + length u) (omega (arith, length-sets d 0 u)))))
-
-  pub run_text : part_of 0 k d' ≡ take (length d) vs
-  run_text =
-      let z : k - 0 ≡ k = omega arith in
-      part_in 0 k d' (omega (arith, ap length p, length-sets d 0 vs)) (omega arith)
-      ∙ (ap (λ (m : ℕ). take m d') z ∙ held)

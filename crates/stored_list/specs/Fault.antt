@@ -1,20 +1,38 @@
 -- A buffer with another element at one place. Assumes nothing.
-use Rattle.std.specs.Prelude.{ℕ, cond, List, eqb, get_or, set}
+use Rattle.std.specs.Prelude.{◌≡◌, Bool, true, false, refl, ℕ, suc, zero, cond, List, [], ◌∷◌, eqb, Option, Some, None}
+use Rattle.std.proofs.Common.{sym, subst}
+use mathlib.Core.Bool.{false≢true}
 use Rattle.stored_list.specs.Fields.{field_of}
 use Rattle.stored_list.specs.Numbers.{number_of}
 use Rattle.stored_list.specs.declared.fault.Fault.{Fault}
 
 -- another byte or number
-unfoldable pub other : ℕ → ℕ
+abbrev pub other : ℕ → ℕ
 other b = cond (eqb b 1) 2 1
 
--- no buffer has the number 99
-abbrev pub no_fault : Fault
-no_fault = record { buffer = 99; place = 0 }
+-- it differs, by the two cases of the test
+pub other_differs : (b : ℕ) → other b ≡ b → ⊥
+other_differs b e =
+    let P : Bool → Type 0 = λ t. eqb b 1 ≡ t → cond t 2 1 ≡ b → ⊥ in
+    let same = λ (n : ℕ) (t : Bool) (p : n ≡ b) (q : eqb b 1 ≡ t). subst (λ (m : ℕ). eqb m 1 ≡ t) (sym p) q in
+    (elim (eqb b 1) as P [ true ↦ λ q p. false≢true (same 2 true p q) | false ↦ λ q p. false≢true (sym (same 1 false p q)) ]) refl e
 
-abbrev pub fault_of : List ℕ → Fault
-fault_of line = record { buffer = number_of (field_of 1 line); place = number_of (field_of 2 line) }
+-- a place of a buffer; none if either is none
+abbrev pub fault_at : Option ℕ → Option ℕ → Option Fault
+fault_at None p = None
+fault_at (Some b) None = None
+fault_at (Some b) (Some p) = Some (record { buffer = b; place = p })
 
--- the buffer with this number, after its place is changed; past the end there is none
-unfoldable pub injected : ℕ → Fault → List ℕ → List ℕ
-injected own s xs = cond (eqb s.buffer own) (set xs s.place (other (get_or xs s.place 0))) xs
+abbrev pub fault_of : List ℕ → Option Fault
+fault_of line = fault_at (number_of (field_of 1 line)) (number_of (field_of 2 line))
+
+-- the list with f of the element at i there; past the end there is none
+unfoldable pub changed_at : {A : Type 0} → (A → A) → ℕ → List A → List A
+changed_at f i [] = []
+changed_at f zero (x ∷ xs) = f x ∷ xs
+changed_at f (suc i) (x ∷ xs) = x ∷ changed_at f i xs
+
+-- the buffer with this number, after its place is changed
+abbrev pub injected : {A : Type 0} → (A → A) → ℕ → Option Fault → List A → List A
+injected f own None xs = xs
+injected f own (Some s) xs = cond (eqb s.buffer own) (changed_at f s.place xs) xs

@@ -2,7 +2,7 @@
 use Rattle.std.specs.Prelude.{ℕ, zero, suc, ◌+◌, ◌*◌, cond, List, [], ◌++◌, take}
 use Rattle.spec.specs.Lists.{is_empty}
 use Rattle.stored_list.specs.Fields.{field_of}
-use Rattle.stored_list.specs.Numbers.{hex_bytes, number_of}
+use Rattle.stored_list.specs.Numbers.{hex_bytes, counted}
 
 -- so many times the same bytes
 unfoldable pub repeated : ℕ → List ℕ → List ℕ
@@ -19,7 +19,7 @@ hex_run n hex = repeated n (take run_limit (hex_bytes hex))
 
 -- the run with this number, counted from 0: its COUNT, then its HEX
 unfoldable pub run_at : ℕ → List ℕ → List ℕ
-run_at j line = hex_run (number_of (field_of (2 * j + 1) line)) (field_of (2 * j + 1 + 1) line)
+run_at j line = hex_run (counted (field_of (2 * j + 1) line)) (field_of (2 * j + 2) line)
 
 -- n runs from this number on, or those up to an empty COUNT
 unfoldable pub runs_from : ℕ → ℕ → List ℕ → List ℕ

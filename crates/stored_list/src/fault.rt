@@ -1,8 +1,9 @@
 // A place of a buffer is changed behind a call, so that the answer must be found to differ.
 ghost use Rattle.std.specs.Prelude.{◌≡◌};
-ghost use Rattle.stored_list.specs.Fault.{other, no_fault, fault_of, injected};
+ghost use Rattle.stored_list.specs.Fault.{changed_at, fault_of, injected};
 
 use crate::fields::{field, number};
+use crate::marks::Mark;
 
 #[derive(Clone, Copy)]
 pub struct Fault {
@@ -11,68 +12,34 @@ pub struct Fault {
     pub place: usize,
 }
 
-// No buffer has this number.
-const NO_BUFFER: usize = 99;
-
-// Nothing is changed.
-pub fn no_fault() -> Fault
-    ensures { result ≡ no_fault }
-{
-    Fault {
-        buffer: NO_BUFFER,
-        place: 0,
-    }
-}
-
-// The second field of a line names the buffer, the third the place.
-pub fn fault_of(line: &[u8]) -> Fault
+// The second field of a line names the buffer, the third the place; none if one of them is no number.
+pub fn fault_of(line: &[u8]) -> Option<Fault>
     ensures { result ≡ fault_of line.now }
 {
-    let buffer = number(field(line, 1));
-    Fault {
-        buffer,
-        place: number(field(line, 2)),
+    Some(Fault {
+        buffer: number(field(line, 1))?,
+        place: number(field(line, 2))?,
+    })
+}
+
+// Changes the element at a place, if the buffer reaches so far.
+#[tactic(auto, using(crate::proofs::ChangedLaws::changed_in, crate::proofs::ChangedLaws::changed_out))]
+fn change_at<T: Mark>(buffer: &mut [T], place: usize)
+    ensures { buffer.new ≡ changed_at T.other place buffer.old }
+{
+    if place < buffer.len() {
+        let before = buffer[place];
+        buffer[place] = before.other();
     }
 }
 
-// Another byte.
-fn other_byte(b: u8) -> u8
-    ensures { result ≡ other b }
+// Changes the place, if it is one of the buffer with this number.
+pub fn inject<T: Mark>(buffer: &mut [T], own: usize, fault: Option<Fault>)
+    ensures { buffer.new ≡ injected T.other own fault buffer.old }
 {
-    if b == 1 { 2 } else { 1 }
-}
-
-// Another number.
-fn other_number(n: u32) -> u32
-    ensures { result ≡ other n }
-{
-    if n == 1 { 2 } else { 1 }
-}
-
-// Changes the byte at the place, if it is one of this buffer.
-pub fn inject_byte(buffer: &mut [u8], own: usize, fault: Fault)
-    ensures { buffer.new ≡ injected own fault buffer.old }
-{
-    let place = fault.place;
-    if fault.buffer != own {
-        return;
+    if let Some(fault) = fault {
+        if fault.buffer == own {
+            change_at(buffer, fault.place);
+        }
     }
-    if buffer.len() <= place {
-        return;
-    }
-    buffer[place] = other_byte(buffer[place]);
-}
-
-// The same for numbers.
-pub fn inject_number(buffer: &mut [u32], own: usize, fault: Fault)
-    ensures { buffer.new ≡ injected own fault buffer.old }
-{
-    let place = fault.place;
-    if fault.buffer != own {
-        return;
-    }
-    if buffer.len() <= place {
-        return;
-    }
-    buffer[place] = other_number(buffer[place]);
 }

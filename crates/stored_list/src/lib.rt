@@ -4,16 +4,18 @@
 
 mod fault;
 mod fields;
+mod held;
 mod lines;
 mod marks;
 mod numbers;
 mod runs;
 mod tally;
 
-pub use fault::{Fault, fault_of, inject_byte, inject_number, no_fault};
-pub use fields::{decode, field, is_number, next_place, number, part, same};
-pub use lines::{Line, before_first, next_line};
-pub use marks::{are_filled, are_marked, is_filled, is_marked, marked_bytes, marked_numbers};
-pub use numbers::{put_numbers, same_front};
+pub use fault::{Fault, fault_of, inject};
+pub use fields::{decode, field, next_place, number, part};
+pub use held::{NumberList, Text};
+pub use lines::{Line, for_each_line, next_line};
+pub use marks::{Mark, START_NUMBERS, TEXT_BYTES, is_filled, is_marked, marked};
+pub use numbers::{count, put_numbers};
 pub use runs::put_runs;
-pub use tally::{note, print_rows};
+pub use tally::{Row, note, print_rows};

@@ -3,7 +3,8 @@ ghost use Rattle.std.specs.Prelude.{◌≡◌, ◌+◌, ◌≤◌, min, length};
 ghost use Rattle.std.proofs.lemmas.List.Edits.{sets};
 ghost use Rattle.stored_list.specs.Runs.{repeated, hex_run, runs_of};
 
-use crate::fields::{decode, field, number, part};
+use crate::fields::{decode, field};
+use crate::numbers::count;
 
 // Puts bytes behind the first n bytes of out, as far as out reaches, and gives how many there are then.
 fn append(out: &mut [u8], n: usize, bytes: &[u8]) -> usize
@@ -11,60 +12,48 @@ fn append(out: &mut [u8], n: usize, bytes: &[u8]) -> usize
     ensures value { result ≡ min (n + length bytes.now) (length out.old) }
     ensures out_after { out.new ≡ sets out.old n bytes.now }
 {
-    let mut at = n;
-    let mut i: usize = 0;
-    while i < bytes.len() {
-        if out.len() <= at {
-            return at;
-        }
-        out[at] = bytes[i];
-        at += 1;
-        i += 1;
-    }
-    at
+    let k = bytes.len().min(out.len() - n);
+    out[n..n + k].copy_from_slice(&bytes[..k]);
+    n + k
 }
 
-// The same, `count` times.
-fn append_times(out: &mut [u8], n: usize, bytes: &[u8], count: usize) -> usize
+// The same, `times` times.
+fn append_times(out: &mut [u8], n: usize, bytes: &[u8], times: usize) -> usize
     requires { n ≤ length out.old }
-    ensures value { result ≡ min (n + length (repeated count bytes.now)) (length out.old) }
-    ensures out_after { out.new ≡ sets out.old n (repeated count bytes.now) }
+    ensures value { result ≡ min (n + length (repeated times bytes.now)) (length out.old) }
+    ensures out_after { out.new ≡ sets out.old n (repeated times bytes.now) }
 {
     let mut at = n;
-    let mut left = count;
-    while left > 0 {
+    for _turn in 0..times {
         at = append(out, at, bytes);
-        left -= 1;
     }
     at
 }
 
 // The same with bytes in hex.
-fn append_hex(out: &mut [u8], n: usize, hex: &[u8], count: usize) -> usize
+fn append_hex(out: &mut [u8], n: usize, hex: &[u8], times: usize) -> usize
     requires { n ≤ length out.old }
-    ensures value { result ≡ min (n + length (hex_run count hex.now)) (length out.old) }
-    ensures out_after { out.new ≡ sets out.old n (hex_run count hex.now) }
+    ensures value { result ≡ min (n + length (hex_run times hex.now)) (length out.old) }
+    ensures out_after { out.new ≡ sets out.old n (hex_run times hex.now) }
 {
     let mut bytes = [0u8; 4096];
     let k = decode(hex, &mut bytes);
-    append_times(out, n, part(&bytes, 0, k), count)
+    append_times(out, n, &bytes[..k], times)
 }
 
-// Puts the runs of a line, which begin with its second field, at the front of out, and gives how many bytes there are.
+// Puts the runs of a line, which begin with its second field, at the front of out, and gives how many bytes there are. A turn
+// takes two fields, so it counts and does not walk through the fields one by one.
 pub fn put_runs(line: &[u8], out: &mut [u8]) -> usize
     ensures value { result ≡ min (length (runs_of line.now)) (length out.old) }
     ensures out_after { out.new ≡ sets out.old 0 (runs_of line.now) }
 {
-    let mut n: usize = 0;
-    let mut j: usize = 0;
-    while j < 500 {
-        let k = 2 * j + 1;
-        let count = field(line, k);
-        if count.len() == 0 {
+    let mut n = 0;
+    for j in 0..500 {
+        let times = field(line, 2 * j + 1);
+        if times.is_empty() {
             return n;
         }
-        n = append_hex(out, n, field(line, k + 1), number(count));
-        j += 1;
+        n = append_hex(out, n, field(line, 2 * j + 2), count(times));
     }
     n
 }

@@ -1,14 +1,13 @@
 -- The target of the first live `:=` that has one, from `:=` to `:=`. Assumes nothing.
+use Rattle.std.specs.Prelude.{Option, Some, None}
 use mathlib.Core.Path.{◌≡◌, refl, sym, ap, ◌∙◌}
 use mathlib.Core.Bool.{true, false}
 use mathlib.Core.List.{List, ◌∷◌, reverse}
-use mathlib.Core.Option.{Option, none}
 use Prim.Native.Nat.{ℕ, ◌+◌, ◌≤◌, ◌<◌}
 use lib.ListN.{length, take, drop, get_or, drop_of_length-le}
 use Rattle.spec.specs.Map.{Marked, live}
 use Rattle.spec.specs.Search.{first}
 use Rattle.spec.specs.Assignments.{Target, or_else, assign_here, target_before, assign_target}
-use Rattle.spec.specs.declared.Found.TheVariants.{At, Nothing}
 use Rattle.spec.proofs.AheadLaws.{drop_one}
 use Rattle.spec.proofs.Choice.{by}
 use Rattle.spec.proofs.FirstLaws.{apart}
@@ -28,7 +27,7 @@ assign_from t i = assign_target (reverse (take i t)) (drop i t)
 
 module _ (t : List Marked) where
   module _ (i : ℕ) where
-    assign_end : length t ≤ i → assign_from t i ≡ none
+    assign_end : length t ≤ i → assign_from t i ≡ None
     unfolding assign_target
     assign_end h = rw (drop_of_length-le t h) refl
 
@@ -44,9 +43,9 @@ module _ (t : List Marked) where
           ∙ ap (λ (b : List Marked). assign_target b (drop (i + 1) t)) (sym (back_step t i (live 0) h))
 
   -- no `:=`, no target
-  pub assign_none : (i : ℕ) → first assign_here i t ≡ Nothing → assign_from t i ≡ none
+  pub assign_none : (i : ℕ) → first assign_here i t ≡ None → assign_from t i ≡ None
   assign_none =
-      climb (λ (k : ℕ). first assign_here k t ≡ Nothing → assign_from t k ≡ none) (length t)
+      climb (λ (k : ℕ). first assign_here k t ≡ None → assign_from t k ≡ None) (length t)
       (λ k h e. assign_end k h)
       (λ k h more e.
       by (passes_at assign_here t k)
@@ -54,9 +53,9 @@ module _ (t : List Marked) where
       (λ q. assign_miss k h q ∙ more (sym (first_miss assign_here t k h q) ∙ e)))
 
   -- the first `:=` from i on stands at j
-  pub assign_at : (i j : ℕ) → first assign_here i t ≡ At j → assign_from t i ≡ or_else (target_before (reverse (take j t))) (assign_from t (j + 1))
+  pub assign_at : (i j : ℕ) → first assign_here i t ≡ Some j → assign_from t i ≡ or_else (target_before (reverse (take j t))) (assign_from t (j + 1))
   assign_at i j =
-      climb (λ (k : ℕ). first assign_here k t ≡ At j → assign_from t k ≡ or_else (target_before (reverse (take j t))) (assign_from t (j + 1))) (length t)
+      climb (λ (k : ℕ). first assign_here k t ≡ Some j → assign_from t k ≡ or_else (target_before (reverse (take j t))) (assign_from t (j + 1))) (length t)
       (λ k h e. apart (first assign_here k t) j e (first_end assign_here t k h))
       (λ k h more e.
       by (passes_at assign_here t k)

@@ -1,14 +1,11 @@
 -- The table of marking words, and what is met at a place. Assumes nothing.
-use Rattle.std.specs.Prelude.{ℕ, ◌+◌, ◌-◌, cond, List, [], ◌∷◌, eqb, length, drop}
-use Rattle.std.proofs.Math.Option.{Option, none, some}
+use Rattle.std.specs.Prelude.{ℕ, ◌+◌, ◌-◌, cond, List, [], ◌∷◌, eqb, length, drop, Option, Some, None}
 use Rattle.spec.specs.Bytes.{ascii}
 use Rattle.spec.specs.Map.{Marked}
 use Rattle.spec.specs.Assignments as spec
 use Rattle.targets.specs.declared.Mark.{Mark}
 use Rattle.targets.specs.declared.Mark.TheVariants.{OpensCase, ClosesCase, OpensStatement}
 use Rattle.targets.specs.declared.Marking.{Marking}
-use Rattle.targets.specs.declared.Met.{Met}
-use Rattle.targets.specs.declared.Met.TheVariants.{Word, Nothing}
 
 unfoldable pub blank : Marking
 blank = record { len = 0; word = []; mark = OpensCase }
@@ -28,14 +25,14 @@ mark_of spec.opens_case = OpensCase
 mark_of spec.closes_case = ClosesCase
 mark_of spec.opens_statement = OpensStatement
 
-abbrev pub met_of : Option spec.Marking → Met
-met_of none = Nothing
-met_of (some m) = Word (mark_of m.mark) (length m.word)
+abbrev pub met_of : Option spec.Marking → Option (Mark × ℕ)
+met_of None = None
+met_of (Some m) = Some (mark_of m.mark, length m.word)
 
 -- the length of the word that is met
-abbrev pub len_met : Met → ℕ
-len_met (Word m n) = n
-len_met Nothing = 0
+abbrev pub len_met : Option (Mark × ℕ) → ℕ
+len_met (Some (m, n)) = n
+len_met None = 0
 
 -- how many CASEs are open behind a mark, behind what is met, d being open before
 abbrev pub cases_after : Mark → ℕ → ℕ
@@ -43,18 +40,18 @@ cases_after OpensCase d = d + 1
 cases_after ClosesCase d = d - 1
 cases_after OpensStatement d = d
 
-abbrev pub cases_met : Met → ℕ → ℕ
-cases_met (Word m n) d = cases_after m d
-cases_met Nothing d = d
+abbrev pub cases_met : Option (Mark × ℕ) → ℕ → ℕ
+cases_met (Some (m, n)) d = cases_after m d
+cases_met None d = d
 
 -- the target just past a mark's word of n bytes, past what is met in front of t
 abbrev pub target_past : Mark → ℕ → ℕ → List Marked → Option spec.Target
-target_past OpensCase n d t = none
-target_past ClosesCase n d t = none
+target_past OpensCase n d t = None
+target_past ClosesCase n d t = None
 target_past OpensStatement n d t =
     let found = spec.equals_target (drop n t) in
-    cond (eqb d 0) found none
+    cond (eqb d 0) found None
 
-abbrev pub target_met : Met → ℕ → List Marked → Option spec.Target
-target_met (Word m n) d t = target_past m n d t
-target_met Nothing d t = none
+abbrev pub target_met : Option (Mark × ℕ) → ℕ → List Marked → Option spec.Target
+target_met (Some (m, n)) d t = target_past m n d t
+target_met None d t = None

@@ -5,24 +5,20 @@ ghost use Rattle.std.specs.Prelude.{◌≡◌, not, ◌&&◌, List, [], reverse,
 ghost use Rattle.spec.specs.Bytes.{is_word, upper, prefix_by};
 ghost use Rattle.spec.specs.Map.{Marked, marked, bytes};
 ghost use Rattle.spec.specs.Assignments.{target_before, assign_target, equals_target, markings, marking_here, marked_target, or_else, statement_target};
-ghost use Rattle.targets.specs.Tells.{Tells, is_target};
+ghost use Rattle.targets.specs.Tells.{Tells};
 ghost use Rattle.targets.specs.Words.{entries, blank, met_of, len_met, cases_after, cases_met, target_past, target_met};
 
 use classes::{byte_at, is_word_byte, lone_equals};
 use runs::{Set, run_end, run_start};
 use scanner::{find_str_in, starts_ignoring_case};
-use spec::Found;
 
 // Where a qualified target stands in a statement.
 #[derive(Clone, Copy)]
-pub enum TargetFound {
-    At {
-        qualifier_start: usize,
-        qualifier_len: usize,
-        name_start: usize,
-        name_len: usize,
-    },
-    Nothing,
+pub struct TargetPlaces {
+    pub qualifier_start: usize,
+    pub qualifier_len: usize,
+    pub name_start: usize,
+    pub name_len: usize,
 }
 
 // What a marking word does: CASE opens one, END closes one, a statement may follow the others.
@@ -39,13 +35,6 @@ struct Marking {
     len: usize,
     word: [u8; 5],
     mark: Mark,
-}
-
-// The marking word met at a place: what it does, and its length.
-#[derive(Clone, Copy)]
-enum Met {
-    Word(Mark, usize),
-    Nothing,
 }
 
 const MARKINGS: [Marking; 6] = [
@@ -81,62 +70,47 @@ const MARKINGS: [Marking; 6] = [
     },
 ];
 
-// Whether a target is found.
-fn is_target(f: TargetFound) -> bool
-    ensures { result ≡ is_target f }
-{
-    match f {
-        TargetFound::At {
-            qualifier_start: _,
-            qualifier_len: _,
-            name_start: _,
-            name_len: _,
-        } => true,
-        TargetFound::Nothing => false,
-    }
-}
-
 // The target `q.n` that stands before `operator`, W allowed between.
-fn qualified_name_before(statement: &[u8], operator: usize) -> TargetFound
+fn qualified_name_before(statement: &[u8], operator: usize) -> Option<TargetPlaces>
     requires { operator ≤ length statement.now }
     ensures { (t : List Marked) → bytes t ≡ statement.now → Tells t (target_before (reverse (take operator t))) result }
 {
     let name_end = run_start(statement, Set::W, operator);
     let name_start = run_start(statement, Set::Ident, name_end);
     if name_start == name_end {
-        return TargetFound::Nothing;
+        return None;
     }
     if name_start == 0 {
-        return TargetFound::Nothing;
+        return None;
     }
     let dot = name_start - 1;
     if statement[dot] != b'.' {
-        return TargetFound::Nothing;
+        return None;
     }
     let start = run_start(statement, Set::Ident, dot);
     if start == dot {
-        return TargetFound::Nothing;
+        return None;
     }
-    TargetFound::At {
+    Some(TargetPlaces {
         qualifier_start: start,
         qualifier_len: dot - start,
         name_start: name_start,
         name_len: name_end - name_start,
-    }
+    })
 }
 
 // The target of the first live `:=` that has one.
-fn qualified_walrus_target(statement: &[u8], map: &[u8]) -> TargetFound
+fn qualified_walrus_target(statement: &[u8], map: &[u8]) -> Option<TargetPlaces>
     ensures { Tells (marked statement.now map.now) (assign_target [] (marked statement.now map.now)) result }
 {
     let mut from: usize = 0;
     loop {
         let found = find_str_in(statement, map, b":=", from);
-        let Found::At(at) = found else {
-            return TargetFound::Nothing;
+        let Some(at) = found else {
+            return None;
         };
         let before = qualified_name_before(statement, at);
-        if is_target(before) {
+        if before.is_some() {
             return before;
         }
         from = at + 1;
@@ -144,32 +118,32 @@ fn qualified_walrus_target(statement: &[u8], map: &[u8]) -> TargetFound
 }
 
 // The target `q.n` from `from` on with a lone `=` behind it; N may stand before q and before `=`.
-fn qualified_name_at_with_equals(statement: &[u8], from: usize) -> TargetFound
+fn qualified_name_at_with_equals(statement: &[u8], from: usize) -> Option<TargetPlaces>
     requires { from ≤ length statement.now }
     ensures { (t : List Marked) → bytes t ≡ statement.now → Tells t (equals_target (drop from t)) result }
 {
     let start = run_end(statement, Set::N, from);
     let dot = run_end(statement, Set::Ident, start);
     if start == dot {
-        return TargetFound::Nothing;
+        return None;
     }
     if byte_at(statement, dot) != b'.' {
-        return TargetFound::Nothing;
+        return None;
     }
     let name_start = dot + 1;
     let name_end = run_end(statement, Set::Ident, name_start);
     if name_start == name_end {
-        return TargetFound::Nothing;
+        return None;
     }
     if lone_equals(statement, run_end(statement, Set::N, name_end)) {
-        TargetFound::At {
+        Some(TargetPlaces {
             qualifier_start: start,
             qualifier_len: dot - start,
             name_start: name_start,
             name_len: name_end - name_start,
-        }
+        })
     } else {
-        TargetFound::Nothing
+        None
     }
 }
 
@@ -201,20 +175,20 @@ fn is_word_at(statement: &[u8], e: Marking, i: usize) -> bool
 }
 
 // The marking word that stands live at i; `before` is the byte before.
-fn marking_at(statement: &[u8], map: &[u8], before: u8, i: usize) -> Met
+fn marking_at(statement: &[u8], map: &[u8], before: u8, i: usize) -> Option<(Mark, usize)>
     requires { i < length statement.now }
     ensures value { result ≡ met_of (marking_here markings before (drop i (marked statement.now map.now))) }
     ensures result_in_bounds { i + len_met result ≤ length statement.now }
 {
     // Words are compared only where one may start, so that the walk stays linear.
     if byte_at(map, i) != 0 {
-        return Met::Nothing;
+        return None;
     }
     if is_word_byte(before) {
-        return Met::Nothing;
+        return None;
     }
     if !is_word_byte(statement[i]) {
-        return Met::Nothing;
+        return None;
     }
     let mut k: usize = 0;
     while k < 6 {
@@ -222,21 +196,21 @@ fn marking_at(statement: &[u8], map: &[u8], before: u8, i: usize) -> Met
         if is_word_at(statement, e, i) {
             let mark = e.mark;
             let len = e.len;
-            return Met::Word(mark, len);
+            return Some((mark, len));
         }
         k += 1;
     }
-    Met::Nothing
+    None
 }
 
 // How many CASEs are open behind what is met, `cases` being open before it.
-fn cases_behind(met: Met, cases: usize) -> usize
+fn cases_behind(met: Option<(Mark, usize)>, cases: usize) -> usize
     requires { cases ≤ 2 ^ 63 }
     ensures { result ≡ cases_met met cases }
 {
     match met {
-        Met::Word(mark, _) => cases_after(mark, cases),
-        Met::Nothing => cases,
+        Some((mark, _)) => cases_after(mark, cases),
+        None => cases,
     }
 }
 
@@ -253,34 +227,45 @@ fn cases_after(mark: Mark, cases: usize) -> usize
 }
 
 // The target just past what is met at i, where no CASE is open.
-fn target_behind(statement: &[u8], met: Met, cases: usize, i: usize) -> TargetFound
+fn target_behind(
+    statement: &[u8],
+    met: Option<(Mark, usize)>,
+    cases: usize,
+    i: usize,
+) -> Option<TargetPlaces>
     requires { i + len_met met ≤ length statement.now }
     ensures { (t : List Marked) → bytes t ≡ statement.now → Tells t (target_met met cases (drop i t)) result }
 {
     match met {
-        Met::Word(mark, len) => target_past(statement, mark, len, cases, i),
-        Met::Nothing => TargetFound::Nothing,
+        Some((mark, len)) => target_past(statement, mark, len, cases, i),
+        None => None,
     }
 }
 
 // The same for a mark and its word's length.
-fn target_past(statement: &[u8], mark: Mark, len: usize, cases: usize, i: usize) -> TargetFound
+fn target_past(
+    statement: &[u8],
+    mark: Mark,
+    len: usize,
+    cases: usize,
+    i: usize,
+) -> Option<TargetPlaces>
     requires { i + len ≤ length statement.now }
     ensures { (t : List Marked) → bytes t ≡ statement.now → Tells t (target_past mark len cases (drop i t)) result }
 {
     match mark {
-        Mark::OpensCase => TargetFound::Nothing,
-        Mark::ClosesCase => TargetFound::Nothing,
+        Mark::OpensCase => None,
+        Mark::ClosesCase => None,
         Mark::OpensStatement => if cases == 0 {
             qualified_name_at_with_equals(statement, i + len)
         } else {
-            TargetFound::Nothing
+            None
         },
     }
 }
 
 // The first target behind a marking word: one walk that carries the number of open CASEs and the byte before.
-fn marked_target(statement: &[u8], map: &[u8]) -> TargetFound
+fn marked_target(statement: &[u8], map: &[u8]) -> Option<TargetPlaces>
     ensures { Tells (marked statement.now map.now) (marked_target 0 0 (marked statement.now map.now)) result }
 {
     let mut cases: usize = 0;
@@ -289,33 +274,33 @@ fn marked_target(statement: &[u8], map: &[u8]) -> TargetFound
     while i < statement.len() {
         let met = marking_at(statement, map, before, i);
         let found = target_behind(statement, met, cases, i);
-        if is_target(found) {
+        if found.is_some() {
             return found;
         }
         cases = cases_behind(met, cases);
         before = statement[i];
         i += 1;
     }
-    TargetFound::Nothing
+    None
 }
 
 // The target of a lone `=` at the front or just past a marking word.
-fn qualified_equals_target(statement: &[u8], map: &[u8]) -> TargetFound
+fn qualified_equals_target(statement: &[u8], map: &[u8]) -> Option<TargetPlaces>
     ensures { Tells (marked statement.now map.now) (or_else (equals_target (marked statement.now map.now)) (marked_target 0 0 (marked statement.now map.now))) result }
 {
     let front = qualified_name_at_with_equals(statement, 0);
-    if is_target(front) {
+    if front.is_some() {
         return front;
     }
     marked_target(statement, map)
 }
 
 // The target that the statement assigns to: of `:=` first, then of a lone `=`.
-pub fn qualified_assignment_target(statement: &[u8], map: &[u8]) -> TargetFound
+pub fn qualified_assignment_target(statement: &[u8], map: &[u8]) -> Option<TargetPlaces>
     ensures { Tells (marked statement.now map.now) (statement_target (marked statement.now map.now)) result }
 {
     let walrus = qualified_walrus_target(statement, map);
-    if is_target(walrus) {
+    if walrus.is_some() {
         return walrus;
     }
     qualified_equals_target(statement, map)

@@ -1,7 +1,7 @@
 -- `assignments::put_qualified` meets its contract. `q_long` and `n_long` say how long the two parts are;
 -- `target_written` joins the three stores at the front of the output. Assumes nothing.
+use Rattle.std.specs.Prelude.{Err}
 use mathlib.Core.List.{◌∷◌, ◌++◌}
-use Rattle.output.specs.declared.Pass.TheVariants.{Refused}
 use Rattle.spec.specs.declared.Refusal.TheVariants.{QualifiedTarget}
 use native.Mathlib.Omega.{arith}
 use mathlib.Core.Path.{◌≡◌, ap}
@@ -49,6 +49,6 @@ returns c =
     let w : take (length q + 1 + length n) c.put_all-end.new.out ≡ q ++ (46 ∷ n) =
     target_written q n a.out.now _ _ _ _ _ c.put_all-p.ensures.out_after c.put_all-p.ensures.value c.put-q.ensures.out_after c.put-q.ensures.value c.put_all-end.ensures.out_after (omega arith) in
     record {
-      value = ap (λ (l : ℕ). Refused (QualifiedTarget a.k l)) (omega (arith, c.put_all-p.ensures.value, c.put-q.ensures.value, c.put_all-end.ensures.value));
+      value = ap (λ (l : ℕ). Err (QualifiedTarget a.k l)) (omega (arith, c.put_all-p.ensures.value, c.put-q.ensures.value, c.put_all-end.ensures.value));
       out_after = rw (ql, nl, qk, nm) at w;
     }

@@ -1,5 +1,6 @@
 -- `assignments::put_statement` meets its contract, by whether the statement is empty, and then whether it has a
 -- qualified target. `told` says which one the check found; without one the statement is what `rewrite_assignment` writes. Assumes nothing.
+use Rattle.std.specs.Prelude.{Ok, Some}
 use native.Mathlib.Omega.{arith}
 use mathlib.Core.List.{[], ◌∷◌, ◌++◌}
 use lib.ListN.{length, take, drop, length-append, length-drop}
@@ -9,46 +10,44 @@ use Rattle.spec.proofs.RefusalBounds.{bytes_length}
 use Rattle.spec.specs.Map.{marked, bytes}
 use Rattle.spec.specs.Assignments.{statement_target, assignment}
 use Rattle.spec.proofs.MapLaws.{marked_length}
-use Rattle.output.specs.declared.Pass.TheVariants.{Done}
 use Rattle.targets.specs.Tells.{Tells}
-use Rattle.targets.specs.declared.TargetFound.TheVariants as target
 use Rattle.assignments.proofs.RestLaws.{told_qualified, told_none, empty_marked}
 use mathlib.Core.Path.{◌≡◌, refl, ap, ◌∙◌}
 use Prim.Native.Nat.{ℕ, ◌+◌}
 use borrow.Author.Rules.{rules}
 use Rattle.assignments.proofs.put_statement.Goals as goal
-use Rattle.assignments.proofs.put_statement.Goals.{In-At}
+use Rattle.assignments.proofs.put_statement.Goals.{In-Some}
 
 -- the target that the check found
-told : (c : goal.In-At) →
-    Tells (marked c.args.text.now c.args.map.now) (statement_target (marked c.args.text.now c.args.map.now)) (target.At c.in-At.qualifier_start c.in-At.qualifier_len c.in-At.name_start c.in-At.name_len)
+told : (c : goal.In-Some) →
+    Tells (marked c.args.text.now c.args.map.now) (statement_target (marked c.args.text.now c.args.map.now)) (Some c.in-Some.p)
 told c =
     let a = c.args in
-    let h : Tells (marked a.text.now a.map.now) (statement_target (marked a.text.now a.map.now)) c.qualified_assignment_target-target.result = c.qualified_assignment_target-target.ensures in
-    rw c.in-At.is at h
+    let h : Tells (marked a.text.now a.map.now) (statement_target (marked a.text.now a.map.now)) c.qualified_assignment_target.result = c.qualified_assignment_target.ensures in
+    rw c.in-Some.is at h
 
 pub returns-then-text-eq0 : goal.returns-then-text-eq0
 unfolding bytes
 returns-then-text-eq0 c =
     let a = c.args in
     let e : marked a.text.now a.map.now ≡ [] = empty_marked a.text.now a.map.now c.if-text-eq0.true in
-    rw (e, statement_nil) record { value = ap Done (omega arith); leaves_from = refl }
+    rw (e, statement_nil) record { value = ap Ok (omega arith); leaves_from = refl }
 
 pub put_qualified-requires : goal.put_qualified-requires
 put_qualified-requires c =
-    let t = told (goal.at.put_qualified-requires c).In-At in
+    let t = told (goal.at.put_qualified-requires c).In-Some in
     record {
       b_value = t.inside.0;
       m_in_bounds = omega (arith, t.inside.1, marked_length c.args.text.now c.args.map.now);
       statement_in_bounds = search rules;
     }
 
-pub returns-in-At : goal.returns-in-At
-returns-in-At c =
+pub returns-in-Some : goal.returns-in-Some
+returns-in-Some c =
     let a = c.args in
     let xs = a.text.now in
-    let g = c.in-At in
-    let t = told (goal.at.returns-in-At c).In-At in
+    let g = c.in-Some.p in
+    let t = told (goal.at.returns-in-Some c).In-Some in
     let i = t.inside in
     let n = marked_length xs a.map.now in
     let ql : length (take g.qualifier_len (drop g.qualifier_start xs)) ≡ g.qualifier_len = length-take-le g.qualifier_len (drop g.qualifier_start xs) (omega (arith, length-drop g.qualifier_start xs)) in
@@ -60,14 +59,14 @@ returns-in-At c =
       leaves_from = rw tl c.put_qualified.ensures.out_after;
     }
 
-pub returns-in-Nothing : goal.returns-in-Nothing
-returns-in-Nothing c =
+pub returns-in-None : goal.returns-in-None
+returns-in-None c =
     let a = c.args in
     let m = marked a.text.now a.map.now in
-    let h : Tells m (statement_target m) c.qualified_assignment_target-target.result = c.qualified_assignment_target-target.ensures in
+    let h : Tells m (statement_target m) c.qualified_assignment_target.result = c.qualified_assignment_target.ensures in
     let w = c.rewrite_assignment.ensures in
-    rw (told_none a.text.now a.map.now (rw c.in-Nothing.is at h))
+    rw (told_none a.text.now a.map.now (rw c.in-None.is at h))
     record {
-      value = ap Done (w.counted ∙ ap (λ (k : ℕ). a.n + k) (bytes_length (assignment m)));
+      value = ap Ok (w.counted ∙ ap (λ (k : ℕ). a.n + k) (bytes_length (assignment m)));
       leaves_from = w.stored;
     }

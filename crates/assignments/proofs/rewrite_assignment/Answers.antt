@@ -21,20 +21,20 @@ sought c = c.find_str_in-found.ensures ∙ nonempty_word (ascii ":=") _ (omega a
 pub put_assignment-requires : goal.put_assignment-requires
 put_assignment-requires c =
     let a = c.args in
-    let i = assign_inside (marked a.statement.now a.map.now) _ (sym (sought (goal.at.put_assignment-requires c).After-find_str_in-found) ∙ c.in-At.is) in
+    let i = assign_inside (marked a.statement.now a.map.now) _ (sym (sought (goal.at.put_assignment-requires c).After-find_str_in-found) ∙ c.in-Some.is) in
     record {
       at_in_bounds = omega (arith, marked_length a.statement.now a.map.now);
       statement_bound = search rules;
     }
 
-pub returns-in-At : goal.returns-in-At
+pub returns-in-Some : goal.returns-in-Some
 unfolding assignment
-returns-in-At c =
+returns-in-Some c =
     let a = c.args in
-    rw (sym (sought (goal.at.returns-in-At c).After-find_str_in-found) ∙ c.in-At.is) (c.put_assignment.ensures (marked a.statement.now a.map.now) (marked_bytes a.statement.now a.map.now))
+    rw (sym (sought (goal.at.returns-in-Some c).After-find_str_in-found) ∙ c.in-Some.is) (c.put_assignment.ensures (marked a.statement.now a.map.now) (marked_bytes a.statement.now a.map.now))
 
-pub returns-in-Nothing : goal.returns-in-Nothing
+pub returns-in-None : goal.returns-in-None
 unfolding assignment assignment_at
-returns-in-Nothing c =
+returns-in-None c =
     let a = c.args in
-    rw (sym (sought (goal.at.returns-in-Nothing c).After-find_str_in-found) ∙ c.in-Nothing.is, marked_bytes a.statement.now a.map.now) (record { counted = c.put_all.ensures.value; stored = c.put_all.ensures.out_after })
+    rw (sym (sought (goal.at.returns-in-None c).After-find_str_in-found) ∙ c.in-None.is, marked_bytes a.statement.now a.map.now) (record { counted = c.put_all.ensures.value; stored = c.put_all.ensures.out_after })

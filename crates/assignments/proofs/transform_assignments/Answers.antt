@@ -1,6 +1,7 @@
 -- `assignments::transform_assignments` meets its contract. The loop's invariant says that the outcome of the whole is
 -- the n bytes stored and the outcome of the statements from `from` on, and that n is at most 8 · from. `answered` and
 -- `left_in` say what becomes of a statement, `turn_in` splits what is left at the next `;`. Assumes nothing.
+use Rattle.std.specs.Prelude.{Some, Ok}
 use native.Mathlib.Omega.{arith}
 use mathlib.Core.Path.{◌≡◌, refl, sym, ◌∙◌}
 use mathlib.Core.List.{List, [], ◌∷◌}
@@ -11,25 +12,23 @@ use Rattle.spec.specs.Map.{Marked, marked, live}
 use Rattle.spec.specs.Search.{first, byte_here}
 use Rattle.spec.specs.Outcome.{accepted, ◌⊕◌}
 use Rattle.spec.specs.Assignments.{statement as outcome, assignments}
-use Rattle.spec.specs.declared.Found.TheVariants.{At}
 use Rattle.spec.proofs.AheadLaws.{rest_of}
 use Rattle.spec.proofs.MapLaws.{marked_length}
 use Rattle.spec.proofs.WalkLaws.{marked_drop, first_within}
 use Rattle.spec.proofs.PartLaws.{marked_part}
-use Rattle.output.specs.declared.Pass.TheVariants.{Done}
 use Rattle.output.specs.Passes.{answer_from, LeavesFrom}
 use Rattle.output.proofs.OutcomeLaws.{Turn, turn_refused, turn_answer, turn_leaves}
 use Rattle.assignments.proofs.RestLaws.{statement_turn, turn_start, left_from, left_cut, left_last, statement_long}
 use Rattle.assignments.proofs.transform_assignments.Goals as goal
-use Rattle.assignments.proofs.transform_assignments.Goals.{In-At, After-put_statement-pass, In-Done}
+use Rattle.assignments.proofs.transform_assignments.Goals.{In-Some, After-put_statement-pass, In-Ok}
 
 -- the next live `;` stands at the place found, within the text
-found_at : (c : goal.In-At) →
-    first (byte_here 59) c.loop-end.from (marked c.args.text.now c.args.map.now) ≡ At c.in-At.end
-found_at c = sym c.find_byte_in-found.ensures ∙ c.in-At.is
+found_at : (c : goal.In-Some) →
+    first (byte_here 59) c.loop-end.from (marked c.args.text.now c.args.map.now) ≡ Some c.in-Some.end
+found_at c = sym c.find_byte_in-found.ensures ∙ c.in-Some.is
 
-within : (c : goal.In-At) →
-    (c.loop-end.from ≤ c.in-At.end) × (c.in-At.end < length c.args.text.now)
+within : (c : goal.In-Some) →
+    (c.loop-end.from ≤ c.in-Some.end) × (c.in-Some.end < length c.args.text.now)
 within c =
     let a = c.args in
     let w = first_within (byte_here 59) (marked a.text.now a.map.now) _ _ (found_at c) in
@@ -48,28 +47,28 @@ part_long from end l a b = length-take-le _ (drop from l) (omega (arith, length-
 
 -- what is made of it, and what is left
 answered : (c : goal.After-put_statement-pass) →
-    c.put_statement-pass.result ≡ answer_from c.loop-end.n (outcome (piece c.loop-end.from c.in-At.end c.args.text.now c.args.map.now))
+    c.put_statement-pass.result ≡ answer_from c.loop-end.n (outcome (piece c.loop-end.from c.in-Some.end c.args.text.now c.args.map.now))
 answered c =
     let a = c.args in
     let from = c.loop-end.from in
-    let end = c.in-At.end in
+    let end = c.in-Some.end in
     let h : c.put_statement-pass.result ≡ answer_from c.loop-end.n (outcome (marked (part_to from end a.text.now) (part_to from end a.map.now))) = c.put_statement-pass.ensures.value in
     rw (marked_part from (end - from) a.text.now a.map.now) at h
 
 left_in : (c : goal.After-put_statement-pass) →
-    LeavesFrom c.loop-end.n (outcome (piece c.loop-end.from c.in-At.end c.args.text.now c.args.map.now)) c.loop-end.out c.put_statement-pass.new.out
+    LeavesFrom c.loop-end.n (outcome (piece c.loop-end.from c.in-Some.end c.args.text.now c.args.map.now)) c.loop-end.out c.put_statement-pass.new.out
 left_in c =
     let a = c.args in
     let from = c.loop-end.from in
-    let end = c.in-At.end in
+    let end = c.in-Some.end in
     let h : LeavesFrom c.loop-end.n (outcome (marked (part_to from end a.text.now) (part_to from end a.map.now))) c.loop-end.out c.put_statement-pass.new.out = c.put_statement-pass.ensures.leaves_from in
     rw (marked_part from (end - from) a.text.now a.map.now) at h
 
-turn_in : (c : goal.In-At)
+turn_in : (c : goal.In-Some)
     → let a = c.args in
     let t = marked a.text.now a.map.now in
     Turn a.out.now 0 (assignments t) c.loop-end.out c.loop-end.n
-    (outcome (piece c.loop-end.from c.in-At.end a.text.now a.map.now) ⊕ (accepted (live 59 ∷ []) ⊕ left_from t (c.in-At.end + 1)))
+    (outcome (piece c.loop-end.from c.in-Some.end a.text.now a.map.now) ⊕ (accepted (live 59 ∷ []) ⊕ left_from t (c.in-Some.end + 1)))
 turn_in c =
     let a = c.args in
     let t = marked a.text.now a.map.now in
@@ -77,21 +76,21 @@ turn_in c =
     rw (left_cut t c.loop-end.from _ (found_at c)) at r
 
 -- where it is text, its end
-done_at : (c : goal.In-Done) →
-    Done c.in-Done.m ≡ answer_from c.loop-end.n (outcome (piece c.loop-end.from c.in-At.end c.args.text.now c.args.map.now))
+done_at : (c : goal.In-Ok) →
+    Ok c.in-Ok.m ≡ answer_from c.loop-end.n (outcome (piece c.loop-end.from c.in-Some.end c.args.text.now c.args.map.now))
 done_at c =
     let a = c.args in
     let from = c.loop-end.from in
-    let end = c.in-At.end in
+    let end = c.in-Some.end in
     let h : c.put_statement-pass.result ≡ answer_from c.loop-end.n (outcome (marked (part_to from end a.text.now) (part_to from end a.map.now))) = c.put_statement-pass.ensures.value in
-    sym c.in-Done.is ∙ (rw (marked_part from (end - from) a.text.now a.map.now) at h)
+    sym c.in-Ok.is ∙ (rw (marked_part from (end - from) a.text.now a.map.now) at h)
 
-end_within : (c : goal.In-Done) → c.loop-end.from ≤ c.in-At.end → c.in-At.end < length c.args.text.now →
-    c.in-Done.m ≤ c.loop-end.n + (c.in-At.end - c.loop-end.from) + 7
+end_within : (c : goal.In-Ok) → c.loop-end.from ≤ c.in-Some.end → c.in-Some.end < length c.args.text.now →
+    c.in-Ok.m ≤ c.loop-end.n + (c.in-Some.end - c.loop-end.from) + 7
 end_within c low high =
     let a = c.args in
     let from = c.loop-end.from in
-    let end = c.in-At.end in
+    let end = c.in-Some.end in
     let long = part_long from end (marked a.text.now a.map.now) low (omega (arith, marked_length a.text.now a.map.now)) in
     omega (arith, statement_long (piece from end a.text.now a.map.now) c.loop-end.n _ (done_at c), long)
 
@@ -114,31 +113,31 @@ returns-in_default c =
 
 pub slice_bounds-put_statement-count-in-loop-end : goal.slice_bounds-put_statement-count-in-loop-end
 slice_bounds-put_statement-count-in-loop-end c =
-    let w = within (goal.at.slice_bounds-put_statement-count-in-loop-end c).In-At in omega arith
+    let w = within (goal.at.slice_bounds-put_statement-count-in-loop-end c).In-Some in omega arith
 
 pub slice_bounds-put_statement-start-in-loop-end : goal.slice_bounds-put_statement-start-in-loop-end
 slice_bounds-put_statement-start-in-loop-end c =
-    let w = within (goal.at.slice_bounds-put_statement-start-in-loop-end c).In-At in omega arith
+    let w = within (goal.at.slice_bounds-put_statement-start-in-loop-end c).In-Some in omega arith
 
 pub slice_bounds-put_statement-end-in-loop-end : goal.slice_bounds-put_statement-end-in-loop-end
 slice_bounds-put_statement-end-in-loop-end c =
-    let w = within (goal.at.slice_bounds-put_statement-end-in-loop-end c).In-At in omega arith
+    let w = within (goal.at.slice_bounds-put_statement-end-in-loop-end c).In-Some in omega arith
 
 pub slice_bounds-put_statement-count-in-loop-end-2 : goal.slice_bounds-put_statement-count-in-loop-end-2
 slice_bounds-put_statement-count-in-loop-end-2 c =
-    let w = within (goal.at.slice_bounds-put_statement-count-in-loop-end-2 c).In-At in omega arith
+    let w = within (goal.at.slice_bounds-put_statement-count-in-loop-end-2 c).In-Some in omega arith
 
 pub slice_bounds-put_statement-start-in-loop-end-2 : goal.slice_bounds-put_statement-start-in-loop-end-2
 slice_bounds-put_statement-start-in-loop-end-2 c =
-    let w = within (goal.at.slice_bounds-put_statement-start-in-loop-end-2 c).In-At in omega arith
+    let w = within (goal.at.slice_bounds-put_statement-start-in-loop-end-2 c).In-Some in omega arith
 
 pub slice_bounds-put_statement-end-in-loop-end-2 : goal.slice_bounds-put_statement-end-in-loop-end-2
 slice_bounds-put_statement-end-in-loop-end-2 c =
-    let w = within (goal.at.slice_bounds-put_statement-end-in-loop-end-2 c).In-At in omega arith
+    let w = within (goal.at.slice_bounds-put_statement-end-in-loop-end-2 c).In-Some in omega arith
 
 pub put_statement-pass-requires : goal.put_statement-pass-requires
 put_statement-pass-requires c =
-    let w = within (goal.at.put_statement-pass-requires c).In-At in let k = part_long c.loop-end.from c.in-At.end c.args.text.now w.0 (omega arith) in record {
+    let w = within (goal.at.put_statement-pass-requires c).In-Some in let k = part_long c.loop-end.from c.in-Some.end c.args.text.now w.0 (omega arith) in record {
       text_bound = omega arith;
       text_in_bounds = omega arith;
     }
@@ -146,7 +145,7 @@ put_statement-pass-requires c =
 pub returns-in_default-pass : goal.returns-in_default-pass
 returns-in_default-pass c =
     let refused = sym (answered (goal.at.returns-in_default-pass c).After-put_statement-pass) ∙ c.in_default-pass.is in
-    let r = turn_refused _ _ _ _ _ _ _ _ (turn_in (goal.at.returns-in_default-pass c).In-At) refused in
+    let r = turn_refused _ _ _ _ _ _ _ _ (turn_in (goal.at.returns-in_default-pass c).In-Some) refused in
     record {
       value = answered (goal.at.returns-in_default-pass c).After-put_statement-pass ∙ sym (turn_answer r);
       leaves = turn_leaves r _ (left_in (goal.at.returns-in_default-pass c).After-put_statement-pass);
@@ -154,21 +153,21 @@ returns-in_default-pass c =
 
 pub put-n-requires : goal.put-n-requires
 put-n-requires c =
-    let w = within (goal.at.put-n-requires c).In-At in omega (arith, end_within (goal.at.put-n-requires c).In-Done w.0 w.1)
+    let w = within (goal.at.put-n-requires c).In-Some in omega (arith, end_within (goal.at.put-n-requires c).In-Ok w.0 w.1)
 
 pub overflow_add-from : goal.overflow_add-from
 overflow_add-from c =
-    let w = within (goal.at.overflow_add-from c).In-At in omega (arith, c.requires.text_len_bound)
+    let w = within (goal.at.overflow_add-from c).In-Some in omega (arith, c.requires.text_len_bound)
 
 pub loop-end-smaller : goal.loop-end-smaller
 loop-end-smaller c =
-    let w = within (goal.at.loop-end-smaller c).In-At in omega arith
+    let w = within (goal.at.loop-end-smaller c).In-Some in omega arith
 
 pub loop-end-preserved : goal.loop-end-preserved
 loop-end-preserved c =
-    let w = within (goal.at.loop-end-preserved c).In-At in (
+    let w = within (goal.at.loop-end-preserved c).In-Some in (
       omega arith,
       c.put-n.auto.out ∙ (c.put_statement-pass.auto.out ∙ c.loop-end.invariant.1),
-      omega (arith, end_within (goal.at.loop-end-preserved c).In-Done w.0 w.1, c.put-n.ensures.value),
-      statement_turn _ _ _ _ _ _ _ _ _ _ (turn_in (goal.at.loop-end-preserved c).In-At) (done_at (goal.at.loop-end-preserved c).In-Done) (left_in (goal.at.loop-end-preserved c).After-put_statement-pass) c.put-n.ensures.value c.put-n.ensures.out_after,
+      omega (arith, end_within (goal.at.loop-end-preserved c).In-Ok w.0 w.1, c.put-n.ensures.value),
+      statement_turn _ _ _ _ _ _ _ _ _ _ (turn_in (goal.at.loop-end-preserved c).In-Some) (done_at (goal.at.loop-end-preserved c).In-Ok) (left_in (goal.at.loop-end-preserved c).After-put_statement-pass) c.put-n.ensures.value c.put-n.ensures.out_after,
     )

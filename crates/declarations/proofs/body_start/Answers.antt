@@ -29,8 +29,8 @@ pub returns : goal.returns
 unfolding body_from
 returns c =
     let a = c.args in
-    let e = sym (word (goal.at.returns c).After-find_keyword_in-begin) ∙ c.in-At.is in
+    let e = sym (word (goal.at.returns c).After-find_keyword_in-begin) ∙ c.in-Some.is in
     record {
       text_value = rw e refl;
-      upper_bound = omega (arith, (first_within (keyword_here (ascii "BEGIN")) (marked a.text.now a.map.now) 0 c.in-At.b e).1, marked_length a.text.now a.map.now);
+      upper_bound = omega (arith, (first_within (keyword_here (ascii "BEGIN")) (marked a.text.now a.map.now) 0 c.in-Some.b e).1, marked_length a.text.now a.map.now);
     }

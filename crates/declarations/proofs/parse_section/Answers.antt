@@ -33,8 +33,8 @@ link-requires c =
       different = gathered_different a.text.now _ g.result (marked a.text.now a.map.now) low g.ensures.gathered;
     }
 
-pub write_records-n-requires : goal.write_records-n-requires
-write_records-n-requires c =
+pub write_records-bytes-requires : goal.write_records-bytes-requires
+write_records-bytes-requires c =
     let a = c.args in
     let t = marked a.text.now a.map.now in
     let low : c.gather-count.result ≤ 512 = omega arith in
@@ -55,7 +55,7 @@ returns c =
     let g = c.gather-count.ensures.gathered in
     let l = c.link.ensures in
     let e = c.put_numbers.ensures in
-    let w = c.write_records-n in
+    let w = c.write_records-bytes in
     let k = kept_all a.text.now t n low _ _ g l _ e in
     record {
       value = parsed_count _ n _ (count_length a.text.now t n low _ _ g l) (w.ensures.value ∙ ap (λ ds. length (packed ds)) k) low;

@@ -11,15 +11,15 @@ use Rattle.spec.proofs.MapLaws.{marked_length}
 use Rattle.spec.proofs.WalkLaws.{first_within}
 use Rattle.declared_records.proofs.GatherLaws.{within_more, gathered_start, gathered_last, gathered_over, gathered_next}
 use Rattle.declared_records.proofs.gather.Goals as goal
-use Rattle.declared_records.proofs.gather.Goals.{In-At}
+use Rattle.declared_records.proofs.gather.Goals.{In-Some}
 
 -- the next `;` stands within the text
-inside : (c : goal.In-At) →
-    (c.loop-end.at ≤ c.in-At.end) × (c.in-At.end < length c.args.text.now)
+inside : (c : goal.In-Some) →
+    (c.loop-end.at ≤ c.in-Some.end) × (c.in-Some.end < length c.args.text.now)
 inside c =
     let xs = c.args.text.now in
     let ms = c.args.map.now in
-    let w = first_within (byte_here 59) (marked xs ms) c.loop-end.at c.in-At.end (sym c.find_byte_in-found.ensures ∙ c.in-At.is) in
+    let w = first_within (byte_here 59) (marked xs ms) c.loop-end.at c.in-Some.end (sym c.find_byte_in-found.ensures ∙ c.in-Some.is) in
     (w.0, omega (arith, w.1, marked_length xs ms))
 
 pub loop-end-init : goal.loop-end-init
@@ -70,21 +70,21 @@ returns-then-count-gt-RECORD_LIMIT c =
     let a = c.args in
     let l = c.loop-end in
     record {
-      gathered = gathered_over a.text.now a.map.now l.at l.records l.count c.read_part-p.result _ _ c.add_part-count.ensures l.invariant.3 c.in-At.end (sym c.find_byte_in-found.ensures ∙ c.in-At.is) c.read_part-p.ensures.map_value c.if-count-gt-RECORD_LIMIT.true;
+      gathered = gathered_over a.text.now a.map.now l.at l.records l.count c.read_part-p.result _ _ c.add_part-count.ensures l.invariant.3 c.in-Some.end (sym c.find_byte_in-found.ensures ∙ c.in-Some.is) c.read_part-p.ensures.map_value c.if-count-gt-RECORD_LIMIT.true;
       records_unchanged = c.add_part-count.ensures.behind ∙ l.invariant.4;
     }
 
 pub overflow_add-at : goal.overflow_add-at
 overflow_add-at c =
-    let w = inside (goal.at.overflow_add-at c).In-At in omega arith
+    let w = inside (goal.at.overflow_add-at c).In-Some in omega arith
 
 pub loop-end-smaller : goal.loop-end-smaller
 loop-end-smaller c =
-    let w = inside (goal.at.loop-end-smaller c).In-At in omega arith
+    let w = inside (goal.at.loop-end-smaller c).In-Some in omega arith
 
 pub loop-end-preserved : goal.loop-end-preserved
 loop-end-preserved c =
     let a = c.args in
     let l = c.loop-end in
-    let w = inside (goal.at.loop-end-preserved c).In-At in
-    (omega arith, omega arith, c.add_part-count.auto.records ∙ l.invariant.2, gathered_next a.text.now a.map.now l.at l.records l.count c.read_part-p.result _ _ c.add_part-count.ensures l.invariant.3 c.in-At.end (sym c.find_byte_in-found.ensures ∙ c.in-At.is) c.read_part-p.ensures.map_value (omega arith), c.add_part-count.ensures.behind ∙ l.invariant.4, c.add_part-count.ensures.hashed (omega arith))
+    let w = inside (goal.at.loop-end-preserved c).In-Some in
+    (omega arith, omega arith, c.add_part-count.auto.records ∙ l.invariant.2, gathered_next a.text.now a.map.now l.at l.records l.count c.read_part-p.result _ _ c.add_part-count.ensures l.invariant.3 c.in-Some.end (sym c.find_byte_in-found.ensures ∙ c.in-Some.is) c.read_part-p.ensures.map_value (omega arith), c.add_part-count.ensures.behind ∙ l.invariant.4, c.add_part-count.ensures.hashed (omega arith))

@@ -10,14 +10,14 @@ use Rattle.spec.proofs.RefusalBounds.{bytes_length}
 use Rattle.spec.specs.Map.{Marked, bytes}
 use Rattle.spec.specs.Raise.{level_in, level_words}
 use Rattle.spec.proofs.AheadLaws.{rest_of}
-use Rattle.messages.specs.Readings.{level_found, level_reach}
-use Rattle.messages.proofs.ReadingLaws.{found_level, found_nothing, level_none, reads_none}
+use Rattle.messages.specs.Readings.{level_reach}
+use Rattle.messages.proofs.ReadingLaws.{level_none, reads_none}
 use Rattle.messages.proofs.read_raise.Goals as goal
-use Rattle.messages.proofs.read_raise.Goals.{After-level_at-level}
+use Rattle.messages.proofs.read_raise.Goals.{After-level_at}
 
 -- the level behind the separator
-told : (c : goal.After-level_at-level) (t : List Marked) → bytes t ≡ c.args.rest.now → c.level_at-level.result ≡ level_found (level_in level_words (drop 6 t))
-told c t e = c.level_at-level.ensures.value (drop 6 t) (bytes_drop 6 t ∙ (ap (drop 6) e ∙ sym (rest_of c.args.rest.now 6)))
+told : (c : goal.After-level_at) (t : List Marked) → bytes t ≡ c.args.rest.now → c.level_at.result ≡ level_in level_words (drop 6 t)
+told c t e = c.level_at.ensures.value (drop 6 t) (bytes_drop 6 t ∙ (ap (drop 6) e ∙ sym (rest_of c.args.rest.now 6)))
 
 pub returns-then-rest-lt6 : goal.returns-then-rest-lt6
 returns-then-rest-lt6 c =
@@ -30,26 +30,26 @@ returns-then-rest-lt6 c =
 pub read_statement-requires : goal.read_statement-requires
 read_statement-requires c =
     let xs = c.args.rest.now in
-    let h : level_reach c.level_at-level.result ≤ length (take (length xs - 6) (drop 6 xs)) = c.level_at-level.ensures.result_in_bounds in
+    let h : level_reach c.level_at.result ≤ length (take (length xs - 6) (drop 6 xs)) = c.level_at.ensures.result_in_bounds in
     record {
-      level_in_bounds = omega (arith, length-drop 6 xs, rw (rest_of xs 6, c.in-At.is) at h);
+      level_in_bounds = omega (arith, length-drop 6 xs, rw (rest_of xs 6, c.in-Some.is) at h);
       rest_len_bound = omega arith;
     }
 
-pub returns-in-At : goal.returns-in-At
-returns-in-At c =
+pub returns-in-Some : goal.returns-in-Some
+returns-in-Some c =
     record {
       reads = (λ t e.
-          rw (found_level (level_in level_words (drop 6 t)) _ (sym c.in-At.is ∙ told (goal.at.returns-in-At c).After-level_at-level t e))
-          (c.read_statement.ensures.reads _ t e (sym c.action_of.ensures)));
+          rw (sym (sym c.in-Some.is ∙ told (goal.at.returns-in-Some c).After-level_at t e))
+          (c.read_statement.ensures.reads _ t e (sym c.get.ensures)));
       fate_within = c.read_statement.ensures.fate_within;
     }
 
-pub returns-in-Nothing : goal.returns-in-Nothing
-returns-in-Nothing c =
+pub returns-in-None : goal.returns-in-None
+returns-in-None c =
     record {
       reads = (λ t e.
-          rw (found_nothing (level_in level_words (drop 6 t)) (sym c.in-Nothing.is ∙ told (goal.at.returns-in-Nothing c).After-level_at-level t e))
+          rw (sym (sym c.in-None.is ∙ told (goal.at.returns-in-None c).After-level_at t e))
           (reads_none t c.args.rest.now e _ 6 (omega arith)));
       fate_within = tt;
     }

@@ -2,6 +2,7 @@
 -- next pass reads, and the lengths of the three buffers. A pass that refuses ends the row: `finish` copies what passes
 -- 3 and 5 left, and of pass 4, which refuses by 6 alone, nothing.
 -- Assumes nothing.
+use Rattle.std.specs.Prelude.{Ok}
 use mathlib.Core.Path.{◌≡◌, sym, ap, ◌∙◌}
 use mathlib.Core.List.{[]}
 use Prim.Native.Nat.{◌≤◌}
@@ -14,11 +15,10 @@ use Rattle.spec.specs.Elsif.{elsif}
 use Rattle.spec.specs.Raise.{action_of}
 use Rattle.spec.specs.Body.{limited, assign_pass, select_pass, raise_pass}
 use Rattle.spec.specs.Answers.{result_of}
-use Rattle.output.specs.declared.Pass.TheVariants.{Done}
 use Rattle.passes.specs.Gives.{Gives, finished}
 use Rattle.passes.proofs.StageLaws.{requoted_front, spelled_front, given_fits, given_as, third_stops, fourth_stops, fifth_gives, gives_copied, too_long_gives}
 use Rattle.passes.proofs.run_passes.Goals as goal
-use Rattle.passes.proofs.run_passes.Goals.{After-requote-requoted, After-elsif_pass-spelled, After-assign_pass-assigned, After-select_pass-selected, After-raise_pass-raised, In-Done, In-Done-selected}
+use Rattle.passes.proofs.run_passes.Goals.{After-requote-requoted, After-elsif_pass-spelled, After-assign_pass-assigned, After-select_pass-selected, After-raise_pass-raised, In-Ok, In-Ok-selected}
 
 -- the requoted text stands in `work`
 requoted_in : (c : goal.After-requote-requoted)
@@ -42,29 +42,29 @@ assigned_gives : (c : goal.After-assign_pass-assigned)
 assigned_gives c = c.assign_pass-assigned.ensures
 
 -- what pass 4 reads where pass 3 was done
-assigned_done : (c : goal.In-Done)
-    → Gives (result_of [] (limited (assign_pass (take c.elsif_pass-spelled.result c.elsif_pass-spelled.new.out)))) (finished (Done c.in-Done.n)) c.assign_pass-assigned.new.out
-assigned_done c = given_as _ _ _ _ c.assign_pass-assigned.ensures c.in-Done.is
+assigned_done : (c : goal.In-Ok)
+    → Gives (result_of [] (limited (assign_pass (take c.elsif_pass-spelled.result c.elsif_pass-spelled.new.out)))) (finished (Ok c.in-Ok.n)) c.assign_pass-assigned.new.out
+assigned_done c = given_as _ _ _ _ c.assign_pass-assigned.ensures c.in-Ok.is
 
-assigned_fits : (c : goal.In-Done) → c.in-Done.n ≤ 65536
+assigned_fits : (c : goal.In-Ok) → c.in-Ok.n ≤ 65536
 assigned_fits c = given_fits _ _ _ (assigned_done c) (omega arith)
 
 -- what pass 4 gives
 selected_gives : (c : goal.After-select_pass-selected)
-    → Gives (result_of [] (limited (select_pass (take c.in-Done.n c.assign_pass-assigned.new.out)))) (finished c.select_pass-selected.result) c.select_pass-selected.new.out
+    → Gives (result_of [] (limited (select_pass (take c.in-Ok.n c.assign_pass-assigned.new.out)))) (finished c.select_pass-selected.result) c.select_pass-selected.new.out
 selected_gives c = c.select_pass-selected.ensures
 
 -- what pass 5 reads where pass 4 was done
-selected_done : (c : goal.In-Done-selected)
-    → Gives (result_of [] (limited (select_pass (take c.in-Done.n c.assign_pass-assigned.new.out)))) (finished (Done c.in-Done-selected.k)) c.select_pass-selected.new.out
-selected_done c = given_as _ _ _ _ c.select_pass-selected.ensures c.in-Done-selected.is
+selected_done : (c : goal.In-Ok-selected)
+    → Gives (result_of [] (limited (select_pass (take c.in-Ok.n c.assign_pass-assigned.new.out)))) (finished (Ok c.in-Ok-selected.k)) c.select_pass-selected.new.out
+selected_done c = given_as _ _ _ _ c.select_pass-selected.ensures c.in-Ok-selected.is
 
-selected_fits : (c : goal.In-Done-selected) → c.in-Done-selected.k ≤ 65536
+selected_fits : (c : goal.In-Ok-selected) → c.in-Ok-selected.k ≤ 65536
 selected_fits c = given_fits _ _ _ (selected_done c) (omega arith)
 
 -- what pass 5 gives
 raised_gives : (c : goal.After-raise_pass-raised)
-    → Gives (result_of [] (limited (raise_pass (action_of c.args.actions) (take c.in-Done-selected.k c.select_pass-selected.new.out)))) (finished c.raise_pass-raised.result) c.raise_pass-raised.new.out
+    → Gives (result_of [] (limited (raise_pass (action_of c.args.actions) (take c.in-Ok-selected.k c.select_pass-selected.new.out)))) (finished c.raise_pass-raised.result) c.raise_pass-raised.new.out
 raised_gives c = c.raise_pass-raised.ensures
 
 pub slice_bounds-elsif_pass-end : goal.slice_bounds-elsif_pass-end
@@ -118,14 +118,14 @@ slice_bounds-select_pass-end c = omega (arith, assigned_fits c)
 
 pub slice_bounds-select_pass-end-2 : goal.slice_bounds-select_pass-end-2
 slice_bounds-select_pass-end-2 c =
-    sym (length-take-le c.in-Done.n c.assign_pass-assigned.new.out (omega (arith, assigned_fits c)))
+    sym (length-take-le c.in-Ok.n c.assign_pass-assigned.new.out (omega (arith, assigned_fits c)))
 
 pub select_pass-selected-requires : goal.select_pass-selected-requires
 select_pass-selected-requires c =
-    let n = length-take-le c.in-Done.n c.assign_pass-assigned.new.out (omega (arith, assigned_fits (goal.at.select_pass-selected-requires c).In-Done)) in
+    let n = length-take-le c.in-Ok.n c.assign_pass-assigned.new.out (omega (arith, assigned_fits (goal.at.select_pass-selected-requires c).In-Ok)) in
     record {
-      text_len_bound = omega (arith, assigned_fits (goal.at.select_pass-selected-requires c).In-Done, n);
-      text_in_bounds = omega (arith, assigned_fits (goal.at.select_pass-selected-requires c).In-Done, n);
+      text_len_bound = omega (arith, assigned_fits (goal.at.select_pass-selected-requires c).In-Ok, n);
+      text_in_bounds = omega (arith, assigned_fits (goal.at.select_pass-selected-requires c).In-Ok, n);
       out_len = omega arith;
     }
 
@@ -140,7 +140,7 @@ finish-requires-in_default-selected c =
 pub returns-in_default-selected : goal.returns-in_default-selected
 returns-in_default-selected c =
     let g = given_as _ _ _ _ (selected_gives (goal.at.returns-in_default-selected c).After-select_pass-selected) c.in_default-selected.is in
-    let stops = fourth_stops (action_of c.args.actions) c.args.text.now (take c.elsif_pass-spelled.result c.elsif_pass-spelled.new.out) c.requires.text_len_bound (spelled_in (goal.at.returns-in_default-selected c).After-elsif_pass-spelled).1 _ _ (assigned_done (goal.at.returns-in_default-selected c).In-Done) _ _ g in
+    let stops = fourth_stops (action_of c.args.actions) c.args.text.now (take c.elsif_pass-spelled.result c.elsif_pass-spelled.new.out) c.requires.text_len_bound (spelled_in (goal.at.returns-in_default-selected c).After-elsif_pass-spelled).1 _ _ (assigned_done (goal.at.returns-in_default-selected c).In-Ok) _ _ g in
     rw stops (too_long_gives _ _ _ _ _ g (c.finish-in_default-selected.ensures.value ∙ ap finished c.in_default-selected.is))
 
 pub slice_bounds-raise_pass-end : goal.slice_bounds-raise_pass-end
@@ -148,14 +148,14 @@ slice_bounds-raise_pass-end c = omega (arith, selected_fits c)
 
 pub slice_bounds-raise_pass-end-2 : goal.slice_bounds-raise_pass-end-2
 slice_bounds-raise_pass-end-2 c =
-    sym (length-take-le c.in-Done-selected.k c.select_pass-selected.new.out (omega (arith, selected_fits c)))
+    sym (length-take-le c.in-Ok-selected.k c.select_pass-selected.new.out (omega (arith, selected_fits c)))
 
 pub raise_pass-raised-requires : goal.raise_pass-raised-requires
 raise_pass-raised-requires c =
-    let n = length-take-le c.in-Done-selected.k c.select_pass-selected.new.out (omega (arith, selected_fits (goal.at.raise_pass-raised-requires c).In-Done-selected)) in
+    let n = length-take-le c.in-Ok-selected.k c.select_pass-selected.new.out (omega (arith, selected_fits (goal.at.raise_pass-raised-requires c).In-Ok-selected)) in
     record {
-      text_len_bound = omega (arith, selected_fits (goal.at.raise_pass-raised-requires c).In-Done-selected, n);
-      text_in_bounds = omega (arith, selected_fits (goal.at.raise_pass-raised-requires c).In-Done-selected, n);
+      text_len_bound = omega (arith, selected_fits (goal.at.raise_pass-raised-requires c).In-Ok-selected, n);
+      text_in_bounds = omega (arith, selected_fits (goal.at.raise_pass-raised-requires c).In-Ok-selected, n);
       out_len = omega arith;
     }
 
@@ -169,5 +169,5 @@ finish-requires-2 c =
 
 pub returns : goal.returns
 returns c =
-    let reached = fifth_gives (action_of c.args.actions) c.args.text.now (take c.elsif_pass-spelled.result c.elsif_pass-spelled.new.out) c.requires.text_len_bound (spelled_in (goal.at.returns c).After-elsif_pass-spelled).1 _ _ (assigned_done (goal.at.returns c).In-Done) _ _ (selected_done (goal.at.returns c).In-Done-selected) in
+    let reached = fifth_gives (action_of c.args.actions) c.args.text.now (take c.elsif_pass-spelled.result c.elsif_pass-spelled.new.out) c.requires.text_len_bound (spelled_in (goal.at.returns c).After-elsif_pass-spelled).1 _ _ (assigned_done (goal.at.returns c).In-Ok) _ _ (selected_done (goal.at.returns c).In-Ok-selected) in
     rw reached (gives_copied _ c.raise_pass-raised.result _ _ _ (raised_gives (goal.at.returns c).After-raise_pass-raised) c.finish-2.ensures.value c.finish-2.ensures.out_after)

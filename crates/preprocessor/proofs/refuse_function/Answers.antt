@@ -17,5 +17,5 @@ returns c =
       work_after = e.work_after;
       spare_after = e.spare_after;
       declared_after = c.fill.ensures ∙ zeros_behind s.size 0 s.declared.now s.declared.now [] p.size_in_bounds_4 (omega arith) refl refl;
-      records_after = c.clear.ensures ∙ zeros_behind s.numbers 0 s.records.now s.records.now [] p.numbers_in_bounds (omega arith) refl refl;
+      records_after = c.fill-2.ensures ∙ zeros_behind s.numbers 0 s.records.now s.records.now [] p.numbers_in_bounds (omega arith) refl refl;
     }

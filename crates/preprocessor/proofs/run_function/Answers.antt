@@ -17,7 +17,7 @@ use Rattle.preprocessor.proofs.run_function.Goals as goal
 pub refuse_function-requires : goal.refuse_function-requires
 refuse_function-requires c =
     let p = c.requires in
-    let h = c.parse_declarations-parsed.auto in
+    let h = c.parse_declarations.auto in
     record {
       size_in_bounds = p.size_in_bounds;
       size_in_bounds_2 = omega (arith, p.size_in_bounds_2, c.map_text.auto.map);
@@ -26,19 +26,19 @@ refuse_function-requires c =
       numbers_in_bounds = omega (arith, p.numbers_in_bounds, h.records);
     }
 
-pub returns-in_default : goal.returns-in_default
-returns-in_default c =
+pub returns-in-Err : goal.returns-in-Err
+returns-in-Err c =
     let s = c.args in
     let p = c.requires in
     let xs = s.text.now in
     let m = c.map_text.ensures in
-    let e = c.parse_declarations-parsed.ensures in
-    let q = sym e.value ∙ c.in_default.is in
+    let e = c.parse_declarations.ensures in
+    let q = sym e.value ∙ c.in-Err.is in
     let f = c.refuse_function.ensures in
     let w : drop s.size c.map_text.new.map ≡ drop s.size s.work.now = ap (drop s.size) m ∙ kept_drop (map_of xs) s.work.now s.size (omega (arith, map_length xs, p.size_value, p.text_len_bound)) in
-    let d = ap (drop s.size) (texts_same xs s.work.now _ m s.actions q s.declared.now _ s.records.now _ e.holds) in
-    let n = subst (λ (k : ℕ). drop k c.parse_declarations-parsed.new.records ≡ drop k s.records.now) (sym p.numbers_value) e.holds.behind in
-    rw (refused_is xs s.work.now _ m s.actions q) record {
+    let d = ap (drop s.size) (texts_same xs s.work.now _ m s.actions _ q s.declared.now _ s.records.now _ e.holds) in
+    let n = subst (λ (k : ℕ). drop k c.parse_declarations.new.records ≡ drop k s.records.now) (sym p.numbers_value) e.holds.behind in
+    rw (refused_is xs s.work.now _ m s.actions _ q) record {
       value = f.value;
       output_after = f.output_after;
       work_after = f.work_after ∙ zeroed_same s.size [] _ s.work.now w;
@@ -59,51 +59,47 @@ run_body-r-requires c =
       size_in_bounds_3 = p.size_in_bounds_3;
     }
 
-pub overflow_mul-count : goal.overflow_mul-count
-overflow_mul-count c =
+pub overflow_mul-sizes : goal.overflow_mul-sizes
+overflow_mul-sizes c =
     let s = c.args in
-    let k = count_small s.text.now s.work.now _ c.map_text.ensures s.actions c.body_start-start.result _ _ c.body_start-start.ensures.text_value (sym c.parse_declarations-parsed.ensures.value ∙ c.in-Count.is) in
+    let k = count_small s.text.now s.work.now _ c.map_text.ensures s.actions c.body_start-start.result _ c.body_start-start.ensures.text_value (sym c.parse_declarations.ensures.value ∙ c.in-Ok.is) in
     omega (arith, k)
 
-pub overflow_add-count : goal.overflow_add-count
-overflow_add-count c =
+pub overflow_add-sizes : goal.overflow_add-sizes
+overflow_add-sizes c =
     let s = c.args in
-    let k = count_small s.text.now s.work.now _ c.map_text.ensures s.actions c.body_start-start.result _ _ c.body_start-start.ensures.text_value (sym c.parse_declarations-parsed.ensures.value ∙ c.in-Count.is) in
+    let k = count_small s.text.now s.work.now _ c.map_text.ensures s.actions c.body_start-start.result _ c.body_start-start.ensures.text_value (sym c.parse_declarations.ensures.value ∙ c.in-Ok.is) in
     omega (arith, k)
 
-pub shape_of-work : goal.shape_of-work
-shape_of-work c =
-    c.run_body-r.auto.work ∙ c.map_text.auto.map
-
-pub returns : goal.returns
-returns c =
+pub returns-in-Ok : goal.returns-in-Ok
+returns-in-Ok c =
     let s = c.args in
     let p = c.requires in
     let xs = s.text.now in
     let m = c.map_text.ensures in
     let at = c.body_start-start.result in
     let b = c.body_start-start.ensures.text_value in
-    let e = c.parse_declarations-parsed.ensures in
-    let q = sym e.value ∙ c.in-Count.is in
+    let e = c.parse_declarations.ensures in
+    let q = sym e.value ∙ c.in-Ok.is in
     let f = c.run_body-r.ensures in
     let w : drop s.size c.map_text.new.map ≡ drop s.size s.work.now = ap (drop s.size) m ∙ kept_drop (map_of xs) s.work.now s.size (omega (arith, map_length xs, p.size_value, p.text_len_bound)) in
     let v : take (length xs - at) (drop at xs) ≡ drop at xs = take_all (length xs - at) (drop at xs) (omega (arith, length-drop at xs)) in
     let f₀ = f.value ∙ ap (λ (ys : List ℕ). (body_result ys s.actions).answer) v in
     let r = c.run_body-r.result in
-    let d' = c.parse_declarations-parsed.new.declared in
-    let rs' = c.parse_declarations-parsed.new.records in
+    let d' = c.parse_declarations.new.declared in
+    let rs' = c.parse_declarations.new.records in
     let n = c.if_accepted-n.ensures in
     let k = c.if_accepted-k.ensures in
-    let small = texts_small xs s.work.now _ m s.actions at _ _ b q p.text_len_bound in
-    let count = numbers_small xs s.work.now _ m s.actions at _ _ b q in
-    let texts = texts_are xs s.work.now _ m s.actions at _ _ b q r f₀ s.declared.now d' s.records.now rs' e.holds in
-    let numbers = numbers_are xs s.work.now _ m s.actions at _ _ b q r f₀ s.declared.now d' s.records.now rs' e.holds in
-    let d = subst (λ (i : ℕ). drop i d' ≡ drop i s.declared.now) (sym p.size_value) (texts_kept xs s.work.now _ m s.actions at _ _ b q r f₀ s.declared.now d' s.records.now rs' e.holds p.text_len_bound) in
+    let small = texts_small xs s.work.now _ m s.actions at _ b q p.text_len_bound in
+    let count = numbers_small xs s.work.now _ m s.actions at _ b q in
+    let texts = texts_are xs s.work.now _ m s.actions at _ b q r f₀ s.declared.now d' s.records.now rs' e.holds in
+    let numbers = numbers_are xs s.work.now _ m s.actions at _ b q r f₀ s.declared.now d' s.records.now rs' e.holds in
+    let d = subst (λ (i : ℕ). drop i d' ≡ drop i s.declared.now) (sym p.size_value) (texts_kept xs s.work.now _ m s.actions at _ b q r f₀ s.declared.now d' s.records.now rs' e.holds p.text_len_bound) in
     let h = subst (λ (i : ℕ). drop i rs' ≡ drop i s.records.now) (sym p.numbers_value) e.holds.behind in
-    let l = c.parse_declarations-parsed.auto in
+    let l = c.parse_declarations.auto in
     record {
-      value = c.with_records.ensures ∙ answer_is xs s.work.now _ m s.actions at _ _ b q r f₀;
-      output_after = f.output_after ∙ ap (λ (ys : List ℕ). zeroed_to s.size ys s.output.now) (ap (λ (ys : List ℕ). (body_result ys s.actions).output) v ∙ output_is xs s.work.now _ m s.actions at _ _ b q);
+      value = c.with_records.ensures ∙ answer_is xs s.work.now _ m s.actions at _ b q r f₀;
+      output_after = f.output_after ∙ ap (λ (ys : List ℕ). zeroed_to s.size ys s.output.now) (ap (λ (ys : List ℕ). (body_result ys s.actions).output) v ∙ output_is xs s.work.now _ m s.actions at _ b q);
       work_after = f.work_after ∙ zeroed_same s.size [] _ s.work.now w;
       spare_after = f.spare_after;
       declared_after = c.fill.ensures
@@ -111,7 +107,7 @@ returns c =
           (omega (arith, n, at_most r _ 65536 small, p.size_value))
           d
           (ap (λ (i : ℕ). take i d') n ∙ texts);
-      records_after = c.clear.ensures
+      records_after = c.fill-in-Ok.ensures
           ∙ zeros_behind s.numbers c.if_accepted-k.result s.records.now rs' _ (omega (arith, p.numbers_in_bounds, l.records))
           (omega (arith, k, at_most r _ 5130 count, p.numbers_value))
           h

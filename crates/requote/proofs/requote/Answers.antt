@@ -10,18 +10,18 @@ use Rattle.spec.proofs.LengthLaws.{requoted_length_lem}
 use Rattle.requote.proofs.RequoteLaws.{Turn, requote_turn, inside_within, requoted_over}
 use Rattle.spans.proofs.StepLaws.{Stepped, step_taken, step_done}
 use Rattle.requote.proofs.requote.Goals as goal
-use Rattle.requote.proofs.requote.Goals.{In-Taken, After-put_span-n}
+use Rattle.requote.proofs.requote.Goals.{In-Some, After-put_span-n}
 
 -- the step that was taken
-turn : (c : goal.In-Taken) → Stepped c.args.text.now c.loop-s.cursor.at c.in-Taken.s c.in-Taken.next.at
-turn c = step_taken _ _ _ c.in-Taken.next (sym c.step-step.ensures ∙ c.in-Taken.is)
+turn : (c : goal.In-Some) → Stepped c.args.text.now c.loop-s.cursor.at c.in-Some.s c.in-Some.next.at
+turn c = step_taken _ _ _ c.in-Some.next (sym c.step-step.ensures ∙ c.in-Some.is)
 
 -- what it stores
 store : (c : goal.After-put_span-n) →
-    Turn c.args.text.now c.loop-s.cursor.at c.in-Taken.next.at c.loop-s.out c.loop-s.n c.put_span-n.new.out c.put_span-n.result
+    Turn c.args.text.now c.loop-s.cursor.at c.in-Some.next.at c.loop-s.out c.loop-s.n c.put_span-n.new.out c.put_span-n.result
 store c =
-    let turn : Stepped c.args.text.now c.loop-s.cursor.at c.in-Taken.s c.in-Taken.next.at = step_taken _ _ _ c.in-Taken.next (sym c.step-step.ensures ∙ c.in-Taken.is) in
-    requote_turn c.args.text.now c.loop-s.cursor.at c.in-Taken.s c.in-Taken.next.at turn
+    let turn : Stepped c.args.text.now c.loop-s.cursor.at c.in-Some.s c.in-Some.next.at = step_taken _ _ _ c.in-Some.next (sym c.step-step.ensures ∙ c.in-Some.is) in
+    requote_turn c.args.text.now c.loop-s.cursor.at c.in-Some.s c.in-Some.next.at turn
     c.loop-s.out c.put_span-n.new.out c.loop-s.n c.put_span-n.result c.put_span-n.ensures.value c.put_span-n.ensures.out_after
 
 pub loop-s-init : goal.loop-s-init
@@ -37,31 +37,31 @@ returns-in_default c =
     record { value = omega (arith, ap length over); out_after = sym (rw over at l.invariant.3) }
 
 pub slice_bounds-put_span-count : goal.slice_bounds-put_span-count
-slice_bounds-put_span-count c = omega (arith, (turn (goal.at.slice_bounds-put_span-count c).In-Taken).beyond)
+slice_bounds-put_span-count c = omega (arith, (turn (goal.at.slice_bounds-put_span-count c).In-Some).beyond)
 
 pub slice_bounds-put_span-start : goal.slice_bounds-put_span-start
-slice_bounds-put_span-start c = omega (arith, (turn (goal.at.slice_bounds-put_span-start c).In-Taken).beyond, (turn (goal.at.slice_bounds-put_span-start c).In-Taken).within)
+slice_bounds-put_span-start c = omega (arith, (turn (goal.at.slice_bounds-put_span-start c).In-Some).beyond, (turn (goal.at.slice_bounds-put_span-start c).In-Some).within)
 
 pub slice_bounds-put_span-end : goal.slice_bounds-put_span-end
-slice_bounds-put_span-end c = omega (arith, (turn (goal.at.slice_bounds-put_span-end c).In-Taken).beyond, (turn (goal.at.slice_bounds-put_span-end c).In-Taken).within)
+slice_bounds-put_span-end c = omega (arith, (turn (goal.at.slice_bounds-put_span-end c).In-Some).beyond, (turn (goal.at.slice_bounds-put_span-end c).In-Some).within)
 
 pub put_span-n-requires : goal.put_span-n-requires
 put_span-n-requires c =
     let xs = c.args.text.now in
     let at = c.loop-s.cursor.at in
-    let to = c.in-Taken.next.at in
-    let t = turn (goal.at.put_span-n-requires c).In-Taken in
+    let to = c.in-Some.next.at in
+    let t = turn (goal.at.put_span-n-requires c).In-Some in
     let long : length (take (to - at) (drop at xs)) ≡ to - at = length-take-le (to - at) (drop at xs) (omega (arith, t.within, length-drop at xs)) in
     record {
       span_bound = omega (arith, long, t.within, requoted_length_lem xs);
-      s_in_bounds = rw long (inside_within xs at c.in-Taken.s to t);
+      s_in_bounds = rw long (inside_within xs at c.in-Some.s to t);
     }
 
 pub loop-s-smaller : goal.loop-s-smaller
-loop-s-smaller c = omega (arith, (turn (goal.at.loop-s-smaller c).In-Taken).within, (turn (goal.at.loop-s-smaller c).In-Taken).beyond)
+loop-s-smaller c = omega (arith, (turn (goal.at.loop-s-smaller c).In-Some).within, (turn (goal.at.loop-s-smaller c).In-Some).beyond)
 
 pub loop-s-preserved : goal.loop-s-preserved
 loop-s-preserved c =
     let l = c.loop-s in
     let s = store (goal.at.loop-s-preserved c).After-put_span-n in
-    ((turn (goal.at.loop-s-preserved c).In-Taken).within, c.put_span-n.auto.out ∙ l.invariant.1, l.invariant.2 ∙ s.counted, l.invariant.3 ∙ s.stored)
+    ((turn (goal.at.loop-s-preserved c).In-Some).within, c.put_span-n.auto.out ∙ l.invariant.1, l.invariant.2 ∙ s.counted, l.invariant.3 ∙ s.stored)

@@ -36,32 +36,20 @@ added c =
     let t = turn_at xs at c.next_span-s.result c.span_len.result (omega arith) c.next_span-s.ensures c.span_len.ensures in
     omega (arith, c.loop-at.invariant.1, c.requoted_span_len-n.ensures, length_turn xs at _ _ t)
 
-pub loop-at-init : goal.loop-at-init
-loop-at-init c = (omega arith, omega arith)
-
 pub overflow_add-to : goal.overflow_add-to
 overflow_add-to c = omega (arith, (turn c).within)
-
-pub slice_bounds-requoted_span_len-count : goal.slice_bounds-requoted_span_len-count
-slice_bounds-requoted_span_len-count c = omega (arith, (turn c).beyond)
-
-pub slice_bounds-requoted_span_len-start : goal.slice_bounds-requoted_span_len-start
-slice_bounds-requoted_span_len-start c = omega (arith, (turn c).beyond, (turn c).within)
 
 pub slice_bounds-requoted_span_len-end : goal.slice_bounds-requoted_span_len-end
 slice_bounds-requoted_span_len-end c = omega (arith, (turn c).beyond, (turn c).within)
 
-pub requoted_span_len-n-requires : goal.requoted_span_len-n-requires
-requoted_span_len-n-requires c =
-    let t = turn (goal.at.requoted_span_len-n-requires c).After-span_len in
+pub requoted_span_len-n-requires-clause-s_in_bounds : goal.requoted_span_len-n-requires-clause-s_in_bounds
+requoted_span_len-n-requires-clause-s_in_bounds c =
+    let t = turn (goal.at.requoted_span_len-n-requires-clause-s_in_bounds c).After-span_len in
     let xs = c.args.text.now in
     let at = c.loop-at.at in
     let to = at + c.span_len.result in
     let long : length (take (to - at) (drop at xs)) ≡ to - at = length-take-le (to - at) (drop at xs) (omega (arith, t.within, length-drop at xs)) in
-    record {
-      span_len_bound = omega (arith, long, t.within);
-      s_in_bounds = rw long (inside_within xs at c.next_span-s.result to t);
-    }
+    rw long (inside_within xs at c.next_span-s.result to t)
 
 pub overflow_add-n : goal.overflow_add-n
 overflow_add-n c =

@@ -1,28 +1,15 @@
--- `runs::has` meets its contract. The loop's invariant says that a byte of the set stands in the text exactly if one stands from
--- i on. Assumes nothing.
-use native.Mathlib.Omega.{arith}
-use mathlib.Core.Path.{refl, sym, ◌∙◌}
+-- `runs::has` meets its contract: the chain gives the library's `list_any`. Assumes nothing.
+use Rattle.std.proofs.Common.{sym, ◌∙◌, rules}
+use borrow.Author.Tests.{tests}
+use Rattle.std.proofs.lemmas.Iterator.{YieldsList-from_slice}
+use Rattle.std.proofs.lemmas.Iterator.Search.{any_from_yields_List}
 use Rattle.runs.specs.Sets.{in_set}
-use Rattle.runs.proofs.RunLaws.{any_past, any_here, any_step}
+use Rattle.runs.proofs.ListsOfLibrary.{any_of_library}
 use Rattle.runs.proofs.has.Goals as goal
-
-pub loop-i-init : goal.loop-i-init
-loop-i-init c = refl
-
-pub returns-then-is_in : goal.returns-then-is_in
-returns-then-is_in c =
-    let a = c.args in
-    let l = c.loop-i in
-    sym (l.invariant ∙ any_here (in_set a.set) a.text.now l.i 0 (omega arith) (sym c.is_in.ensures ∙ c.if-is_in.true))
-
-pub loop-i-preserved : goal.loop-i-preserved
-loop-i-preserved c =
-    let a = c.args in
-    let l = c.loop-i in
-    l.invariant ∙ any_step (in_set a.set) a.text.now l.i 0 (omega arith) (sym c.is_in.ensures ∙ c.if-is_in.false)
 
 pub returns : goal.returns
 returns c =
-    let a = c.args in
-    let l = c.loop-i in
-    sym (l.invariant ∙ any_past (in_set a.set) a.text.now l.i (omega arith))
+    let xs = c.args.text.now in
+    let f = in_set c.args.set in
+    any_from_yields_List f _ _ c.any.result c.any.ensures.ran (YieldsList-from_slice xs cc) (λ x b q k. search (rules, tests))
+    ∙ sym (any_of_library f xs)

@@ -1,27 +1,31 @@
--- `runs::run_end` meets its contract. The loop's invariant says that the run from `from` ends where the run from i ends.
--- Assumes nothing.
-use native.Mathlib.Omega.{arith}
-use mathlib.Core.Path.{sym, ◌∙◌}
+-- `runs::run_end` meets its contract. The chain's count is the length of the longest front of the rest whose bytes all
+-- pass; where there is no rest, no byte passes. Assumes nothing.
+use Rattle.std.proofs.Common.{◌≡◌, sym, ap, ◌∙◌, arith, rules, ℕ, length, drop, ◌+◌, List}
+use borrow.Author.Tests.{tests}
+use Rattle.std.proofs.lemmas.Iterator.{YieldsList-from_slice}
+use Rattle.std.proofs.lemmas.Iterator.Consumers.{YieldsList-at, count_from_yields_List}
+use Rattle.std.proofs.lemmas.Iterator.Search.{YieldsList-from_take_while}
+use Rattle.spec.proofs.AheadLaws.{rest_of}
+use Rattle.spec.specs.Lists.{take_while}
 use Rattle.runs.specs.Sets.{in_set}
-use Rattle.runs.proofs.RunLaws.{end_past, end_within, end_step, end_here}
+use Rattle.runs.proofs.ListsOfLibrary.{take_while_of_library}
+use Rattle.runs.proofs.RunLaws.{end_past}
 use Rattle.runs.proofs.run_end.Goals as goal
 
-pub loop-i-preserved : goal.loop-i-preserved
-loop-i-preserved c =
+pub returns-in-Some-clause-value : goal.returns-in-Some-clause-value
+returns-in-Some-clause-value c =
     let a = c.args in
-    let l = c.loop-i in
-    l.invariant ∙ end_step (in_set a.set) a.text.now l.i 0 (omega arith) (sym c.is_in.ensures ∙ c.if-is_in.true)
+    let f = in_set a.set in
+    let rest = c.in-Some.rest.now in
+    let source = YieldsList-at c.take_while.ensures.source (YieldsList-from_slice rest cc) in
+    let counted : c.count.result ≡ length (take_while f rest) =
+    count_from_yields_List c.take_while.result c.count.result c.count.ensures.ran
+    (YieldsList-from_take_while _ f source c.take_while.ensures.closure c.take_while.ensures.done (λ x b q k. search (rules, tests)))
+    ∙ sym (ap length (take_while_of_library f rest)) in
+    let behind : rest ≡ drop a.from a.text.now = c.in-Some.ensures.lookup.0.2 ∙ rest_of a.text.now a.from in
+    ap (λ (n : ℕ). a.from + n) (counted ∙ ap (λ (xs : List ℕ). length (take_while f xs)) behind)
 
-pub returns-else-is_in : goal.returns-else-is_in
-returns-else-is_in c =
+pub returns-in-None-clause-value : goal.returns-in-None-clause-value
+returns-in-None-clause-value c =
     let a = c.args in
-    let l = c.loop-i in
-    let e = l.invariant ∙ end_here (in_set a.set) a.text.now l.i 0 (omega arith) (sym c.is_in.ensures ∙ c.if-is_in.false) in
-    record { value = sym e; upper_bound = λ h. omega (arith, end_within (in_set a.set) a.text.now a.from h) }
-
-pub returns : goal.returns
-returns c =
-    let a = c.args in
-    let l = c.loop-i in
-    let e = l.invariant ∙ end_past (in_set a.set) a.text.now l.i (omega arith) in
-    record { value = sym e; upper_bound = λ h. omega (arith, end_within (in_set a.set) a.text.now a.from h) }
+    sym (end_past (in_set a.set) a.text.now a.from (omega (arith, c.in-None.ensures.lookup.0)))

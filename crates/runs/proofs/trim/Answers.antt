@@ -1,26 +1,12 @@
 -- `runs::trim` meets its contract: `trimmed_at`, from what the run at the front and the run at the end promise. Assumes nothing.
-use native.Mathlib.Omega.{arith}
 use mathlib.Core.Path.{◌≡◌, sym}
 use Prim.Native.Nat.{◌-◌}
 use lib.ListN.{length, take, drop}
-use lib.Seq.{length-take-le}
 use Rattle.spec.proofs.AheadLaws.{rest_of}
 use Rattle.spec.proofs.RunPlaces.{start_from}
 use Rattle.spec.specs.Bytes.{is_w}
 use Rattle.runs.proofs.RunLaws.{trimmed_at}
 use Rattle.runs.proofs.trim.Goals as goal
-
-pub slice_bounds-rest-count : goal.slice_bounds-rest-count
-slice_bounds-rest-count c = omega (arith, c.run_end.ensures.upper_bound (omega arith))
-
-pub slice_bounds-rest-start : goal.slice_bounds-rest-start
-slice_bounds-rest-start c = omega (arith, c.run_end.ensures.upper_bound (omega arith))
-
-pub slice_bounds-rest-end : goal.slice_bounds-rest-end
-slice_bounds-rest-end c = omega (arith, c.run_end.ensures.upper_bound (omega arith))
-
-pub slice_bounds-result-end : goal.slice_bounds-result-end
-slice_bounds-result-end c = sym (length-take-le _ _ (omega arith))
 
 pub returns : goal.returns
 returns c =

@@ -1,3 +1,4 @@
+use Rattle.std.specs.Prelude.{None}
 use mathlib.Core.Path.{◌≡◌}
 use mathlib.Core.Bool.{cond}
 use Prim.Native.Nat.{◌+◌, ◌-◌, ◌≤◌}
@@ -6,7 +7,6 @@ use Rattle.spec.specs.Bytes.{upper, prefix_by}
 use Rattle.spec.specs.Lists.{is_empty}
 use Rattle.spec.specs.Map.{marked}
 use Rattle.spec.specs.Search.{first, keyword_here}
-use Rattle.spec.specs.declared.Found.TheVariants.{Nothing}
 use Rattle.scanner.proofs.find_keyword_in.Given as goal
 
 abbrev pub invariant-loop-j : goal.invariant-loop-j
@@ -16,7 +16,7 @@ abbrev pub decreases-loop-j : goal.decreases-loop-j
 decreases-loop-j l = l.n - l.j
 
 abbrev pub invariant-offsets : goal.invariant-offsets
-invariant-offsets l = cond (is_empty l.word) Nothing (first (keyword_here l.word) l.from (marked l.text l.map)) ≡ first (keyword_here l.word) l.i (marked l.text l.map)
+invariant-offsets l = cond (is_empty l.word) None (first (keyword_here l.word) l.from (marked l.text l.map)) ≡ first (keyword_here l.word) l.i (marked l.text l.map)
 
 abbrev pub decreases-offsets : goal.decreases-offsets
 decreases-offsets l = l.last + 1 - l.i

@@ -9,19 +9,19 @@ use Rattle.spec.specs.Search.{has_unterminated_dollar_quote}
 use Rattle.scanner.proofs.SpanWalkLaws.{unclosed_ahead, unclosed_over}
 use Rattle.spans.proofs.StepLaws.{Stepped, step_taken, step_done}
 use Rattle.scanner.proofs.has_unterminated.Goals as goal
-use Rattle.scanner.proofs.has_unterminated.Goals.{In-Taken, After-is_unclosed}
+use Rattle.scanner.proofs.has_unterminated.Goals.{In-Some, After-is_unclosed}
 
 -- the step that was taken
-turn : (c : goal.In-Taken) → Stepped c.args.text.now c.loop-s.cursor.at c.in-Taken.s c.in-Taken.next.at
-turn c = step_taken _ _ _ c.in-Taken.next (sym c.step-step.ensures ∙ c.in-Taken.is)
+turn : (c : goal.In-Some) → Stepped c.args.text.now c.loop-s.cursor.at c.in-Some.s c.in-Some.next.at
+turn c = step_taken _ _ _ c.in-Some.next (sym c.step-step.ensures ∙ c.in-Some.is)
 
 -- what is left, by whether its front span is closed
 ahead : (c : goal.After-is_unclosed) →
-    has_unterminated_dollar_quote c.args.text.now ≡ (c.is_unclosed.result || has_unterminated_dollar_quote (drop c.in-Taken.next.at c.args.text.now))
+    has_unterminated_dollar_quote c.args.text.now ≡ (c.is_unclosed.result || has_unterminated_dollar_quote (drop c.in-Some.next.at c.args.text.now))
 ahead c =
-    let turn : Stepped c.args.text.now c.loop-s.cursor.at c.in-Taken.s c.in-Taken.next.at = step_taken _ _ _ c.in-Taken.next (sym c.step-step.ensures ∙ c.in-Taken.is) in
+    let turn : Stepped c.args.text.now c.loop-s.cursor.at c.in-Some.s c.in-Some.next.at = step_taken _ _ _ c.in-Some.next (sym c.step-step.ensures ∙ c.in-Some.is) in
     c.loop-s.invariant.1
-    ∙ (unclosed_ahead c.args.text.now c.loop-s.cursor.at c.in-Taken.s c.in-Taken.next.at turn
+    ∙ (unclosed_ahead c.args.text.now c.loop-s.cursor.at c.in-Some.s c.in-Some.next.at turn
     ∙ rw c.is_unclosed.ensures)
 
 pub loop-s-init : goal.loop-s-init
@@ -35,7 +35,7 @@ pub returns-then-is_unclosed : goal.returns-then-is_unclosed
 returns-then-is_unclosed c = sym (rw c.if-is_unclosed.true at (ahead (goal.at.returns-then-is_unclosed c).After-is_unclosed))
 
 pub loop-s-smaller : goal.loop-s-smaller
-loop-s-smaller c = omega (arith, (turn (goal.at.loop-s-smaller c).In-Taken).within, (turn (goal.at.loop-s-smaller c).In-Taken).beyond)
+loop-s-smaller c = omega (arith, (turn (goal.at.loop-s-smaller c).In-Some).within, (turn (goal.at.loop-s-smaller c).In-Some).beyond)
 
 pub loop-s-preserved : goal.loop-s-preserved
-loop-s-preserved c = ((turn (goal.at.loop-s-preserved c).In-Taken).within, rw c.if-is_unclosed.false at (ahead (goal.at.loop-s-preserved c).After-is_unclosed))
+loop-s-preserved c = ((turn (goal.at.loop-s-preserved c).In-Some).within, rw c.if-is_unclosed.false at (ahead (goal.at.loop-s-preserved c).After-is_unclosed))

@@ -10,11 +10,11 @@ use Rattle.spec.specs.Map.{span_flag}
 use Rattle.scanner.proofs.SpanWalkLaws.{map_turn, map_over, map_kept}
 use Rattle.spans.proofs.StepLaws.{Stepped, step_taken, step_done}
 use Rattle.scanner.proofs.map_text.Goals as goal
-use Rattle.scanner.proofs.map_text.Goals.{In-Taken}
+use Rattle.scanner.proofs.map_text.Goals.{In-Some}
 
 -- the step that was taken
-turn : (c : goal.In-Taken) → Stepped c.args.text.now c.loop-s.cursor.at c.in-Taken.s c.in-Taken.next.at
-turn c = step_taken _ _ _ c.in-Taken.next (sym c.step-step.ensures ∙ c.in-Taken.is)
+turn : (c : goal.In-Some) → Stepped c.args.text.now c.loop-s.cursor.at c.in-Some.s c.in-Some.next.at
+turn c = step_taken _ _ _ c.in-Some.next (sym c.step-step.ensures ∙ c.in-Some.is)
 
 pub loop-s-init : goal.loop-s-init
 loop-s-init c = (omega arith, refl, refl)
@@ -30,13 +30,13 @@ returns-in_default c =
     sym (l.invariant.2 ∙ over) ∙ map_kept a.text.now a.map.now c.requires
 
 pub loop-s-smaller : goal.loop-s-smaller
-loop-s-smaller c = omega (arith, (turn (goal.at.loop-s-smaller c).In-Taken).within, (turn (goal.at.loop-s-smaller c).In-Taken).beyond)
+loop-s-smaller c = omega (arith, (turn (goal.at.loop-s-smaller c).In-Some).within, (turn (goal.at.loop-s-smaller c).In-Some).beyond)
 
 pub loop-s-preserved : goal.loop-s-preserved
 loop-s-preserved c =
     let l = c.loop-s in
     let xs = c.args.text.now in
-    let s = c.in-Taken.s in
-    let to = c.in-Taken.next.at in
+    let s = c.in-Some.s in
+    let to = c.in-Some.next.at in
     let stored : c.mark_span.new.map ≡ sets l.map l.cursor.at (replicate (to - l.cursor.at) (span_flag s)) = rw (← c.span_flag.ensures) c.mark_span.ensures in
-    ((turn (goal.at.loop-s-preserved c).In-Taken).within, c.mark_span.auto.map ∙ l.invariant.1, l.invariant.2 ∙ map_turn xs l.cursor.at s to (turn (goal.at.loop-s-preserved c).In-Taken) l.map c.mark_span.new.map stored)
+    ((turn (goal.at.loop-s-preserved c).In-Some).within, c.mark_span.auto.map ∙ l.invariant.1, l.invariant.2 ∙ map_turn xs l.cursor.at s to (turn (goal.at.loop-s-preserved c).In-Some) l.map c.mark_span.new.map stored)

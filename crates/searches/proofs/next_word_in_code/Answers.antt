@@ -1,6 +1,7 @@
 -- `searches::next_word_in_code` meets its contract. Where the checks have passed (`passed`), the map marks the text as
 -- `marked_text` does (`marks`), and the word lies between `word_start` and `word_end`: found where these differ, none
 -- where not. Else the numbers are the refusal's. Assumes nothing.
+use Rattle.std.specs.Prelude.{Ok}
 use native.Mathlib.Omega.{arith}
 use mathlib.Core.Path.{◌≡◌, refl, sym, ◌∙◌}
 use mathlib.Core.List.{[]}
@@ -8,7 +9,6 @@ use Prim.Native.Nat.{◌≤◌}
 use lib.ListN.{length}
 use Rattle.spec.specs.Map.{marked, marked_text}
 use Rattle.spec.specs.Answers.{map_check, word_part, word_answer}
-use Rattle.spec.specs.declared.Check.TheVariants.{Passed}
 use Rattle.scanner.proofs.WordLaws.{word_within}
 use Rattle.searches.proofs.CheckedLaws.{passed_marks, passed_length, refused_place}
 use Rattle.searches.proofs.NextWordLaws.{found_place, found_text, none_place, none_text}
@@ -17,7 +17,7 @@ use Rattle.searches.proofs.next_word_in_code.Goals.{In_default, Then-start-end}
 
 -- the checks have passed
 passed : (c : goal.In_default) →
-    map_check c.args.text.now c.args.map.now [] ≡ Passed
+    map_check c.args.text.now c.args.map.now [] ≡ Ok tt
 passed c = sym c.map_checked-check.ensures.value ∙ c.in_default.is
 
 marks : (c : goal.In_default) →
@@ -69,12 +69,12 @@ returns-in_default c =
 
 pub put_refusal-requires : goal.put_refusal-requires
 put_refusal-requires c =
-    refused_place c.args.text.now c.args.map.now _ (sym c.map_checked-check.ensures.value ∙ c.in-Refused.is)
+    refused_place c.args.text.now c.args.map.now _ (sym c.map_checked-check.ensures.value ∙ c.in-Err.is)
 
 pub returns : goal.returns
 unfolding word_part word_answer
 returns c =
-    let e = sym c.map_checked-check.ensures.value ∙ c.in-Refused.is in
+    let e = sym c.map_checked-check.ensures.value ∙ c.in-Err.is in
     record {
       result_value = rw e refl;
       map_after = c.map_checked-check.ensures.map_after;

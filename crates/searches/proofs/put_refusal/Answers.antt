@@ -8,9 +8,9 @@ use Rattle.searches.proofs.put_refusal.Goals as goal
 
 pub overflow_cast-n : goal.overflow_cast-n
 overflow_cast-n c =
-    let place = ap (λ (n : RefusalNumbers). n.place) c.refusal_numbers-n.ensures in
+    let place = ap (λ (n : RefusalNumbers). n.place) c.from-n.ensures in
     omega (arith, place, c.requires)
 
 pub returns : goal.returns
 returns c =
-    c.put_answer.ensures ∙ ap (λ (n : RefusalNumbers). n.number ∷ 0 ∷ n.place ∷ []) c.refusal_numbers-n.ensures
+    c.put_answer.ensures ∙ ap (λ (n : RefusalNumbers). n.number ∷ 0 ∷ n.place ∷ []) c.from-n.ensures

@@ -5,14 +5,14 @@ use mathlib.Core.Path.{refl}
 use Rattle.spec.specs.SelectInto.{front_place}
 use Rattle.select_into.proofs.front_place.Goals as goal
 
-pub returns-in-At : goal.returns-in-At
+pub returns-in-Some : goal.returns-in-Some
 unfolding front_place
-returns-in-At c =
+returns-in-Some c =
     record {
-      value = rw c.in-At.is c.lesser.ensures.value;
+      value = rw c.in-Some.is c.lesser.ensures.value;
       upper_bound = c.lesser.ensures.upper_bound;
     }
 
-pub returns-in-Nothing : goal.returns-in-Nothing
+pub returns-in-None : goal.returns-in-None
 unfolding front_place
-returns-in-Nothing c = record { value = rw c.in-Nothing.is refl; upper_bound = omega arith }
+returns-in-None c = record { value = rw c.in-None.is refl; upper_bound = omega arith }

@@ -19,27 +19,27 @@ put_into-requires c =
       text_bound = p.text_bound;
       text_in_bounds = p.text_in_bounds;
       s_in_bounds = p.s_in_bounds;
-      i_in_bounds = word_within (ascii "INTO") a.text.now a.map.now a.s _ (sym (c.find_top_keyword-found.ensures ∙ nonempty_word (ascii "INTO") _ (omega arith)) ∙ c.in-At.is);
+      i_in_bounds = word_within (ascii "INTO") a.text.now a.map.now a.s _ (sym (c.find_top_keyword-found.ensures ∙ nonempty_word (ascii "INTO") _ (omega arith)) ∙ c.in-Some.is);
     }
 
 pub put_text-requires : goal.put_text-requires
 put_text-requires c =
     omega (arith, c.requires)
 
-pub returns-in-At : goal.returns-in-At
+pub returns-in-Some : goal.returns-in-Some
 unfolding select_at
-returns-in-At c =
+returns-in-Some c =
     let a = c.args in
     let p = c.put_into in
     puts_same a.out.now _ _ p.new.out a.n p.result
-    (ap (λ f. bytes (into_at a.s f (marked a.text.now a.map.now))) (sym (sym (c.find_top_keyword-found.ensures ∙ nonempty_word (ascii "INTO") _ (omega arith)) ∙ c.in-At.is)))
+    (ap (λ f. bytes (into_at a.s f (marked a.text.now a.map.now))) (sym (sym (c.find_top_keyword-found.ensures ∙ nonempty_word (ascii "INTO") _ (omega arith)) ∙ c.in-Some.is)))
     p.ensures
 
-pub returns-in-Nothing : goal.returns-in-Nothing
+pub returns-in-None : goal.returns-in-None
 unfolding select_at into_at
-returns-in-Nothing c =
+returns-in-None c =
     let a = c.args in
     let p = c.put_text in
     puts_same a.out.now _ _ p.new.out a.n p.result
-    (sym (ap (λ f. bytes (into_at a.s f (marked a.text.now a.map.now))) (sym (c.find_top_keyword-found.ensures ∙ nonempty_word (ascii "INTO") _ (omega arith)) ∙ c.in-Nothing.is) ∙ marked_bytes a.text.now a.map.now))
+    (sym (ap (λ f. bytes (into_at a.s f (marked a.text.now a.map.now))) (sym (c.find_top_keyword-found.ensures ∙ nonempty_word (ascii "INTO") _ (omega arith)) ∙ c.in-None.is) ∙ marked_bytes a.text.now a.map.now))
     p.ensures

@@ -1,6 +1,7 @@
 -- `select_into::transform_select_into` meets its contract. The loop's invariant `Going` says that, up to 65536 bytes,
 -- what is stored and the rewritten statements from `from` on make up the rewritten text; past that the result is too
 -- long whatever follows. `sought` and `within` place the next `;`. Assumes nothing.
+use Rattle.std.specs.Prelude.{Some}
 use native.Mathlib.Omega.{arith}
 use mathlib.Core.Path.{◌≡◌, refl, sym, ap, ◌∙◌}
 use Prim.Native.Nat.{◌+◌, ◌-◌, ◌≤◌, ◌<◌}
@@ -8,7 +9,6 @@ use lib.ListN.{length}
 use Rattle.spec.specs.Map.{marked, bytes}
 use Rattle.spec.specs.Search.{first, byte_here}
 use Rattle.spec.specs.SelectInto.{select_into}
-use Rattle.spec.specs.declared.Found.TheVariants.{At}
 use Rattle.spec.proofs.AheadLaws.{rest_of}
 use Rattle.set_lines.proofs.SetLineLaws.{part_short}
 use Rattle.select_into.proofs.StatementCutLaws.{part_mapped}
@@ -16,16 +16,16 @@ use Rattle.set_lines.proofs.PutLaws.{going_more, left_puts, puts_over, puts_same
 use Rattle.select_into.proofs.StatementLaws.{selects_all, selects_last, selects_turn, statement_within}
 use lib.Seq.{sets}
 use Rattle.select_into.proofs.transform_select_into.Goals as goal
-use Rattle.select_into.proofs.transform_select_into.Goals.{In-At}
+use Rattle.select_into.proofs.transform_select_into.Goals.{In-Some}
 
 -- the `;` that was found
-sought : (c : goal.In-At) →
-    first (byte_here 59) c.loop-n.from (marked c.args.text.now c.args.map.now) ≡ At c.in-At.at
-sought c = sym c.find_byte_in-found.ensures ∙ c.in-At.is
+sought : (c : goal.In-Some) →
+    first (byte_here 59) c.loop-n.from (marked c.args.text.now c.args.map.now) ≡ Some c.in-Some.at
+sought c = sym c.find_byte_in-found.ensures ∙ c.in-Some.is
 
 -- it stands within the text
-within : (c : goal.In-At) →
-    (c.loop-n.from ≤ c.in-At.at) × (c.in-At.at < length c.args.text.now)
+within : (c : goal.In-Some) →
+    (c.loop-n.from ≤ c.in-Some.at) × (c.in-Some.at < length c.args.text.now)
 within c =
     statement_within c.args.text.now c.args.map.now _ _ (sought c)
 
@@ -84,47 +84,47 @@ pub overflow_add-end : goal.overflow_add-end
 overflow_add-end c = omega (arith, within c)
 
 pub slice_bounds-put_statement-count : goal.slice_bounds-put_statement-count
-slice_bounds-put_statement-count c = omega (arith, within (goal.at.slice_bounds-put_statement-count c).In-At)
+slice_bounds-put_statement-count c = omega (arith, within (goal.at.slice_bounds-put_statement-count c).In-Some)
 
 pub slice_bounds-put_statement-start : goal.slice_bounds-put_statement-start
-slice_bounds-put_statement-start c = omega (arith, within (goal.at.slice_bounds-put_statement-start c).In-At)
+slice_bounds-put_statement-start c = omega (arith, within (goal.at.slice_bounds-put_statement-start c).In-Some)
 
 pub slice_bounds-put_statement-end : goal.slice_bounds-put_statement-end
-slice_bounds-put_statement-end c = omega (arith, within (goal.at.slice_bounds-put_statement-end c).In-At)
+slice_bounds-put_statement-end c = omega (arith, within (goal.at.slice_bounds-put_statement-end c).In-Some)
 
 pub slice_bounds-put_statement-count-in-loop-n : goal.slice_bounds-put_statement-count-in-loop-n
 slice_bounds-put_statement-count-in-loop-n c =
-    omega (arith, within (goal.at.slice_bounds-put_statement-count-in-loop-n c).In-At, c.requires.text_in_bounds)
+    omega (arith, within (goal.at.slice_bounds-put_statement-count-in-loop-n c).In-Some, c.requires.text_in_bounds)
 
 pub slice_bounds-put_statement-start-in-loop-n : goal.slice_bounds-put_statement-start-in-loop-n
 slice_bounds-put_statement-start-in-loop-n c =
-    omega (arith, within (goal.at.slice_bounds-put_statement-start-in-loop-n c).In-At, c.requires.text_in_bounds)
+    omega (arith, within (goal.at.slice_bounds-put_statement-start-in-loop-n c).In-Some, c.requires.text_in_bounds)
 
 pub slice_bounds-put_statement-end-in-loop-n : goal.slice_bounds-put_statement-end-in-loop-n
 slice_bounds-put_statement-end-in-loop-n c =
-    omega (arith, within (goal.at.slice_bounds-put_statement-end-in-loop-n c).In-At, c.requires.text_in_bounds)
+    omega (arith, within (goal.at.slice_bounds-put_statement-end-in-loop-n c).In-Some, c.requires.text_in_bounds)
 
 pub put_statement-n-requires : goal.put_statement-n-requires
 put_statement-n-requires c =
     let a = c.args in
     let l = c.loop-n in
-    let j = c.in-At.at in
+    let j = c.in-Some.at in
     record {
       text_bound = omega (arith, c.requires.text_len_bound, l.invariant.2, part_short (j + 1 - l.from) l.from a.text.now);
-      text_in_bounds = part_mapped a.text.now a.map.now l.from (j + 1) c.requires.text_in_bounds (omega (arith, within (goal.at.put_statement-n-requires c).In-At)) (omega (arith, within (goal.at.put_statement-n-requires c).In-At));
+      text_in_bounds = part_mapped a.text.now a.map.now l.from (j + 1) c.requires.text_in_bounds (omega (arith, within (goal.at.put_statement-n-requires c).In-Some)) (omega (arith, within (goal.at.put_statement-n-requires c).In-Some));
     }
 
 pub loop-n-smaller : goal.loop-n-smaller
-loop-n-smaller c = omega (arith, within (goal.at.loop-n-smaller c).In-At)
+loop-n-smaller c = omega (arith, within (goal.at.loop-n-smaller c).In-Some)
 
 pub loop-n-preserved : goal.loop-n-preserved
 loop-n-preserved c =
     let a = c.args in
     let l = c.loop-n in
     let p = c.put_statement-n in (
-      omega (arith, within (goal.at.loop-n-preserved c).In-At),
+      omega (arith, within (goal.at.loop-n-preserved c).In-Some),
       p.auto.out ∙ l.invariant.1,
       puts_bound l.out p.new.out _ l.n p.result p.ensures,
       going_more a.out.now _ l.out p.new.out 0 l.n p.result _ (l.invariant.3.within (omega (arith, c.if-n-gt-BUFFER_SIZE.false))) _ _
-          (selects_turn a.text.now a.map.now l.from c.in-At.at (sought (goal.at.loop-n-preserved c).In-At)) p.ensures,
+          (selects_turn a.text.now a.map.now l.from c.in-Some.at (sought (goal.at.loop-n-preserved c).In-Some)) p.ensures,
     )

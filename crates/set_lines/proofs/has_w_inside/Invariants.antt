@@ -8,8 +8,8 @@ use Rattle.spec.specs.Map.{Marked, marked, of_byte}
 use Rattle.spec.specs.SelectInto.{listed}
 use Rattle.set_lines.proofs.has_w_inside.Given as goal
 
-abbrev pub invariant-loop-start : goal.invariant-loop-start
-invariant-loop-start l = any (λ (v : List Marked). any (of_byte is_w) v) (listed (marked l.text l.map)) ≡ any (λ (v : List Marked). any (of_byte is_w) v) (listed (drop l.from (marked l.text l.map)))
+abbrev pub invariant-loop-item : goal.invariant-loop-item
+invariant-loop-item l = any (λ (v : List Marked). any (of_byte is_w) v) (listed (marked l.text l.map)) ≡ any (λ (v : List Marked). any (of_byte is_w) v) (listed (drop l.from (marked l.text l.map)))
 
-abbrev pub decreases-loop-start : goal.decreases-loop-start
-decreases-loop-start l = length l.text + 1 - l.from
+abbrev pub decreases-loop-item : goal.decreases-loop-item
+decreases-loop-item l = length l.text + 1 - l.from

@@ -14,25 +14,25 @@ use Rattle.set_lines.proofs.ListedLaws.{item_part, item_over}
 use Rattle.set_lines.proofs.SetLineLaws.{part_length, line_same, lines_turn, lines_over, lines_short}
 use Rattle.set_lines.proofs.PutLaws.{left_more, left_done, left_over, stored_same, line_length, break_length}
 use Rattle.set_lines.proofs.put_set_lines.Goals as goal
-use Rattle.set_lines.proofs.put_set_lines.Goals.{In-Next, In-Next-var, After-put_set_line-o}
+use Rattle.set_lines.proofs.put_set_lines.Goals.{In-Some, In-Some-var, After-put_set_line-o}
 
 -- the column that was given, and the variable
-col_item : (c : goal.In-Next) →
-    Listed (marked c.args.cols.now c.args.colsmap.now) c.loop-o.at c.in-Next.start c.in-Next.len c.in-Next.next
-col_item c = item_part _ _ _ c.next_item-col.ensures _ _ _ c.in-Next.is
+col_item : (c : goal.In-Some) →
+    Listed (marked c.args.cols.now c.args.colsmap.now) c.loop-o.at c.in-Some.col.start c.in-Some.col.len c.in-Some.col.next
+col_item c = item_part _ _ _ c.next_item-col.ensures _ c.in-Some.is
 
-var_item : (c : goal.In-Next-var) →
-    Listed (marked c.args.vars.now c.args.varsmap.now) c.loop-o.to c.in-Next-var.first c.in-Next-var.count c.in-Next-var.then
-var_item c = item_part _ _ _ c.next_item-var.ensures _ _ _ c.in-Next-var.is
+var_item : (c : goal.In-Some-var) →
+    Listed (marked c.args.vars.now c.args.varsmap.now) c.loop-o.to c.in-Some-var.var.start c.in-Some-var.var.len c.in-Some-var.var.next
+var_item c = item_part _ _ _ c.next_item-var.ensures _ c.in-Some-var.is
 
 -- they stand within their lists
 within : (xs ms : List ℕ) (at start n next : ℕ) → Listed (marked xs ms) at start n next → start + n ≤ length xs
 within xs ms at start n next h = omega (arith, h.inside, marked_length xs ms)
 
-col_within : (c : goal.In-Next-var) → c.in-Next.start + c.in-Next.len ≤ length c.args.cols.now
-col_within c = within c.args.cols.now c.args.colsmap.now _ _ _ _ (item_part _ _ _ c.next_item-col.ensures _ _ _ c.in-Next.is)
+col_within : (c : goal.In-Some-var) → c.in-Some.col.start + c.in-Some.col.len ≤ length c.args.cols.now
+col_within c = within c.args.cols.now c.args.colsmap.now _ _ _ _ (item_part _ _ _ c.next_item-col.ensures _ c.in-Some.is)
 
-var_within : (c : goal.In-Next-var) → c.in-Next-var.first + c.in-Next-var.count ≤ length c.args.vars.now
+var_within : (c : goal.In-Some-var) → c.in-Some-var.var.start + c.in-Some-var.var.len ≤ length c.args.vars.now
 var_within c = within c.args.vars.now c.args.varsmap.now _ _ _ _ (var_item c)
 
 -- how far a line reaches
@@ -40,11 +40,11 @@ line_bound : (c : goal.After-put_set_line-o) →
     c.put_set_line-o.result ≤ c.loop-o.o + length c.args.with.now + length c.args.from.now + length c.args.cols.now + length c.args.vars.now + 32
 line_bound c =
     let a = c.args in
-    let col_in = within a.cols.now a.colsmap.now _ _ _ _ (item_part _ _ _ c.next_item-col.ensures _ _ _ c.in-Next.is) in
-    let var_in = within a.vars.now a.varsmap.now _ _ _ _ (item_part _ _ _ c.next_item-var.ensures _ _ _ c.in-Next-var.is) in
-    let col = take (c.in-Next.start + c.in-Next.len - c.in-Next.start) (drop c.in-Next.start a.cols.now) in
-    let var = take (c.in-Next-var.first + c.in-Next-var.count - c.in-Next-var.first) (drop c.in-Next-var.first a.vars.now) in
-    omega (arith, c.put_set_line-o.ensures.count, line_length a.with.now a.from.now col var c.is_limited-held.result, part_length a.cols.now c.in-Next.start c.in-Next.len col_in, part_length a.vars.now c.in-Next-var.first c.in-Next-var.count var_in, col_in, var_in)
+    let col_in = within a.cols.now a.colsmap.now _ _ _ _ (item_part _ _ _ c.next_item-col.ensures _ c.in-Some.is) in
+    let var_in = within a.vars.now a.varsmap.now _ _ _ _ (item_part _ _ _ c.next_item-var.ensures _ c.in-Some-var.is) in
+    let col = take (c.in-Some.col.start + c.in-Some.col.len - c.in-Some.col.start) (drop c.in-Some.col.start a.cols.now) in
+    let var = take (c.in-Some-var.var.start + c.in-Some-var.var.len - c.in-Some-var.var.start) (drop c.in-Some-var.var.start a.vars.now) in
+    omega (arith, c.put_set_line-o.ensures.count, line_length a.with.now a.from.now col var c.is_limited-held.result, part_length a.cols.now c.in-Some.col.start c.in-Some.col.len col_in, part_length a.vars.now c.in-Some-var.var.start c.in-Some-var.var.len var_in, col_in, var_in)
 
 pub loop-o-init : goal.loop-o-init
 loop-o-init c = (refl, record { stores = refl; counts = refl }, omega arith)
@@ -81,46 +81,46 @@ returns-in_default-var c =
     let t = marked a.cols.now a.colsmap.now in
     let u = marked a.vars.now a.varsmap.now in
     left_done _ _ l.out _ l.o _ l.invariant.1
-    (lines_short (shared a.with.now a.from.now a.indent.now a.k a.tail) t u l.at l.to _ _ _ (col_item (goal.at.returns-in_default-var c).In-Next) (item_over u l.to _ c.next_item-var.ensures c.in_default-var.is))
+    (lines_short (shared a.with.now a.from.now a.indent.now a.k a.tail) t u l.at l.to _ _ _ (col_item (goal.at.returns-in_default-var c).In-Some) (item_over u l.to _ c.next_item-var.ensures c.in_default-var.is))
     (omega (arith, c.if-o-gt-BUFFER_SIZE.false))
 
 pub overflow_add-end : goal.overflow_add-end
-overflow_add-end c = omega (arith, col_within c)
+overflow_add-end c = omega (arith, col_within (goal.at.overflow_add-end c).In-Some-var)
 
 pub overflow_add-last : goal.overflow_add-last
-overflow_add-last c = omega (arith, var_within c)
+overflow_add-last c = omega (arith, var_within (goal.at.overflow_add-last c).In-Some-var)
 
 pub slice_bounds-is_limited-count : goal.slice_bounds-is_limited-count
 slice_bounds-is_limited-count c = omega arith
 
 pub slice_bounds-is_limited-start : goal.slice_bounds-is_limited-start
-slice_bounds-is_limited-start c = omega (arith, col_within c)
+slice_bounds-is_limited-start c = omega (arith, col_within (goal.at.slice_bounds-is_limited-start c).In-Some-var)
 
 pub slice_bounds-is_limited-end : goal.slice_bounds-is_limited-end
-slice_bounds-is_limited-end c = omega (arith, col_within c)
+slice_bounds-is_limited-end c = omega (arith, col_within (goal.at.slice_bounds-is_limited-end c).In-Some-var)
 
 pub slice_bounds-put_set_line-count : goal.slice_bounds-put_set_line-count
 slice_bounds-put_set_line-count c = omega arith
 
 pub slice_bounds-put_set_line-start : goal.slice_bounds-put_set_line-start
-slice_bounds-put_set_line-start c = omega (arith, col_within (goal.at.slice_bounds-put_set_line-start c).In-Next-var)
+slice_bounds-put_set_line-start c = omega (arith, col_within (goal.at.slice_bounds-put_set_line-start c).In-Some-var)
 
 pub slice_bounds-put_set_line-end : goal.slice_bounds-put_set_line-end
-slice_bounds-put_set_line-end c = omega (arith, col_within (goal.at.slice_bounds-put_set_line-end c).In-Next-var)
+slice_bounds-put_set_line-end c = omega (arith, col_within (goal.at.slice_bounds-put_set_line-end c).In-Some-var)
 
 pub slice_bounds-put_set_line-count-in-loop-o : goal.slice_bounds-put_set_line-count-in-loop-o
 slice_bounds-put_set_line-count-in-loop-o c = omega arith
 
 pub slice_bounds-put_set_line-start-in-loop-o : goal.slice_bounds-put_set_line-start-in-loop-o
-slice_bounds-put_set_line-start-in-loop-o c = omega (arith, var_within (goal.at.slice_bounds-put_set_line-start-in-loop-o c).In-Next-var)
+slice_bounds-put_set_line-start-in-loop-o c = omega (arith, var_within (goal.at.slice_bounds-put_set_line-start-in-loop-o c).In-Some-var)
 
 pub slice_bounds-put_set_line-end-in-loop-o : goal.slice_bounds-put_set_line-end-in-loop-o
-slice_bounds-put_set_line-end-in-loop-o c = omega (arith, var_within (goal.at.slice_bounds-put_set_line-end-in-loop-o c).In-Next-var)
+slice_bounds-put_set_line-end-in-loop-o c = omega (arith, var_within (goal.at.slice_bounds-put_set_line-end-in-loop-o c).In-Some-var)
 
 pub put_set_line-o-requires : goal.put_set_line-o-requires
 put_set_line-o-requires c =
     let a = c.args in
-    omega (arith, c.requires, c.if-o-gt-BUFFER_SIZE.false, part_length a.cols.now _ _ (col_within (goal.at.put_set_line-o-requires c).In-Next-var), part_length a.vars.now _ _ (var_within (goal.at.put_set_line-o-requires c).In-Next-var), col_within (goal.at.put_set_line-o-requires c).In-Next-var, var_within (goal.at.put_set_line-o-requires c).In-Next-var)
+    omega (arith, c.requires, c.if-o-gt-BUFFER_SIZE.false, part_length a.cols.now _ _ (col_within (goal.at.put_set_line-o-requires c).In-Some-var), part_length a.vars.now _ _ (var_within (goal.at.put_set_line-o-requires c).In-Some-var), col_within (goal.at.put_set_line-o-requires c).In-Some-var, var_within (goal.at.put_set_line-o-requires c).In-Some-var)
 
 pub has_item-requires : goal.has_item-requires
 has_item-requires c =
@@ -132,7 +132,7 @@ put_break-o-requires c =
 
 pub loop-o-smaller : goal.loop-o-smaller
 loop-o-smaller c =
-    let h = col_item (goal.at.loop-o-smaller c).In-Next in
+    let h = col_item (goal.at.loop-o-smaller c).In-Some in
     let a = c.args in
     omega (arith, h.behind, h.beyond, h.inside, marked_length a.cols.now a.colsmap.now)
 
@@ -145,13 +145,13 @@ loop-o-preserved c =
     let t = marked a.cols.now a.colsmap.now in
     let u = marked a.vars.now a.varsmap.now in
     let s = shared a.with.now a.from.now a.indent.now a.k a.tail in
-    let h = col_item (goal.at.loop-o-preserved c).In-Next in
-    let g = var_item (goal.at.loop-o-preserved c).In-Next-var in (
+    let h = col_item (goal.at.loop-o-preserved c).In-Some in
+    let g = var_item (goal.at.loop-o-preserved c).In-Some-var in (
       q.auto.out ∙ (p.auto.out ∙ l.invariant.0),
       left_more _ _ p.new.out _ p.result q.new.out _ _ _ q.result
           (left_more _ _ l.out _ l.o p.new.out _ _ _ p.result l.invariant.1 (lines_turn s t u l.at l.to _ _ _ _ _ _ h g)
           (stored_same l.out p.new.out l.o p.result _ _
-          (line_same a.with.now a.from.now a.indent.now a.k a.tail _ a.cols.now a.colsmap.now a.vars.now a.varsmap.now c.in-Next.start c.in-Next.len c.in-Next-var.first c.in-Next-var.count c.is_limited-held.ensures)
+          (line_same a.with.now a.from.now a.indent.now a.k a.tail _ a.cols.now a.colsmap.now a.vars.now a.varsmap.now c.in-Some.col.start c.in-Some.col.len c.in-Some-var.var.start c.in-Some-var.var.len c.is_limited-held.ensures)
           p.ensures))
           refl
           (stored_same p.new.out q.new.out p.result q.result _ _ (ap (break_text a.indent.now) c.has_item.ensures) q.ensures),

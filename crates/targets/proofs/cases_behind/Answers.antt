@@ -3,8 +3,8 @@
 use mathlib.Core.Path.{refl}
 use Rattle.targets.proofs.cases_behind.Goals as goal
 
-pub returns-in-Word : goal.returns-in-Word
-returns-in-Word c = rw c.in-Word.is c.cases_after.ensures
+pub returns-in-Some : goal.returns-in-Some
+returns-in-Some c = rw c.in-Some.is c.cases_after.ensures
 
-pub returns-in-Nothing : goal.returns-in-Nothing
-returns-in-Nothing c = rw c.in-Nothing.is refl
+pub returns-in-None : goal.returns-in-None
+returns-in-None c = rw c.in-None.is refl

@@ -25,12 +25,12 @@ loop-i-init c = (omega arith, omega arith, refl)
 pub target_behind-found-requires : goal.target_behind-found-requires
 target_behind-found-requires c = c.marking_at-met.ensures.result_in_bounds
 
-pub returns-then-is_target : goal.returns-then-is_target
-returns-then-is_target c =
+pub returns-then-is_some : goal.returns-then-is_some
+returns-then-is_some c =
     let a = c.args in
     let l = c.loop-i in
     rw (l.invariant.2 ∙ walk_step a.statement.now a.map.now l.cases l.before l.i (omega arith) _ c.marking_at-met.ensures.value)
-    (tells_first _ _ _ _ (sym c.is_target.ensures ∙ c.if-is_target.true) (behind (goal.at.returns-then-is_target c).After-target_behind-found))
+    (tells_first _ _ _ _ (sym c.is_some.ensures ∙ c.if-is_some.true) (behind (goal.at.returns-then-is_some c).After-target_behind-found))
 
 pub loop-i-preserved : goal.loop-i-preserved
 loop-i-preserved c =
@@ -40,7 +40,7 @@ loop-i-preserved c =
       omega (arith, c.cases_behind-cases.ensures, cases_le c.marking_at-met.result l.cases),
       l.invariant.2
           ∙ (walk_step a.statement.now a.map.now l.cases l.before l.i (omega arith) _ c.marking_at-met.ensures.value
-          ∙ (tells_next _ _ _ _ (sym c.is_target.ensures ∙ c.if-is_target.false) (behind (goal.at.loop-i-preserved c).After-target_behind-found)
+          ∙ (tells_next _ _ _ _ (sym c.is_some.ensures ∙ c.if-is_some.false) (behind (goal.at.loop-i-preserved c).After-target_behind-found)
           ∙ ap (λ (k : ℕ). marked_target k (get_or a.statement.now l.i 0) (drop (l.i + 1) (marked a.statement.now a.map.now))) (sym c.cases_behind-cases.ensures))),
     )
 

@@ -5,12 +5,12 @@ use Rattle.spec.specs.Assignments.{statement_target}
 use Rattle.targets.proofs.TargetNameLaws.{tells_first, tells_next}
 use Rattle.targets.proofs.qualified_assignment_target.Goals as goal
 
-pub returns-then-is_target : goal.returns-then-is_target
+pub returns-then-is_some : goal.returns-then-is_some
 unfolding statement_target
-returns-then-is_target c = tells_first _ _ _ _ (sym c.is_target.ensures ∙ c.if-is_target.true) c.qualified_walrus_target-walrus.ensures
+returns-then-is_some c = tells_first _ _ _ _ (sym c.is_some.ensures ∙ c.if-is_some.true) c.qualified_walrus_target-walrus.ensures
 
 pub returns : goal.returns
 unfolding statement_target
 returns c =
-    rw (tells_next _ _ _ _ (sym c.is_target.ensures ∙ c.if-is_target.false) c.qualified_walrus_target-walrus.ensures)
+    rw (tells_next _ _ _ _ (sym c.is_some.ensures ∙ c.if-is_some.false) c.qualified_walrus_target-walrus.ensures)
     c.qualified_equals_target.ensures

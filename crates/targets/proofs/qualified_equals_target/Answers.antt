@@ -5,10 +5,10 @@ use Rattle.spec.proofs.MapLaws.{marked_bytes}
 use Rattle.targets.proofs.TargetNameLaws.{tells_first, tells_next}
 use Rattle.targets.proofs.qualified_equals_target.Goals as goal
 
-pub returns-then-is_target : goal.returns-then-is_target
-returns-then-is_target c = tells_first _ _ _ _ (sym c.is_target.ensures ∙ c.if-is_target.true) (c.qualified_name_at_with_equals-front.ensures _ (marked_bytes c.args.statement.now c.args.map.now))
+pub returns-then-is_some : goal.returns-then-is_some
+returns-then-is_some c = tells_first _ _ _ _ (sym c.is_some.ensures ∙ c.if-is_some.true) (c.qualified_name_at_with_equals-front.ensures _ (marked_bytes c.args.statement.now c.args.map.now))
 
 pub returns : goal.returns
 returns c =
-    rw (tells_next _ _ _ _ (sym c.is_target.ensures ∙ c.if-is_target.false) (c.qualified_name_at_with_equals-front.ensures _ (marked_bytes c.args.statement.now c.args.map.now)))
+    rw (tells_next _ _ _ _ (sym c.is_some.ensures ∙ c.if-is_some.false) (c.qualified_name_at_with_equals-front.ensures _ (marked_bytes c.args.statement.now c.args.map.now)))
     c.marked_target.ensures

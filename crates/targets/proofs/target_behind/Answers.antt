@@ -10,10 +10,10 @@ pub target_past-requires : goal.target_past-requires
 target_past-requires c =
     let a = c.args in
     let h : a.i + len_met a.met ≤ length a.statement.now = c.requires in
-    rw c.in-Word.is at h
+    rw c.in-Some.is at h
 
-pub returns-in-Word : goal.returns-in-Word
-returns-in-Word c = λ t e. rw c.in-Word.is (c.target_past.ensures t e)
+pub returns-in-Some : goal.returns-in-Some
+returns-in-Some c = λ t e. rw c.in-Some.is (c.target_past.ensures t e)
 
-pub returns-in-Nothing : goal.returns-in-Nothing
-returns-in-Nothing c = λ t e. rw c.in-Nothing.is (record { target = refl; inside = tt })
+pub returns-in-None : goal.returns-in-None
+returns-in-None c = λ t e. rw c.in-None.is (record { target = refl; inside = tt })

@@ -1,50 +1,44 @@
--- `stored_list::decode` meets its contract. The loop's invariant: what is stored so far, and the bytes of the digits from i on
--- to be stored at n, give the whole. Assumes nothing.
-use lib.ListN.{set, drop}
-use Prim.Native.Nat.{◌+◌}
+-- `stored_list::decode` meets its contract. The loop's invariant: what is stored so far, and the bytes of the digits that are
+-- left to be stored at i, give the whole. Assumes nothing.
+use mathlib.Core.Path.{◌≡◌, refl}
+use mathlib.Core.List.{List}
+use Prim.Native.Nat.{ℕ, ◌+◌, ◌*◌, ◌/◌, min}
 use native.Mathlib.Omega.{arith}
-use mathlib.Core.Path.{refl, sym, ap, ◌∙◌}
-use mathlib.Core.List.{◌∷◌}
+use borrow.Author.Tests.{leb-true, leb-false}
+use lib.Dec.{leb}
+use lib.ListN.{length, drop}
+use Rattle.spec.proofs.Choice.{by}
 use Rattle.stored_list.specs.Numbers.{hex_bytes}
-use Rattle.stored_list.proofs.StoringLaws.{storing, storing_one, stored_all, stored_full}
-use Rattle.stored_list.proofs.NumberLaws.{hex_two, hex_end}
+use Rattle.stored_list.proofs.StoringLaws.{Storing, Stored, storing, storing_one, stored_all, stored_full}
+use Rattle.stored_list.proofs.NumberLaws.{hex_turn, hex_end}
 use Rattle.stored_list.proofs.fields.decode.Goals as goal
 
-pub loop-n-init : goal.loop-n-init
-loop-n-init c =
-    (omega arith, storing c.args.out.now 0 (hex_bytes c.args.hex.now) (omega arith))
+-- the buffer or the digits are used up
+all_stored : (d hex d' : List ℕ) (n : ℕ) → Storing d 0 (hex_bytes hex) d' n (hex_bytes (drop (2 * n) hex))
+    → n ≡ min (length d) (length hex / 2) → Stored d 0 (hex_bytes hex) d' n
+all_stored d hex d' n s e =
+    let rest = hex_bytes (drop (2 * n) hex) in
+    by (leb (length d) n)
+    (λ t. let h = leb-true (length d) n t in stored_full d 0 (hex_bytes hex) d' n rest s (omega (arith, h, s.kept)))
+    (λ t. let h = leb-false (length d) n t in stored_all d 0 (hex_bytes hex) d' n rest s (hex_end hex (2 * n) (omega arith)))
 
-pub shape_of-out-then-hex-i : goal.shape_of-out-then-hex-i
-shape_of-out-then-hex-i c = c.loop-n.invariant.1.kept
+pub loop-i-init : goal.loop-i-init
+loop-i-init c = storing c.args.out.now 0 (hex_bytes c.args.hex.now) (omega arith)
 
-pub returns-then-hex-i : goal.returns-then-hex-i
-returns-then-hex-i c =
-    let l = c.loop-n in
-    let s = c.args in
-    let t = stored_all s.out.now 0 (hex_bytes s.hex.now) l.out l.n (hex_bytes (drop l.i s.hex.now))
-    l.invariant.1 (hex_end s.hex.now l.i c.if-hex-i.true) in
-    record { value = omega (arith, t.count); out_after = t.content }
-
-pub loop-n-preserved : goal.loop-n-preserved
-loop-n-preserved c =
-    let l = c.loop-n in
+pub loop-i-preserved : goal.loop-i-preserved
+loop-i-preserved c =
+    let l = c.loop-i in
     let s = c.args in
     let h = s.hex.now in
-    let v = c.pair.result in
-    let t = hex_bytes (drop (l.i + 2) h) in (
-      omega (arith, c.if-hex-i.false),
-      storing_one s.out.now 0 (hex_bytes h) l.out l.n (hex_bytes (drop l.i h)) t
-          (set l.out l.n v) v (l.n + 1) l.invariant.1 (omega arith)
-          (hex_two h l.i (omega (arith, c.if-hex-i.false)) ∙ ap (λ x. x ∷ t) (sym c.pair.ensures)) refl refl,
-    )
-
-pub shape_of-out : goal.shape_of-out
-shape_of-out c = c.loop-n.invariant.1.kept
+    let a = c.digit in
+    let b = c.digit-in-loop-i in
+    storing_one s.out.now 0 (hex_bytes h) l.out l.i (hex_bytes (drop (2 * l.i) h)) (hex_bytes (drop (2 * (l.i + 1)) h))
+    _ (16 * a.result + b.result) (l.i + 1) l.invariant (omega arith)
+    (hex_turn h l.i a.result b.result (omega arith) a.ensures.value b.ensures.value) refl refl
 
 pub returns : goal.returns
 returns c =
-    let l = c.loop-n in
+    let l = c.loop-i in
     let s = c.args in
-    let t = stored_full s.out.now 0 (hex_bytes s.hex.now) l.out l.n (hex_bytes (drop l.i s.hex.now))
-    l.invariant.1 (omega arith) in
+    let t = all_stored s.out.now s.hex.now l.out l.i l.invariant (omega arith) in
     record { value = omega (arith, t.count); out_after = t.content }

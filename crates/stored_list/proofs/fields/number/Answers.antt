@@ -1,27 +1,30 @@
--- `stored_list::number` meets its contract. The loop's invariant: the field's value is that of n with the digits from i on
--- behind it. Assumes nothing.
+-- `stored_list::number` meets its contract. The loop's invariant: the field's value is that of n with the digits from the index
+-- on behind it. Assumes nothing.
+use mathlib.Core.Path.{sym, ◌∙◌}
+use borrow.Author.Rules.{rules}
 use native.Mathlib.Omega.{arith}
-use mathlib.Core.Path.{sym, ap, ◌∙◌}
-use Prim.Native.Nat.{◌+◌}
-use lib.ListN.{drop}
-use Rattle.stored_list.specs.Numbers.{with_digits}
-use Rattle.stored_list.proofs.NumberLaws.{number_none, number_digits, digits_step, digits_end}
+use Rattle.stored_list.proofs.NumberLaws.{number_none, number_digits, digit_some, digit_none, digits_end}
 use Rattle.stored_list.proofs.fields.number.Goals as goal
 
-pub returns-then-digits-eq0 : goal.returns-then-digits-eq0
-returns-then-digits-eq0 c = number_none c.args.digits.now c.if-digits-eq0.true
+pub returns-then-is_empty-clause-value : goal.returns-then-is_empty-clause-value
+returns-then-is_empty-clause-value c = number_none c.args.digits.now (search rules)
 
-pub loop-i-init : goal.loop-i-init
-loop-i-init c = number_digits c.args.digits.now c.if-digits-eq0.false
+pub returns-in_err-n-clause-value : goal.returns-in_err-n-clause-value
+returns-in_err-n-clause-value c =
+    let xs = c.args.digits.now in
+    let l = c.loop-b in
+    let none = digit_none l.n xs l.b-index (omega arith) (sym (c.in_err-n.was) ∙ c.with_digit.ensures.value) in
+    c.from_residual.ensures ∙ (none ∙ (sym l.invariant.0 ∙ sym (number_digits xs (search rules))))
 
-pub loop-i-preserved : goal.loop-i-preserved
-loop-i-preserved c =
-    let l = c.loop-i in
-    let ds = c.args.digits.now in
-    l.invariant ∙ (digits_step l.n ds l.i (omega arith) ∙ ap (λ m. with_digits m (drop (l.i + 1) ds))
-    (sym c.with_digit-n.ensures))
+pub loop-b-preserved : goal.loop-b-preserved
+loop-b-preserved c =
+    let xs = c.args.digits.now in
+    let l = c.loop-b in
+    let more = digit_some l.n xs l.b-index c.in_ok-n.n (omega arith) (sym (c.in_ok-n.was) ∙ c.with_digit.ensures.value) in
+    (l.invariant.0 ∙ more, search rules)
 
-pub returns : goal.returns
-returns c =
-    let l = c.loop-i in
-    sym (l.invariant ∙ digits_end l.n c.args.digits.now l.i (omega arith))
+pub returns-clause-value : goal.returns-clause-value
+returns-clause-value c =
+    let xs = c.args.digits.now in
+    let l = c.loop-b in
+    digits_end l.n xs l.b-index (omega arith) ∙ (sym l.invariant.0 ∙ sym (number_digits xs (search rules)))

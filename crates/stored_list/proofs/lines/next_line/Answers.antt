@@ -1,6 +1,7 @@
 -- `stored_list::next_line` meets its contract. Either a whole line is left, or the rest is moved and more is read; that a line
 -- lies in the bytes read follows. Assumes nothing.
 use lib.ListN.{take, length-take, length-drop}
+use mathlib.Core.Path.{refl}
 use native.Mathlib.Omega.{arith}
 use Rattle.stored_list.proofs.ListLineLaws.{next_held, next_read, next_in}
 use Rattle.stored_list.proofs.lines.next_line.Goals as goal
@@ -12,9 +13,9 @@ returns-then-end-filled g c =
     let p = c.part in
     let f = c.next_start-start in
     let xs = s.buffer.now in
-    let t = next_held xs p.result.now s.before c.line_at.result f.result n.result f.ensures p.ensures
-    n.ensures c.if-end-filled.true c.line_at.ensures in
-    record { next_line = t; line_in = next_in xs s.before xs c.line_at.result t }
+    let t = next_held xs p.result.now s.before _ f.result n.result f.ensures p.ensures
+    n.ensures c.if-end-filled.true refl in
+    record { next_line = t; line_in = next_in xs s.before xs _ t }
 
 pub read_line-requires : goal.read_line-requires
 read_line-requires g c =

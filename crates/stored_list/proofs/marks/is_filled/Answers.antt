@@ -1,31 +1,19 @@
--- `stored_list::is_filled` meets its contract. The loop's invariant: the answer is that from i on. Assumes nothing.
-use native.Mathlib.Omega.{arith}
-use mathlib.Core.Path.{refl, sym, ◌∙◌}
-use Rattle.stored_list.proofs.FilledLaws.{only_over, only_end, only_other, only_step}
+-- `stored_list::is_filled` meets its contract, by what `get` and `all` give. Assumes nothing.
+use mathlib.Core.Path.{refl, ap, ◌∙◌}
+use Rattle.std.specs.List.{list_all}
+use Rattle.std.proofs.Common.{rules, tests}
+use Rattle.std.proofs.lemmas.Iterator.{YieldsList-from_slice}
+use Rattle.std.proofs.lemmas.Iterator.Search.{all_from_yields_List}
+use Rattle.stored_list.specs.Marks.{holds_only}
+use Rattle.stored_list.proofs.FieldLaws.{reached}
 use Rattle.stored_list.proofs.marks.is_filled.Goals as goal
 
-pub loop-i-init : goal.loop-i-init
-loop-i-init c = refl
-
-pub returns-then-buffer-i : goal.returns-then-buffer-i
-returns-then-buffer-i c =
-    let s = c.args in
-    sym (c.loop-i.invariant ∙ only_end s.b c.loop-i.i s.end s.buffer.now (omega arith)
-    (omega arith))
-
-pub returns-then-buffer-i-2 : goal.returns-then-buffer-i-2
-returns-then-buffer-i-2 c =
-    let s = c.args in
-    sym (c.loop-i.invariant ∙ only_other s.b c.loop-i.i s.end
-    s.buffer.now (omega arith) (omega (arith, c.if-buffer-i.false)) c.if-buffer-i-2.true)
-
-pub loop-i-preserved : goal.loop-i-preserved
-loop-i-preserved c =
-    let s = c.args in
-    c.loop-i.invariant ∙ only_step s.b c.loop-i.i s.end
-    s.buffer.now (omega arith) (omega (arith, c.if-buffer-i.false)) c.if-buffer-i-2.false
-
 pub returns : goal.returns
-returns c =
+unfolding holds_only
+returns g c =
     let s = c.args in
-    sym (c.loop-i.invariant ∙ only_over s.b c.loop-i.i s.end s.buffer.now (omega arith))
+    let xs = s.buffer.now in
+    let cut = rw c.min-end.ensures at c.get.ensures.lookup in
+    let part = ap (λ x. x.now) c.unwrap_or-part.ensures ∙ reached xs s.from s.end c.get.result _ cut refl in
+    all_from_yields_List (λ y. g.T.PartialEq.eq y s.x) _ _ c.all.result c.all.ensures.ran (YieldsList-from_slice _ c.iter.ensures.rest) (λ x b q k. search (rules, tests))
+    ∙ ap (list_all (λ y. g.T.PartialEq.eq y s.x)) part

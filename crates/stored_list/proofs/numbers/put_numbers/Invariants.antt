@@ -1,12 +1,7 @@
-use mathlib.Core.Path.{◌≡◌}
-use Prim.Native.Nat.{◌-◌, ◌<◌}
-use lib.ListN.{length, drop, get_or}
+use Rattle.std.proofs.Common.{◌≡◌, length, drop}
 use Rattle.stored_list.specs.Numbers.{numbers_of}
 use Rattle.stored_list.proofs.StoringLaws.{Storing}
 use Rattle.stored_list.proofs.numbers.put_numbers.Given as goal
 
-abbrev pub invariant-loop-n : goal.invariant-loop-n
-invariant-loop-n l = (l.i < length l.line → get_or l.line l.i 0 ≡ 32) × Storing l.initial.out 0 (numbers_of l.line) l.out l.n (numbers_of (drop l.i l.line))
-
-abbrev pub decreases-loop-n : goal.decreases-loop-n
-decreases-loop-n l = length l.initial.out - l.n
+abbrev pub invariant-loop-field : goal.invariant-loop-field
+invariant-loop-field l = (l.n ≡ length l.yielded) × Storing l.initial.out 0 (numbers_of l.line) l.out l.n (drop l.n (numbers_of l.line))

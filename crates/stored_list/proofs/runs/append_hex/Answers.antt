@@ -8,7 +8,7 @@ use Rattle.std.proofs.lemmas.List.{length-replicate}
 use lib.Seq.{sets}
 use Rattle.stored_list.specs.Numbers.{hex_bytes}
 use Rattle.stored_list.specs.Runs.{repeated, run_limit}
-use Rattle.stored_list.proofs.RepeatLaws.{run_text}
+use Rattle.stored_list.proofs.RepeatLaws.{held}
 use Rattle.stored_list.proofs.runs.append_hex.Goals as goal
 
 pub returns : goal.returns
@@ -16,10 +16,9 @@ returns c =
     let s = c.args in
     let a = c.append_times in
     let d = c.decode-k in
-    let p = c.part in
     let vs = hex_bytes s.hex.now in
-    let held = run_text _ d.new.out vs d.result d.ensures.out_after d.ensures.value in
-    let text : p.result.now ≡ take run_limit vs = p.ensures ∙ (held ∙ ap (λ (n : ℕ). take n vs) (length-replicate {A = ℕ} 4096 0)) in
-    let reach = ap (λ (l : List ℕ). min (s.n + length (repeated s.count l)) (length s.out.now)) text in
-    let stores = ap (λ (l : List ℕ). sets s.out.now s.n (repeated s.count l)) text in
+    let text : take d.result d.new.out ≡ take run_limit vs = held _ d.new.out vs d.result d.ensures.out_after d.ensures.value
+    ∙ ap (λ (n : ℕ). take n vs) (length-replicate {A = ℕ} 4096 0) in
+    let reach = ap (λ (l : List ℕ). min (s.n + length (repeated s.times l)) (length s.out.now)) text in
+    let stores = ap (λ (l : List ℕ). sets s.out.now s.n (repeated s.times l)) text in
     record { value = a.ensures.value ∙ reach; out_after = a.ensures.out_after ∙ stores }

@@ -4,6 +4,7 @@ use native.Mathlib.Omega.{arith}
 use mathlib.Core.Path.{◌≡◌, sym, ap, ◌∙◌}
 use mathlib.Core.List.{List, ◌++◌}
 use Prim.Native.Nat.{ℕ, ◌+◌, ◌-◌, ◌*◌}
+use borrow.Author.Rules.{rules}
 use lib.ListN.{length}
 use Rattle.stored_list.specs.Fields.{field_of}
 use Rattle.stored_list.specs.Runs.{hex_run, runs_from, runs_of}
@@ -17,23 +18,16 @@ loop-j-init c =
     let s = c.args in
     storing s.out.now 0 (runs_of s.line.now) (omega arith)
 
-pub shape_of-out-then-count-eq0 : goal.shape_of-out-then-count-eq0
-shape_of-out-then-count-eq0 c = c.loop-j.invariant.kept
-
-pub returns-then-count-eq0 : goal.returns-then-count-eq0
-returns-then-count-eq0 c =
+pub returns-then-is_empty : goal.returns-then-is_empty
+returns-then-is_empty c =
     let l = c.loop-j in
     let s = c.args in
     let xs = s.line.now in
-    let e : length (field_of (2 * l.j + 1) xs) ≡ 0 = sym (ap length c.field-count.ensures) ∙ c.if-count-eq0.true in
+    let none : length c.field-times.result.now ≡ 0 = search rules in
+    let e : length (field_of (2 * l.j + 1) xs) ≡ 0 = sym (ap length c.field-times.ensures) ∙ none in
     let t = stored_all s.out.now 0 (runs_of xs) l.out l.n (runs_from (500 - l.j) l.j xs) l.invariant
     (runs_none 500 l.j xs (omega arith) e) in
     record { value = omega (arith, t.count); out_after = t.content }
-
-pub append_hex-n-requires : goal.append_hex-n-requires
-append_hex-n-requires c =
-    let l = c.loop-j in
-    omega (arith, l.invariant.kept, l.invariant.reached)
 
 pub loop-j-preserved : goal.loop-j-preserved
 loop-j-preserved c =
@@ -41,18 +35,16 @@ loop-j-preserved c =
     let s = c.args in
     let xs = s.line.now in
     let a = c.append_hex-n in
-    let f = c.field-count in
+    let f = c.field-times in
     let g = c.field in
-    let m = c.number in
+    let m = c.count in
     let u = hex_run m.result g.result.now in
     let t = runs_from (500 - (l.j + 1)) (l.j + 1) xs in
-    let z : length (field_of (2 * l.j + 1) xs) ≡ 0 → ⊥ = λ h. c.if-count-eq0.false (ap length f.ensures ∙ h) in
-    let e = run_fields l.j xs f.result.now g.result.now m.result f.ensures m.ensures g.ensures in
+    let some : length f.result.now ≡ 0 → ⊥ = search rules in
+    let z : length (field_of (2 * l.j + 1) xs) ≡ 0 → ⊥ = λ h. some (ap length f.ensures ∙ h) in
+    let e = run_fields l.j xs f.result.now g.result.now m.result f.ensures m.ensures.value g.ensures in
     storing_list s.out.now 0 (runs_of xs) l.out l.n (runs_from (500 - l.j) l.j xs) u t a.new.out a.result
     l.invariant (runs_step 500 l.j xs (omega arith) z ∙ ap (λ (k : List ℕ). k ++ t) (sym e)) a.ensures.out_after a.ensures.value
-
-pub shape_of-out : goal.shape_of-out
-shape_of-out c = c.loop-j.invariant.kept
 
 pub returns : goal.returns
 returns c =

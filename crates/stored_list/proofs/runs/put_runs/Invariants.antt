@@ -5,6 +5,3 @@ use Rattle.stored_list.proofs.runs.put_runs.Given as goal
 
 abbrev pub invariant-loop-j : goal.invariant-loop-j
 invariant-loop-j l = Storing l.initial.out 0 (runs_of l.line) l.out l.n (runs_from (500 - l.j) l.j l.line)
-
-abbrev pub decreases-loop-j : goal.decreases-loop-j
-decreases-loop-j l = 500 - l.j

@@ -1,25 +1,12 @@
--- `stored_list::note` meets its contract. A case for each test, by what `count_up` leaves. Assumes nothing.
-use native.Mathlib.Omega.{arith}
-use mathlib.Core.Path.{ap, ◌∙◌}
-use Prim.Native.Nat.{◌+◌, ◌*◌}
-use Rattle.stored_list.specs.Tally.{counted_at}
-use Rattle.stored_list.proofs.TallyLaws.{note_over, note_same, note_differs}
+-- `stored_list::note` meets its contract, by what the row becomes. Assumes nothing.
+use borrow.Author.Rules.{rules}
+use mathlib.Core.Path.{◌∙◌, ap}
+use lib.ListN.{set, get_or}
+use Rattle.stored_list.specs.Tally.{with_answer}
+use Rattle.stored_list.proofs.ChangedLaws.{changed_in}
 use Rattle.stored_list.proofs.tally.note.Goals as goal
 
-pub returns-then-row-gt1000 : goal.returns-then-row-gt1000
-returns-then-row-gt1000 c =
+pub returns-then-row-tally : goal.returns-then-row-tally
+returns-then-row-tally c =
     let s = c.args in
-    note_over s.row s.tally.now s.agrees c.if-row-gt1000.true
-
-pub returns-then-agrees : goal.returns-then-agrees
-returns-then-agrees c =
-    let s = c.args in
-    c.count_up.ensures ∙ note_same s.row s.tally.now
-    (omega (arith, c.if-row-gt1000.false)) s.agrees c.if-agrees.true
-
-pub returns : goal.returns
-returns c =
-    let s = c.args in
-    c.count_up-2.ensures ∙
-    (ap (counted_at (2 * s.row + 1)) c.count_up.ensures ∙ note_differs s.row s.tally.now
-    (omega (arith, c.if-row-gt1000.false)) s.agrees c.if-agrees.false)
+    ap (set s.tally.now s.row) c.with_answer.ensures ∙ changed_in (λ r. with_answer r s.agrees) s.tally.now s.row (get_or s.tally.now s.row record { compared = 0; differ = 0 }) c.if-row-tally.true (search rules)
