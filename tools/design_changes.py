@@ -84,17 +84,25 @@ def declarations(commit, part, whole):
 
 
 def show(title, old, new, rust):
-    same = changed = 0
-    lines = []
+    same, changed, gone, added = 0, [], {}, {}
     for name in sorted(set(old) | set(new)):
         a, b = old.get(name), new.get(name)
+        crate = re.split("[/:]", name)[0]
         if a == b or (a and b and plain(by_rule(a, rust)) == plain(b)):
             same += 1
-            continue
-        changed += 1
-        lines.append(f"\n`{name}`\n\n```text\nold: {a or '(none)'}\nnew: {b or '(none)'}\n```")
-    print(f"\n### {title}\n\n{same} read the same, as they stand or by the rule; {changed} do not:")
-    print("\n".join(lines))
+        elif a is None:
+            added.setdefault(crate, []).append(name)
+        elif b is None:
+            gone.setdefault(crate, []).append(name)
+        else:
+            changed.append(f"\n`{name}`\n\n```text\nold: {a}\nnew: {b}\n```")
+    print(f"\n### {title}\n\n{same} read the same, as they stand or by the rule; {len(changed)} do not:")
+    print("\n".join(changed))
+    for what, names in (("Gone", gone), ("New", added)):
+        print(f"\n{what}, {sum(map(len, names.values()))}:\n")
+        for crate, list_of in names.items():
+            short = ", ".join(f"`{re.sub(f'^{crate}(/|::)', '', n)}`" for n in list_of)
+            print(f"- {crate}: {short}")
 
 
 def main(commit):

@@ -3,10 +3,10 @@ use Rattle.std.specs.Prelude.{Option, Some, None, Ok}
 use mathlib.Core.Path.{◌≡◌, refl, sym, ap, ◌∙◌}
 use mathlib.Core.Bool.{not, ◌&&◌}
 use mathlib.Core.List.{List, [], ◌∷◌, ◌++◌, reverse}
-use Prim.Native.Nat.{ℕ, ◌+◌, ◌-◌, ◌≤◌}
+use Prim.Native.Nat.{ℕ, ◌+◌, ◌-◌, ◌≤◌, ◌<◌}
 use native.Mathlib.Numerals.{add-one}
 use native.Mathlib.Omega.{arith}
-use lib.ListN.{length, take, drop, set, length-append, length-drop, length-reverse, take-append-drop}
+use lib.ListN.{length, take, drop, set, length-append, length-drop, length-take, length-reverse, take-append-drop}
 use lib.Seq.{sets, sets-eq, take_at}
 use Rattle.spec.proofs.Apart.{apart}
 use Rattle.spec.proofs.BytesLaws.{bytes_take, bytes_drop}
@@ -21,8 +21,8 @@ use Rattle.spec.proofs.Choice.{cond_case}
 use Rattle.spec.proofs.JoinedPieces.{pieces_cons}
 use Rattle.spec.proofs.LengthLaws.{right_le}
 use Rattle.spec.proofs.ListLaws.{while_sum, drop_while_le}
-use Rattle.spec.proofs.MapLaws.{marked_bytes}
-use Rattle.spec.proofs.WalkLaws.{pieces_at, pieces_cut, pieces_last}
+use Rattle.spec.proofs.MapLaws.{marked_bytes, marked_length}
+use Rattle.spec.proofs.WalkLaws.{first_within, pieces_at, pieces_cut, pieces_last}
 use Rattle.output.specs.Passes.{answer_from, LeavesFrom}
 use Rattle.output.proofs.OutcomeLaws.{Turn, turn_none, turn_both, turn_front}
 use Rattle.output.proofs.StoreLaws.{sets_append}
@@ -74,6 +74,12 @@ pub turn_start : (t : List Marked) (out : List ℕ) → Turn out 0 (assignments 
 unfolding assignments pieces
 turn_start t out = turn_none out 0 (assignments t)
 
+-- the `;` that is found stands within the text
+pub semicolon_within : (xs ms : List ℕ) (i j : ℕ) → first (byte_here 59) i (marked xs ms) ≡ Some j → (i ≤ j) × (j < length xs)
+semicolon_within xs ms i j e =
+    let w = first_within (byte_here 59) (marked xs ms) i j e in
+    (w.0, omega (arith, w.1, marked_length xs ms))
+
 -- ---- one statement
 
 pub empty_marked : (xs ms : List ℕ) → length xs ≡ 0 → marked xs ms ≡ []
@@ -99,6 +105,10 @@ module _ (xs ms : List ℕ) where
   pub told_none : Tells (marked xs ms) (statement_target (marked xs ms)) None → statement (marked xs ms) ≡ accepted (assignment (marked xs ms))
   unfolding statement checked_statement
   told_none w = rw w.target refl
+
+-- how long a part is
+pub part_length : (xs : List ℕ) (a k : ℕ) → a + k ≤ length xs → length (take k (drop a xs)) ≡ k
+part_length xs a k h = omega (arith, length-take k (drop a xs), length-drop a xs)
 
 -- `q.n` in front of the output, as `put_qualified` writes it
 pub target_written : (q n d d₁ d₂ d₃ : List ℕ) (a b : ℕ) → d₁ ≡ sets d 0 q → a ≡ 0 + length q → d₂ ≡ set d₁ a 46 → b ≡ a + 1 → d₃ ≡ sets d₂ b n

@@ -13,7 +13,7 @@ use output::{put, put_all};
 use runs::{Set, run_start, trim};
 use scanner::{find_byte_in, find_str_in};
 use spec::Refusal;
-use targets::qualified_assignment_target;
+use targets::{TargetPlaces, qualified_assignment_target};
 
 // A right side: without W, then without `;` at its end, then without W.
 fn right_side<'a>(text: &'a [u8]) -> &'a [u8]
@@ -25,15 +25,12 @@ fn right_side<'a>(text: &'a [u8]) -> &'a [u8]
 }
 
 // Whether a name starts with a letter or `_`.
+#[tactic(auto, using(crate::proofs::AssignmentTextLaws::name_at), unfolding(spec::specs::Bytes::is_digit))]
 fn starts_name(name: &[u8]) -> bool
     ensures { (t : List Marked) → bytes t ≡ name.now → result ≡ starts_name t }
 {
     let b = byte_at(name, 0);
-    if is_ident_byte(b) {
-        if in_range(b'0', b'9', b) { false } else { true }
-    } else {
-        false
-    }
+    is_ident_byte(b) && !in_range(b'0', b'9', b)
 }
 
 // `SET name = right` behind `front`.
@@ -74,34 +71,31 @@ fn rewrite_assignment(out: &mut [u8], n: usize, statement: &[u8], map: &[u8]) ->
     requires { n + length statement.now + 5 < 2 ^ 63 }
     ensures { Writes (bytes (assignment (marked statement.now map.now))) n out.old result out.new }
 {
-    let found = find_str_in(statement, map, b":=", 0);
-    match found {
-        Some(at) => put_assignment(out, n, statement, at),
-        None => put_all(out, n, statement),
-    }
+    let Some(at) = find_str_in(statement, map, b":=", 0) else {
+        return put_all(out, n, statement);
+    };
+    put_assignment(out, n, statement, at)
 }
 
-// Refusal 4: `q.n` at the front of the output, q the k bytes of the statement from a on, n the m bytes from b on.
-fn put_qualified(
-    out: &mut [u8],
-    statement: &[u8],
-    a: usize,
-    k: usize,
-    b: usize,
-    m: usize,
-) -> Result<usize, Refusal>
-    requires b_value { b ≡ a + k + 1 }
-    requires m_in_bounds { b + m ≤ length statement.now }
+// Refusal 4: `q.n` at the front of the output, by the places of q and n in the statement.
+#[tactic(auto, using(crate::proofs::RestLaws::part_length))]
+fn put_qualified(out: &mut [u8], statement: &[u8], target: &TargetPlaces) -> Result<usize, Refusal>
+    requires dot { target.now.name_start ≡ target.now.qualifier_start + target.now.qualifier_len + 1 }
+    requires name_in_bounds { target.now.name_start + target.now.name_len ≤ length statement.now }
     requires statement_in_bounds { length statement.now ≤ length out.old }
-    ensures value { result ≡ Err (QualifiedTarget k (k + 1 + m)) }
-    ensures out_after { take (k + 1 + m) out.new ≡ take k (drop a statement.now) ++ (46 ∷ take m (drop b statement.now)) }
+    ensures value { result ≡ Err (QualifiedTarget target.now.qualifier_len (target.now.qualifier_len + 1 + target.now.name_len)) }
+    ensures out_after { take (target.now.qualifier_len + 1 + target.now.name_len) out.new ≡ take target.now.qualifier_len (drop target.now.qualifier_start statement.now) ++ (46 ∷ take target.now.name_len (drop target.now.name_start statement.now)) }
 {
-    let p = put_all(out, 0, &statement[a..a + k]);
+    let p = put_all(
+        out,
+        0,
+        &statement[target.qualifier_start..][..target.qualifier_len],
+    );
     let q = put(out, p, b'.');
-    let end = put_all(out, q, &statement[b..b + m]);
+    let length = put_all(out, q, &statement[target.name_start..][..target.name_len]);
     Err(Refusal::QualifiedTarget {
-        qualifier: k,
-        length: end,
+        qualifier: target.qualifier_len,
+        length,
     })
 }
 
@@ -116,20 +110,14 @@ fn put_statement(out: &mut [u8], n: usize, text: &[u8], map: &[u8]) -> Result<us
     if text.len() == 0 {
         return Ok(n);
     }
-    match qualified_assignment_target(text, map) {
-        Some(p) => put_qualified(
-            out,
-            text,
-            p.qualifier_start,
-            p.qualifier_len,
-            p.name_start,
-            p.name_len,
-        ),
-        None => Ok(rewrite_assignment(out, n, text, map)),
+    if let Some(target) = qualified_assignment_target(text, map) {
+        return put_qualified(out, text, &target);
     }
+    Ok(rewrite_assignment(out, n, text, map))
 }
 
 // The text with its assignments rewritten, as far as `out` reaches; or refusal 4.
+#[tactic(auto, using(crate::proofs::RestLaws::semicolon_within))]
 pub fn transform_assignments(text: &[u8], map: &[u8], out: &mut [u8]) -> Result<usize, Refusal>
     requires text_len_bound { length text.now ≤ 65536 }
     requires text_in_bounds { length text.now ≤ length map.now }
@@ -139,16 +127,10 @@ pub fn transform_assignments(text: &[u8], map: &[u8], out: &mut [u8]) -> Result<
 {
     let mut n: usize = 0;
     let mut from: usize = 0;
-    loop {
-        let found = find_byte_in(text, map, b';', from);
-        let Some(end) = found else {
-            return put_statement(out, n, &text[from..], &map[from..]);
-        };
-        let pass = put_statement(out, n, &text[from..end], &map[from..end]);
-        let Ok(m) = pass else {
-            return pass;
-        };
+    while let Some(end) = find_byte_in(text, map, b';', from) {
+        let m = put_statement(out, n, &text[from..end], &map[from..end])?;
         n = put(out, m, b';');
         from = end + 1;
     }
+    put_statement(out, n, &text[from..], &map[from..])
 }

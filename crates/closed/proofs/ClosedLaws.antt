@@ -1,6 +1,6 @@
 -- The parts of a closed body at an offset: its last byte, its spans, and each RAISE. Assumes nothing.
 use mathlib.Core.Path.{◌≡◌, refl, sym, ap, ◌∙◌}
-use mathlib.Core.Bool.{Bool, true, false, cond, not, ◌&&◌, and-false}
+use mathlib.Core.Bool.{Bool, true, false, cond, not, ◌&&◌}
 use mathlib.Core.List.{List, [], ◌∷◌}
 use Prim.Native.Nat.{ℕ, suc, ◌+◌, ◌-◌, ◌≤◌, ◌<◌}
 use native.Mathlib.Omega.{arith}
@@ -21,7 +21,8 @@ use Rattle.spec.proofs.MapLaws.{mark_byte, marked_length, marked_bytes}
 use Rattle.spec.proofs.RunPlaces.{end_from, ahead_at}
 use Rattle.spec.proofs.SpanLaws.{lexemes_step}
 use Rattle.spec.proofs.MatchLaws.{prefix_at}
-use Rattle.spec.proofs.WalkLaws.{mark_live_byte, marked_at_lem, marked_step, marked_drop, front_live_lem, front_byte_lem, starts_case_at}
+use Rattle.spec.proofs.WalkLaws.{mark_live_byte, marked_at_lem, marked_step, marked_drop, front_byte_lem}
+use Rattle.scanner.proofs.KeywordLaws.{word_here_lem}
 use Rattle.spans.proofs.StepLaws.{by_front, Stepped}
 
 -- ---- the last byte
@@ -117,7 +118,7 @@ module _ (xs : List ℕ) (at : ℕ) where
       (omega (arith, t.far, ap span_len t.front), omega (arith, t.within, length-drop at xs))
 
   -- that span, and the spans behind it
-  pub plain_ahead : (s : Span) (to : ℕ) → Stepped xs at s to → (r : Bool) → r ≡ is_plain_span (lexeme_at (take (length xs - at) (drop at xs)))
+  plain_ahead : (s : Span) (to : ℕ) → Stepped xs at s to → (r : Bool) → r ≡ is_plain_span (lexeme_at (take (length xs - at) (drop at xs)))
       → all is_plain_span (lexemes (drop at xs)) ≡ (r && all is_plain_span (lexemes (drop to xs)))
   plain_ahead s to t r e =
       let f : r ≡ is_plain_span (lexeme_at (drop at xs)) = rw rest_of at e in
@@ -125,41 +126,21 @@ module _ (xs : List ℕ) (at : ℕ) where
       (by_front (λ (l : List ℕ). all is_plain_span (lexemes l) ≡ (is_plain_span (lexeme_at l) && all is_plain_span (lexemes (drop (span_len (span_at l)) l))))
       plain_step (drop at xs) (omega (arith, t.before, length-drop at xs)))
 
+  -- the same by whether that span is plain
+  module _ (s : Span) (to : ℕ) (t : Stepped xs at s to) where
+    pub plain_here : is_plain_span (lexeme_at (take (length xs - at) (drop at xs))) ≡ true → all is_plain_span (lexemes (drop at xs)) ≡ all is_plain_span (lexemes (drop to xs))
+    plain_here e = plain_ahead s to t true (sym e)
+
+    pub plain_not : is_plain_span (lexeme_at (take (length xs - at) (drop at xs))) ≡ false → all is_plain_span (lexemes (drop at xs)) ≡ false
+    plain_not e = plain_ahead s to t false (sym e)
+
   pub plain_over : length xs ≤ at → all is_plain_span (lexemes (drop at xs)) ≡ true
   unfolding all lexemes lexemes_from
   plain_over h = rw (drop_of_length-le xs h) refl
 
--- ---- a word that no byte of a set touches
+-- ---- a RAISE
 
-pub word_here_lem : (set : ℕ → Bool) (w xs ms : List ℕ) (p i : ℕ) → i < length xs
-    → word_here set w p (drop i (marked xs ms))
-    ≡ (eqb (get_or ms i 0) 0 && (prefix_by upper w (drop i xs) && (not (set p) && not (set (get_or xs (i + length w) 0)))))
-unfolding word_here
-word_here_lem set w xs ms p i h =
-    rw (drop-drop (length w) i (marked xs ms), front_live_lem xs ms i h, starts_case_at w xs ms i, front_byte_lem xs ms (i + length w)) refl
-
--- m is the map byte at i, b says whether the word stands there
-module _ (set : ℕ → Bool) (w xs ms : List ℕ) (p i m : ℕ) (h : i < length xs) (e : m ≡ get_or ms i 0) where
-  pub word_quoted : (m ≡ 0 → ⊥) → word_here set w p (drop i (marked xs ms)) ≡ false
-  word_quoted z = word_here_lem set w xs ms p i h ∙ rw (ne_eqb (get_or ms i 0) 0 (λ f. z (e ∙ f))) refl
-
-  module _ (z : m ≡ 0) (b : Bool) (f : b ≡ prefix_by upper w (take (length xs - i) (drop i xs))) where
-    word_by : word_here set w p (drop i (marked xs ms)) ≡ (b && (not (set p) && not (set (get_or xs (i + length w) 0))))
-    word_by =
-        let g : b ≡ prefix_by upper w (drop i xs) = rw rest_of at f in
-        word_here_lem set w xs ms p i h ∙ rw (eq-eqb (get_or ms i 0) 0 (sym e ∙ z), ← g) refl
-
-    pub word_off : b ≡ false → word_here set w p (drop i (marked xs ms)) ≡ false
-    word_off k = word_by ∙ rw k refl
-
-    module _ (k : b ≡ true) where
-      pub word_joined : set p ≡ true → word_here set w p (drop i (marked xs ms)) ≡ false
-      word_joined q = word_by ∙ rw (k, q) refl
-
-      pub word_edge : set p ≡ false → word_here set w p (drop i (marked xs ms)) ≡ not (set (get_or xs (i + length w) 0))
-      word_edge q = word_by ∙ rw (k, q) refl
-
--- such a word stands within the text
+-- a word that no byte of a set touches stands within the text
 pub word_fits : (set : ℕ → Bool) (w xs ms : List ℕ) (p i : ℕ) → i < length xs → word_here set w p (drop i (marked xs ms)) ≡ true → i + length w ≤ length xs
 word_fits set w xs ms p i h e =
     let a = eqb (get_or ms i 0) 0 in
@@ -197,23 +178,15 @@ followed_lives xs ms i =
     ∙ ap is_followed (marked_drop i xs [] ∙ (ap (λ (l : List ℕ). marked (drop i xs) l) (drop-nil i) ∙ sym (lives_marked (drop i xs)))))
 
 module _ (xs : List ℕ) (i : ℕ) where
-  followed_bytes : is_followed (lives (drop i xs))
+  pub followed_bytes : is_followed (lives (drop i xs))
       ≡ (eqb (get_or xs i 0) 32
       && (is_ident (get_or xs (i + 1) 0) && ends_word (get_or xs (i + 1 + length (take_while is_ident (drop (i + 1) xs))) 0)))
   followed_bytes = sym (followed_lives xs [] i) ∙ followed_at xs [] i
 
   -- the word ends at e
-  pub followed_by : get_or xs i 0 ≡ 32 → is_ident (get_or xs (i + 1) 0) ≡ true
-      → (e : ℕ)
-      → e ≡ i + 1 + length (take_while is_ident (drop (i + 1) xs))
-      → is_followed (lives (drop i xs)) ≡ ends_word (get_or xs e 0)
-  followed_by p q e f = followed_bytes ∙ rw (eq-eqb (get_or xs i 0) 32 p, q, ← f) refl
-
-  pub followed_no_word : is_ident (get_or xs (i + 1) 0) ≡ false → is_followed (lives (drop i xs)) ≡ false
-  followed_no_word q = followed_bytes ∙ rw q (and-false (eqb (get_or xs i 0) 32))
-
-  pub followed_no_space : (get_or xs i 0 ≡ 32 → ⊥) → is_followed (lives (drop i xs)) ≡ false
-  followed_no_space p = followed_bytes ∙ rw (ne_eqb (get_or xs i 0) 32 p) refl
+  pub followed_by : (e : ℕ) → e ≡ i + 1 + length (take_while is_ident (drop (i + 1) xs))
+      → is_followed (lives (drop i xs)) ≡ (eqb (get_or xs i 0) 32 && (is_ident (get_or xs (i + 1) 0) && ends_word (get_or xs e 0)))
+  followed_by e f = followed_bytes ∙ rw f refl
 
 -- ---- every RAISE
 

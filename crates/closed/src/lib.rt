@@ -13,28 +13,23 @@ ghost use Rattle.closed.specs.Answer.{closed_answer};
 
 use classes::{byte_at, is_ident_byte, is_pair};
 use runs::{Set, has, run_end};
-use scanner::starts_ignoring_case;
+use scanner::word_at;
 use searches::{map_checked, yes_no};
 use spans::Cursor;
 use spec::Refusal;
 
 // Whether the last byte is a live `;`.
+#[tactic(auto, using(crate::proofs::ClosedLaws::ends_none, crate::proofs::ClosedLaws::ends_live_lem, crate::proofs::ClosedLaws::ends_quoted))]
 fn ends_live(text: &[u8], map: &[u8]) -> bool
     ensures { result ≡ ends_live (marked text.now map.now) }
 {
     let n = text.len();
-    if n == 0 {
-        return false;
-    }
-    if byte_at(map, n - 1) == 0 {
-        text[n - 1] == b';'
-    } else {
-        false
-    }
+    n != 0 && byte_at(map, n - 1) == 0 && text[n - 1] == b';'
 }
 
 // Whether the span in front, of n bytes, is neither a comment nor a literal with a newline. A newline in front is live text:
 // a literal starts with a quote or a `$`.
+#[tactic(auto, using(crate::proofs::ClosedLaws::plain_line, crate::proofs::ClosedLaws::plain_block, crate::proofs::ClosedLaws::plain_newline, crate::proofs::ClosedLaws::plain_other, runs::proofs::RunLaws::any_byte))]
 fn is_plain_span(rest: &[u8], n: usize) -> bool
     requires n_value { n ≡ span_len (span_at rest.now) }
     requires n_in_bounds { n ≤ length rest.now }
@@ -42,126 +37,78 @@ fn is_plain_span(rest: &[u8], n: usize) -> bool
 {
     let c = byte_at(rest, 0);
     let d = byte_at(rest, 1);
-    if is_pair(b'-', b'-', c, d) {
-        return false;
-    }
-    if is_pair(b'/', b'*', c, d) {
-        return false;
-    }
-    if c == 10 {
-        return true;
-    }
-    !has(&rest[..n], Set::Only(10))
+    !is_pair(b'-', b'-', c, d)
+        && !is_pair(b'/', b'*', c, d)
+        && (c == b'\n' || !has(&rest[..n], Set::Only(b'\n')))
 }
 
 // Whether no span is a comment or a literal with a newline.
+#[tactic(auto, using(crate::proofs::ClosedLaws::step_part, crate::proofs::ClosedLaws::plain_here, crate::proofs::ClosedLaws::plain_not, crate::proofs::ClosedLaws::plain_over, spans::proofs::StepLaws::step_taken, spans::proofs::StepLaws::step_done))]
 fn has_plain_spans(text: &[u8]) -> bool
     ensures { result ≡ all is_plain_span (lexemes text.now) }
 {
     let mut cursor = Cursor { at: 0 };
-    loop {
-        let from = cursor.at;
-        let step = cursor.step(text);
-        let Some((_, next)) = step else {
-            return true;
-        };
-        if is_plain_span(&text[from..], next.at - from) {
-            cursor = next;
-        } else {
+    while let Some((_, next)) = cursor.step(text) {
+        if !is_plain_span(&text[cursor.at..], next.at - cursor.at) {
             return false;
         }
+        cursor = next;
     }
-}
-
-// Whether RAISE stands live at i, in any letter case, with no identifier byte touching it.
-fn is_raise_at(text: &[u8], map: &[u8], before: u8, i: usize) -> bool
-    requires { i < length text.now }
-    ensures { result ≡ word_here is_ident (ascii "RAISE") before (drop i (marked text.now map.now)) }
-{
-    if byte_at(map, i) == 0 {
-        if starts_ignoring_case(&text[i..], b"RAISE") {
-            if is_ident_byte(before) {
-                false
-            } else if is_ident_byte(byte_at(text, i + 5)) {
-                false
-            } else {
-                true
-            }
-        } else {
-            false
-        }
-    } else {
-        false
-    }
+    true
 }
 
 // A space or `;`.
+#[tactic(auto, unfolding(spec::specs::Closed::ends_word))]
 fn ends_word(b: u8) -> bool
     ensures { result ≡ ends_word b }
 {
-    if b == b' ' { true } else { b == b';' }
+    matches!(b, b' ' | b';')
 }
 
 // Whether a space, a word and a space or `;` stand at i, live or not.
+#[tactic(auto, using(crate::proofs::ClosedLaws::followed_bytes))]
 fn is_followed(text: &[u8], i: usize) -> bool
     requires { i ≤ length text.now }
     ensures { result ≡ is_followed (lives (drop i text.now)) }
 {
-    if byte_at(text, i) == b' ' {
-        if is_ident_byte(byte_at(text, i + 1)) {
-            ends_word(byte_at(text, run_end(text, Set::Ident, i + 1)))
-        } else {
-            false
-        }
-    } else {
-        false
-    }
+    byte_at(text, i) == b' '
+        && is_ident_byte(byte_at(text, i + 1))
+        && ends_word(byte_at(text, run_end(text, Set::Ident, i + 1)))
 }
 
 // Whether a RAISE stands at i that has something else behind it.
+#[tactic(auto, using(crate::proofs::ClosedLaws::word_fits, crate::proofs::ClosedLaws::followed_lives))]
 fn is_unfollowed_raise(text: &[u8], map: &[u8], before: u8, i: usize) -> bool
     requires { i < length text.now }
     ensures { result ≡ (word_here is_ident (ascii "RAISE") before (drop i (marked text.now map.now)) && not (is_followed (drop (i + 5) (marked text.now map.now)))) }
 {
-    if is_raise_at(text, map, before, i) {
-        !is_followed(text, i + 5)
-    } else {
-        false
-    }
+    word_at(text, map, b"RAISE", before, i) && !is_followed(text, i + 5)
 }
 
 // Whether every live RAISE has a space, a word and a space or `;` behind it.
+#[tactic(auto, using(crate::proofs::ClosedLaws::raises_unfollowed, crate::proofs::ClosedLaws::raises_step, crate::proofs::ClosedLaws::raises_end))]
 fn has_followed_raises(text: &[u8], map: &[u8]) -> bool
     ensures { result ≡ raises_followed 0 (marked text.now map.now) }
 {
     let mut before: u8 = 0;
-    let mut i: usize = 0;
-    while i < text.len() {
+    for (i, b) in text.iter().enumerate() {
         if is_unfollowed_raise(text, map, before, i) {
             return false;
         }
-        before = text[i];
-        i += 1;
+        before = *b;
     }
     true
 }
 
 // Whether a text with its map is a closed body.
+#[tactic(auto, using(runs::proofs::RunLaws::any_byte))]
 fn is_closed_in(text: &[u8], map: &[u8]) -> bool
     ensures { result ≡ (ends_live (marked text.now map.now) && (not (any (eqb 92) text.now) && (all is_plain_span (lexemes text.now) && raises_followed 0 (marked text.now map.now)))) }
 {
-    if ends_live(text, map) {
-        if has(text, Set::Only(b'\\')) {
-            return false;
-        }
-        if has_plain_spans(text) {
-            has_followed_raises(text, map)
-        } else {
-            false
-        }
-    } else {
-        false
-    }
+    ends_live(text, map)
+        && !has(text, Set::Only(b'\\'))
+        && has_plain_spans(text)
+        && has_followed_raises(text, map)
 }
 
 // Whether the text is a closed body.

@@ -1,4 +1,5 @@
 -- The nexts of records whose names are different are those of the definition. Assumes nothing.
+use Rattle.std.specs.Prelude.{Ok}
 use mathlib.Core.Path.{◌≡◌, refl, sym, ◌∙◌}
 use mathlib.Core.Bool.{Bool, true, false, false≢true}
 use mathlib.Core.List.{List, []}
@@ -44,10 +45,10 @@ module _ (xs rs : List ℕ) (count : ℕ) where
       rw z at (name_at xs rs 1 count (m - 1) (omega arith))
 
   -- records of a section have different names
-  pub gathered_different : (t : List Marked) → count ≤ 512 → Gathered xs t rs count → Different (name_in xs rs) count
+  pub gathered_different : (t : List Marked) → Gathered xs t rs (Ok count) → Different (name_in xs rs) count
   unfolding distinct
-  gathered_different t low g i j a b c d e =
-      let u : distinct ds ≡ true = rw (g.records low) (all_distinct (pieces (byte_here 59) t) [] refl) in
+  gathered_different t g i j a b c d e =
+      let u : distinct ds ≡ true = rw g.records (all_distinct (pieces (byte_here 59) t) [] refl) in
       let l = from_length xs rs 1 count in
       let p : i - 1 ≡ j - 1 =
       distinct_place ds (i - 1) (j - 1) u (omega arith) (omega arith) (rw (named i a b, named j c d) e) in

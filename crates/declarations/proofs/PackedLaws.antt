@@ -19,7 +19,7 @@ use Rattle.spec.specs.Declarations.{Declared, record_width, declaration, declare
 use Rattle.declared_parts.proofs.SizeLaws.{packed_part}
 use Rattle.declared_records.specs.Held.{record_in, records_from, Gathered}
 use Rattle.declarations.specs.SectionRecords.{records_of_section, next_number, Linked, other_numbers, final_numbers, Holds, parsed_of}
-use Rattle.spec.specs.declared.Refusal.TheVariants.{TooManyNames}
+use Rattle.spec.specs.declared.Refusal.{Refusal}
 use Rattle.std.specs.Prelude.{Ok, Err}
 use Rattle.output.proofs.StoreLaws.{front_stored}
 use Rattle.declared_records.proofs.HeldLaws.{sets_behind, sets_drop, record_other, from_same, from_length}
@@ -70,13 +70,13 @@ final_records xs rs ds at k (suc n) h =
       final_records xs rs ds (at + length (packed_record (record_in xs rs k))) (suc k) n (λ j a b. h j (omega arith) (omega arith)),
     ) refl
 
-module _ (xs : List ℕ) (t : List Marked) (count : ℕ) (low : count ≤ 512) (rs₁ rs₂ : List ℕ) (g : Gathered xs t rs₁ count) (l : Linked xs rs₁ count rs₂) where
+module _ (xs : List ℕ) (t : List Marked) (count : ℕ) (rs₁ rs₂ : List ℕ) (g : Gathered xs t rs₁ (Ok count)) (l : Linked xs rs₁ count rs₂) where
   abbrev ds : List Declared
   ds = records_of_section t
 
   gathered : records_from xs rs₁ 1 count ≡ ds
   unfolding records_of_section
-  gathered = g.records low
+  gathered = g.records
 
   pub count_length : length ds ≡ count
   count_length = ap length (sym gathered) ∙ from_length xs rs₁ 1 count
@@ -137,23 +137,23 @@ module _ (xs : List ℕ) (t : List Marked) (count : ℕ) (low : count ≤ 512) (
           accepted = λ _. record {
             texts = p₁;
             front = rw p₁ (front_stored out _ (packed ds) _ refl (omega (arith, packed_small t)) refl);
-            numbers = rw (stored rs₄ q) (front_stored rs₂ _ (numbers_of ds) _ refl (omega (arith, n, count_length)) refl);
+            numbers = rw (stored rs₄ q) (front_stored rs₂ _ (numbers_of ds) _ refl (omega (arith, n, count_length, g.within)) refl);
           };
-          refused = λ h. absurd (omega (arith, count_length));
-          behind = rw (stored rs₄ q) (sets_drop (numbers_of ds) rs₂ 0 5130 (omega (arith, n, count_length))) ∙ (l.behind ∙ b);
+          refused = λ h. absurd (omega (arith, count_length, g.within));
+          behind = rw (stored rs₄ q) (sets_drop (numbers_of ds) rs₂ 0 5130 (omega (arith, n, count_length, g.within))) ∙ (l.behind ∙ b);
         }
 
 -- the answers
-pub parsed_over : (xs : List ℕ) (t : List Marked) (rs : List ℕ) (r : ℕ) → Gathered xs t rs r → 512 < r → Err TooManyNames ≡ parsed_of (records_of_section t)
+pub parsed_over : (xs : List ℕ) (t : List Marked) (rs : List ℕ) (e : Refusal) → Gathered xs t rs (Err e) → Err e ≡ parsed_of (records_of_section t)
 unfolding parsed_of records_of_section
-parsed_over xs t rs r g h = rw (lt-ltb 512 (length (declare_all (pieces (byte_here 59) t) [])) (g.over h)) refl
+parsed_over xs t rs e g = rw (lt-ltb 512 (length (declare_all (pieces (byte_here 59) t) [])) g.1, g.0) refl
 
 pub parsed_count : (es : List Declared) (n m : ℕ) → length es ≡ n → m ≡ length (packed es) → n ≤ 512 → Ok (record { records = n; bytes = m }) ≡ parsed_of es
 unfolding parsed_of
 parsed_count es n m e f h = rw (e, f, le-ltb 512 n h) refl
 
-pub over_holds : (xs : List ℕ) (t : List Marked) (rs rs₀ out : List ℕ) (r : ℕ) → Gathered xs t rs r → 512 < r → drop 5130 rs ≡ drop 5130 rs₀
+pub over_holds : (xs : List ℕ) (t : List Marked) (rs rs₀ out : List ℕ) (e : Refusal) → Gathered xs t rs (Err e) → drop 5130 rs ≡ drop 5130 rs₀
     → Holds (records_of_section t) out out rs₀ rs
 unfolding records_of_section
-over_holds xs t rs rs₀ out r g h b =
-    record { accepted = λ l. absurd (omega (arith, g.over h)); refused = λ _. refl; behind = b }
+over_holds xs t rs rs₀ out e g b =
+    record { accepted = λ l. absurd (omega (arith, g.1)); refused = λ _. refl; behind = b }

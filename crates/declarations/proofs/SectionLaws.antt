@@ -1,5 +1,6 @@
 -- The section between DECLARE and BEGIN, and the body. Assumes nothing.
 use Rattle.std.specs.Prelude.{Option, Some, None}
+use Rattle.std.specs.Option.{unwrap_or}
 use mathlib.Core.Path.{◌≡◌, refl, sym, ◌∙◌}
 use mathlib.Core.List.{List, []}
 use Prim.Native.Nat.{ℕ, ◌+◌, ◌-◌, ◌≤◌, ◌<◌, zero-le}
@@ -13,7 +14,7 @@ use Rattle.spec.specs.Bytes.{ascii}
 use Rattle.spec.specs.Map.{Marked, marked_text}
 use Rattle.spec.specs.Search.{first, keyword_here}
 use Rattle.spec.specs.Parts.{part}
-use Rattle.spec.specs.Declarations.{declare_section, records_of}
+use Rattle.spec.specs.Declarations.{declare_section, records_of, body_from}
 use Rattle.declared_parts.proofs.BetweenLaws.{between_none}
 use Rattle.declarations.specs.SectionRecords.{records_of_section, records_in, declare_end, section_of, SectionIn}
 
@@ -64,3 +65,14 @@ section_in t f g p q =
     within (Some b) h (Some d) = by (leb (d + 7) b) (λ e. rw e (omega (arith, h b refl))) (λ e. rw e zero-le)
     within None h (Some d) = zero-le
     within g h None = zero-le
+
+-- ---- the body
+
+pub body_found : (xs : List ℕ) (o : Option ℕ) → drop (unwrap_or o 0) xs ≡ body_from o xs
+unfolding body_from
+body_found xs (Some b) = refl
+body_found xs None = refl
+
+pub body_within : (t : List Marked) (o : Option ℕ) → o ≡ begin_at t → unwrap_or o 0 ≤ length t
+body_within t (Some b) e = omega (arith, (first_within (keyword_here (ascii "BEGIN")) t 0 b (sym e)).1)
+body_within t None e = zero-le

@@ -1,14 +1,13 @@
 -- The texts of the records packed one after the other, and their numbers. Assumes nothing.
 use mathlib.Core.Path.{◌≡◌, refl, sym, ap, ◌∙◌}
-use mathlib.Core.Bool.{false, cond}
+use mathlib.Core.Bool.{Bool, true, false, cond}
 use mathlib.Core.List.{List, [], ◌∷◌, ◌++◌}
 use Prim.Native.Nat.{ℕ, suc, ◌+◌, ◌-◌, ◌*◌, ◌≤◌, ◌<◌}
 use native.Mathlib.Omega.{arith}
-use lib.Dec.{eqb}
+use mir.Val.{bool_byte}
 use lib.ListN.{length, get_or, take, drop, length-append}
 use lib.Seq.{sets}
 use Rattle.output.proofs.StoreLaws.{sets_append}
-use Rattle.spec.proofs.Choice.{by}
 use Rattle.spec.proofs.RecordLaws.{default_three}
 use Rattle.spec.specs.Declarations.{Declared, text_or, packed_record, packed, default_numbers, mark_numbers, one_if}
 use Rattle.declared_parts.specs.DeclaredParts.{spaced, value_of, is_set, default_by, declared_by}
@@ -22,6 +21,11 @@ pub name_le : (xs rs : List ℕ) (k : ℕ) → length (record_in xs rs k).name �
 unfolding declared_by
 name_le xs rs k = piece_le xs (get_or (drop (10 * k) rs) 1 0) (get_or (drop (10 * k) rs) 2 0)
 
+-- the number of a mark, as the library converts it
+pub mark_byte : (b : Bool) (n : ℕ) → n ≡ bool_byte b → n ≡ one_if b
+mark_byte true n e = e
+mark_byte false n e = e
+
 module _ (xs rs : List ℕ) (k : ℕ) where
   abbrev d : Declared
   d = record_in xs rs k
@@ -34,7 +38,7 @@ module _ (xs rs : List ℕ) (k : ℕ) where
   unfolding declared_by
   typed = refl
 
-  valued : d.default ≡ value_of (number 5) (take (number 7) (drop (number 6) xs))
+  valued : d.default ≡ value_of (is_set (number 5)) (take (number 7) (drop (number 6) xs))
   unfolding declared_by default_by
   valued = refl
 
@@ -43,8 +47,8 @@ module _ (xs rs : List ℕ) (k : ℕ) where
     pub ends : e ≡ ends_of n d
     pub stored : out' ≡ sets out n (packed_record d)
 
-  pub texts : (out out₁ out₂ out₃ : List ℕ) (n a b c p : ℕ) (name kind value : List ℕ)
-      → name ≡ d.name → kind ≡ take (number 4) (drop (number 3) xs) → p ≡ number 5 → value ≡ take (number 7) (drop (number 6) xs)
+  pub texts : (out out₁ out₂ out₃ : List ℕ) (n a b c : ℕ) (p : Bool) (name kind value : List ℕ)
+      → name ≡ d.name → kind ≡ take (number 4) (drop (number 3) xs) → p ≡ is_set (number 5) → value ≡ take (number 7) (drop (number 6) xs)
       → out₁ ≡ sets out n name → a ≡ n + length name
       → out₂ ≡ sets out₁ a (spaced false kind) → b ≡ a + length (spaced false kind)
       → out₃ ≡ sets out₂ b (text_or (value_of p value)) → c ≡ b + length (text_or (value_of p value))
@@ -85,25 +89,27 @@ module _ (xs rs : List ℕ) (k : ℕ) where
       let m₃ = ap (λ (f : Ends). f.value) q in
       record { first = omega arith; second = omega arith; third = omega arith; last = omega (arith, packed_length n) }
 
-  default_places : (p at : ℕ) (text : List ℕ)
-      → cond (eqb p 0) 0 1 ∷ cond (eqb p 0) 0 at ∷ length (text_or (value_of p text)) ∷ [] ≡ default_numbers (value_of p text) at
+  default_places : (p : Bool) (at : ℕ) (text : List ℕ)
+      → cond p 1 0 ∷ cond p at 0 ∷ length (text_or (value_of p text)) ∷ [] ≡ default_numbers (value_of p text) at
   unfolding default_numbers
-  default_places p at text = by (eqb p 0) (λ h. rw h refl) (λ h. rw h refl)
+  default_places true at text = refl
+  default_places false at text = refl
 
   -- the marks by their numbers
-  constant_is : one_if (is_set (number 8)) ≡ one_if d.constant
+  constant_is : is_set (number 8) ≡ d.constant
   unfolding declared_by
   constant_is = refl
 
-  not_null_is : one_if (is_set (number 9)) ≡ one_if d.not_null
+  not_null_is : is_set (number 9) ≡ d.not_null
   unfolding declared_by
   not_null_is = refl
 
-  pub numbers : (n p flag at constant not_null : ℕ) (e : Ends) → p ≡ number 5 → e ≡ ends_of n d
-      → flag ≡ cond (eqb p 0) 0 1 → at ≡ cond (eqb p 0) 0 e.kind → constant ≡ one_if (is_set (number 8)) → not_null ≡ one_if (is_set (number 9))
-      → n ∷ (e.name - n) ∷ e.name ∷ (e.kind - e.name) ∷ flag ∷ at ∷ (e.value - e.kind) ∷ constant ∷ not_null ∷ [] ≡ other_numbers n d
+  pub numbers : (n flag at x y : ℕ) (p constant not_null : Bool) (e : Ends) → p ≡ is_set (number 5) → e ≡ ends_of n d
+      → constant ≡ is_set (number 8) → not_null ≡ is_set (number 9)
+      → flag ≡ one_if p → at ≡ cond p e.kind 0 → x ≡ one_if constant → y ≡ one_if not_null
+      → n ∷ (e.name - n) ∷ e.name ∷ (e.kind - e.name) ∷ flag ∷ at ∷ (e.value - e.kind) ∷ x ∷ y ∷ [] ≡ other_numbers n d
   unfolding ends_of other_numbers
-  numbers n p flag at constant not_null e q r f g u v =
+  numbers n flag at x y p constant not_null e q r u v f g h i =
       let m₁ : e.name ≡ n + length d.name = ap (λ (f : Ends). f.name) r in
       let m₂ : e.kind ≡ n + length d.name + length d.type = ap (λ (f : Ends). f.kind) r in
       let m₃ : e.value ≡ n + length d.name + length d.type + length (text_or d.default) = ap (λ (f : Ends). f.value) r in
@@ -112,11 +118,11 @@ module _ (xs rs : List ℕ) (k : ℕ) where
       let i₃ : e.value - e.kind ≡ length (text_or d.default) = omega arith in
       let o : d.default ≡ value_of p (take (number 7) (drop (number 6) xs)) = valued ∙ rw q refl in
       let front = n + length d.name + length d.type in
-      let w : cond (eqb p 0) 0 1 ∷ cond (eqb p 0) 0 front ∷ length (text_or d.default) ∷ [] ≡ default_numbers d.default front =
+      let w : cond p 1 0 ∷ cond p front 0 ∷ length (text_or d.default) ∷ [] ≡ default_numbers d.default front =
       rw o (default_places p front (take (number 7) (drop (number 6) xs))) in
-      let c : constant ≡ one_if d.constant = u ∙ constant_is in
-      let z : not_null ≡ one_if d.not_null = v ∙ not_null_is in
-      rw (i₁, i₂, i₃, m₁, f, g, m₂, c, z)
+      let c : constant ≡ d.constant = u ∙ constant_is in
+      let z : not_null ≡ d.not_null = v ∙ not_null_is in
+      rw (i₁, i₂, i₃, f, g, h, i, m₁, m₂, c, z)
       (ap (λ (l : List ℕ). n ∷ length d.name ∷ (n + length d.name) ∷ length d.type ∷ (l ++ mark_numbers d)) w)
 
 -- ---- all records

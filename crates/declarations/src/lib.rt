@@ -2,7 +2,7 @@
 // section's text; then each gets its next, and last the texts are packed and the places replaced.
 #![tactic(auto)]
 
-ghost use Rattle.std.specs.Prelude.{◌≡◌, true, cond, ◌∷◌, ◌+◌, ◌*◌, ◌^◌, ◌≤◌, ◌<◌, eqb, length, get_or, drop};
+ghost use Rattle.std.specs.Prelude.{◌≡◌, true, cond, ◌∷◌, ◌+◌, ◌*◌, ◌^◌, ◌≤◌, ◌<◌, length, get_or, drop};
 ghost use Rattle.std.proofs.lemmas.List.Edits.{sets};
 ghost use Rattle.spec.specs.Bytes.{ascii};
 ghost use Rattle.spec.specs.Map.{marked};
@@ -14,7 +14,7 @@ ghost use Rattle.declarations.specs.Chain.{name_in, Different, Chained, LastAhea
 ghost use Rattle.declarations.specs.SectionRecords.{records_in, Linked, ends_of, declare_end, section_of, SectionIn, records_of_section, parsed_of, other_numbers, final_numbers, Holds};
 
 use declared_parts::{comes_before, piece, put_requoted, put_spaced};
-use declared_records::{RECORD_LIMIT, RECORD_WIDTH, gather, mark_of, name_of, number, put_numbers};
+use declared_records::{RECORD_WIDTH, gather, mark_of, name_of, number, put_numbers};
 use output::put_all;
 use scanner::find_keyword_in;
 use spec::Refusal;
@@ -26,7 +26,7 @@ pub struct DeclaredSizes {
     pub bytes: usize,
 }
 
-// The text between DECLARE and BEGIN, empty if there is none.
+// The text between DECLARE and BEGIN, empty if there is none. No Range, which is not Copy.
 #[derive(Clone, Copy)]
 pub struct Section {
     pub from: usize,
@@ -54,13 +54,11 @@ fn start_of(text: &[u8], records: &[u32], count: usize, k: usize) -> usize
     }
     let name = name_of(text, records, k);
     let last = name_of(text, records, k + 1);
-    if comes_before(last, name) {
-        return k + 1;
-    }
-    0
+    if comes_before(last, name) { k + 1 } else { 0 }
 }
 
-// The last record in the chain that record k comes behind, from one that it comes behind on; record 0 is the head.
+// The last record in the chain that record k comes behind, from one that it comes behind on; record 0 is the head. The
+// chain is one of numbers in the caller's buffer, so the walk is a loop.
 fn find_place(text: &[u8], records: &[u32], count: usize, k: usize, from: usize) -> usize
     requires count_bound { count ≤ 512 }
     requires k_le_count { k ≤ count }
@@ -111,31 +109,29 @@ fn link(text: &[u8], records: &mut [u32], count: usize)
     ensures { Linked text.now records.old count records.new }
 {
     records[0] = 0;
-    let mut k = count;
-    while 0 < k {
-        insert(text, records, count, k);
-        k -= 1;
+    for linked in 0..count {
+        insert(text, records, count, count - linked);
     }
 }
 
 // A default that is present, requoted; nothing for one that is absent.
-fn put_value(out: &mut [u8], n: usize, present: usize, text: &[u8]) -> usize
+fn put_value(out: &mut [u8], n: usize, present: bool, text: &[u8]) -> usize
     requires { n + 2 * length text.now + 2 < 2 ^ 63 }
     ensures value { result ≡ n + length (text_or (value_of present text.now)) }
     ensures out_after { out.new ≡ sets out.old n (text_or (value_of present text.now)) }
 {
-    if present == 0 {
-        n
-    } else {
+    if present {
         put_requoted(out, n, text)
+    } else {
+        n
     }
 }
 
 // n where a default is present, else 0.
-fn if_present(present: usize, n: usize) -> usize
-    ensures { result ≡ cond (eqb present 0) 0 n }
+fn if_present(present: bool, n: usize) -> usize
+    ensures { result ≡ cond present n 0 }
 {
-    if present == 0 { 0 } else { n }
+    if present { n } else { 0 }
 }
 
 // The texts of record k packed from n on; the result is where each ends.
@@ -145,13 +141,15 @@ fn put_texts(text: &[u8], declared: &mut [u8], records: &[u32], k: usize, n: usi
     requires in_bounds { 5130 ≤ length records.now }
     requires n_bound { n ≤ 65536 }
     ensures value { result ≡ ends_of n (record_in text.now records.now k) }
+    ensures ordered { (n ≤ result.name) × (result.name ≤ result.kind) × (result.kind ≤ result.value) }
+    ensures last { result.value ≡ n + length (packed_record (record_in text.now records.now k)) }
     ensures declared_after { declared.new ≡ sets declared.old n (packed_record (record_in text.now records.now k)) }
 {
     let kind = piece(text, number(records, k, 3), number(records, k, 4));
     let value = piece(text, number(records, k, 6), number(records, k, 7));
     let name_end = put_all(declared, n, name_of(text, records, k));
     let kind_end = put_spaced(declared, name_end, kind);
-    let end = put_value(declared, kind_end, number(records, k, 5), value);
+    let end = put_value(declared, kind_end, mark_of(records, k, 5), value);
     Ends {
         name: name_end,
         kind: kind_end,
@@ -173,27 +171,21 @@ fn write_record(text: &[u8], declared: &mut [u8], records: &mut [u32], k: usize,
     let next = records[RECORD_WIDTH * k];
     let constant = mark_of(records, k, 8);
     let not_null = mark_of(records, k, 9);
-    let present = number(records, k, 5);
+    let present = mark_of(records, k, 5);
     let ends = put_texts(text, declared, records, k, n);
-    let flag = if_present(present, 1);
-    let value_at = if_present(present, ends.kind);
-    let name_len = ends.name - n;
-    let kind_len = ends.kind - ends.name;
-    let value_len = ends.value - ends.kind;
-    put_numbers(
-        records,
-        k,
+    let numbers = [
         next,
         n as u32,
-        name_len as u32,
+        (ends.name - n) as u32,
         ends.name as u32,
-        kind_len as u32,
-        flag as u32,
-        value_at as u32,
-        value_len as u32,
-        constant,
-        not_null,
-    );
+        (ends.kind - ends.name) as u32,
+        u32::from(present),
+        if_present(present, ends.kind) as u32,
+        (ends.value - ends.kind) as u32,
+        u32::from(constant),
+        u32::from(not_null),
+    ];
+    put_numbers(records, k, numbers);
     ends.value
 }
 
@@ -208,10 +200,8 @@ fn write_records(text: &[u8], declared: &mut [u8], records: &mut [u32], count: u
     ensures records_after { records.new ≡ sets records.old 10 (final_numbers text.now records.old 0 1 count) }
 {
     let mut n: usize = 0;
-    let mut k: usize = 1;
-    while k <= count {
+    for k in 1..count + 1 {
         n = write_record(text, declared, records, k, n);
-        k += 1;
     }
     n
 }
@@ -221,16 +211,13 @@ fn section_at(declare: Option<usize>, begin: Option<usize>) -> Section
     requires { declare_end declare < 2 ^ 63 }
     ensures { result ≡ section_of declare begin }
 {
-    match declare {
-        Some(d) => match begin {
-            Some(b) => if d + 7 <= b {
-                Section { from: d + 7, to: b }
-            } else {
-                Section { from: 0, to: 0 }
-            },
-            None => Section { from: 0, to: 0 },
-        },
-        None => Section { from: 0, to: 0 },
+    let (Some(d), Some(b)) = (declare, begin) else {
+        return Section { from: 0, to: 0 };
+    };
+    if d + 7 <= b {
+        Section { from: d + 7, to: b }
+    } else {
+        Section { from: 0, to: 0 }
     }
 }
 
@@ -249,11 +236,7 @@ pub fn body_start(text: &[u8], map: &[u8]) -> usize
     ensures text_value { drop result text.now ≡ body_from (first (keyword_here (ascii "BEGIN")) 0 (marked text.now map.now)) text.now }
     ensures upper_bound { result ≤ length text.now }
 {
-    let begin = find_keyword_in(text, map, b"BEGIN", 0);
-    let Some(b) = begin else {
-        return 0;
-    };
-    b
+    find_keyword_in(text, map, b"BEGIN", 0).unwrap_or(0)
 }
 
 // The records of a section's text.
@@ -270,13 +253,10 @@ fn parse_section(
     ensures value { result ≡ parsed_of (records_of_section (marked text.now map.now)) }
     ensures holds { Holds (records_of_section (marked text.now map.now)) declared.old declared.new records.old records.new }
 {
-    let count = gather(text, map, records);
-    if RECORD_LIMIT < count {
-        return Err(Refusal::TooManyNames);
-    }
+    let count = gather(text, map, records)?;
     link(text, records, count);
     let head = records[0];
-    put_numbers(records, 0, head, 0, 0, 0, 0, 0, 0, 0, 0, 0);
+    put_numbers(records, 0, [head, 0, 0, 0, 0, 0, 0, 0, 0, 0]);
     let bytes = write_records(text, declared, records, count);
     Ok(DeclaredSizes {
         records: count,
@@ -299,7 +279,5 @@ pub fn parse_declarations(
     ensures holds { Holds (records_in (marked text.now map.now)) declared.old declared.new records.old records.new }
 {
     let s = find_section(text, map);
-    let from = s.from;
-    let to = s.to;
-    parse_section(&text[from..to], &map[from..to], declared, records)
+    parse_section(&text[s.from..s.to], &map[s.from..s.to], declared, records)
 }

@@ -9,8 +9,10 @@ use lib.Seq.{length-take-le, take-take, drop-drop}
 use Rattle.spec.proofs.AheadLaws.{drop_take}
 use Rattle.spec.proofs.EndLaws.{drop_end_take}
 use Rattle.spec.proofs.WalkLaws.{while_drop}
+use Rattle.spec.specs.Bytes.{is_w}
 use Rattle.spec.specs.Lists.{take_while, drop_while, drop_end}
 use Rattle.spec.specs.Parts.{part}
+use Rattle.declared_parts.specs.DeclaredParts.{trimmed_place}
 
 -- a part of a text is not longer than the text
 pub piece_le : (xs : List ℕ) (a n : ℕ) → length (take n (drop a xs)) ≤ length xs
@@ -56,3 +58,10 @@ module _ {A : Type 0} (f : A → Bool) (xs : List A) (a b : ℕ) where
 
   pub ahead_of_end : a + end_len ≤ b → drop_end f (part a b xs) ≡ part a (a + end_len) xs
   ahead_of_end h = drop_end_take f (part a b xs) ∙ take_between xs a b end_len h
+
+-- the place of a default, by where it begins and ends
+pub place_by : (xs : List ℕ) (from to at end : ℕ) → at ≡ front_end is_w xs from to → end ≡ at + end_len is_w xs at to
+    → record { at = at; len = end - at } ≡ trimmed_place xs from to
+place_by xs from to at end p q =
+    let k : end - at ≡ end_len is_w xs at to = omega arith in
+    rw (k, p) refl

@@ -1,46 +1,31 @@
 -- Texts compared byte by byte. Assumes nothing.
-use mathlib.Core.Path.{◌≡◌, refl, sym, ap, ◌∙◌}
+use Rattle.std.specs.Cmp.Lexicographic.{pointwise}
+use Rattle.std.specs.Prelude.{nat_eq}
+use mathlib.Core.Path.{◌≡◌, refl, sym}
 use mathlib.Core.Bool.{Bool, true, false, ◌||◌}
 use mathlib.Core.List.{List, [], ◌∷◌}
-use Prim.Native.Nat.{ℕ, ◌+◌, ◌-◌, ◌≤◌, ◌<◌}
-use native.Mathlib.Numerals.{add-one}
+use Prim.Native.Nat.{ℕ, ◌+◌, ◌≤◌, ◌<◌}
 use native.Mathlib.Omega.{arith}
 use borrow.Author.Tests.{eq-eqb, ne_eqb, le-ltb, ltb-true, ltb-false}
 use lib.Dec.{ltb}
-use lib.ListN.{length, get_or, take, drop, take-append-drop, drop_of_length-le}
-use lib.Seq.{take-suc, drop-drop}
+use lib.ListN.{length, get_or, drop, drop_of_length-le}
 use Rattle.spec.proofs.AheadLaws.{drop_one}
 use Rattle.spec.proofs.Choice.{by}
-use Rattle.spec.proofs.NameOrder.{same_eq, eq_same}
+use Rattle.spec.proofs.NameOrder.{same_eq}
 use Rattle.spec.specs.Bytes.{is_same, is_before}
 
--- ---- the same bytes, from both ends
+-- ---- the same bytes
 
-module _ (x y : List ℕ) where
-  pub same_end : length x ≡ length y → drop (length x) x ≡ drop (length x) y
-  same_end h =
-      let a : length x ≤ length x = omega arith in
-      let b : length y ≤ length x = omega arith in
-      drop_of_length-le x a ∙ sym (drop_of_length-le y b)
+pub not_same : (x y : List ℕ) → (x ≡ y → ⊥) → false ≡ is_same x y
+not_same x y n = by (is_same x y) (λ e. absurd (n (same_eq x y e))) (λ e. sym e)
 
-  module _ (l : length x ≡ length y) (i : ℕ) (h : i < length x) (e : get_or x i 0 ≡ get_or y i 0) where
-    -- one byte more at the front
-    pub front_step : take i x ≡ take i y → take (i + 1) x ≡ take (i + 1) y
-    front_step r = rw (add-one i, take-suc x i 0 h, take-suc y i 0 (omega arith), e, r) refl
-
-    -- one byte more at the end
-    pub end_step : (j : ℕ) → i + 1 ≡ j → drop j x ≡ drop j y → drop i x ≡ drop i y
-    end_step j z r = rw (drop_one x i 0 h, drop_one y i 0 (omega arith), z, e, r) refl
-
-  -- a front and an end that meet
-  pub same_all : (i j : ℕ) → j ≤ i → take i x ≡ take i y → drop j x ≡ drop j y → true ≡ is_same x y
-  same_all i j h f r =
-      let z : j + (i - j) ≡ i = omega arith in
-      let d : drop i x ≡ drop i y = rw z at (sym (drop-drop (i - j) j x) ∙ ap (drop (i - j)) r ∙ drop-drop (i - j) j y) in
-      sym (eq_same x y (sym (take-append-drop i x) ∙ rw (f, d) (take-append-drop i y)))
-
-  pub not_same : (x ≡ y → ⊥) → false ≡ is_same x y
-  not_same n = by (is_same x y) (λ e. absurd (n (same_eq x y e))) (λ e. sym e)
+-- the library's equality
+pub same_of_library : (x y : List ℕ) → is_same x y ≡ pointwise nat_eq x y
+unfolding is_same
+same_of_library [] [] = refl
+same_of_library [] (b ∷ y) = refl
+same_of_library (a ∷ x) [] = refl
+same_of_library (a ∷ x) (b ∷ y) = rw (same_of_library x y) refl
 
 -- ---- byte order, from an index on
 

@@ -17,14 +17,14 @@ use Rattle.spec.specs.Declarations.{is_lone, equals_here, default_here, key_leng
 use Rattle.spec.proofs.Choice.{by, or_second}
 use Rattle.spec.proofs.AssignTargets.{assign_says}
 use Rattle.spec.proofs.DefaultLaws.{IsDefaultKey, assign, equals, word, equals_says, key_sound, key_complete, key_length_lem}
-use Rattle.spec.proofs.FirstLaws.{first_least}
+use Rattle.spec.proofs.FirstLaws.{apart, first_least}
 use Rattle.spec.proofs.MapLaws.{marked_bytes, marked_length}
 use Rattle.spec.proofs.MarkingWords.{word_says}
 use Rattle.spec.proofs.RefusalBounds.{bytes_length}
 use Rattle.spec.proofs.RunPlaces.{byte_inside, byte_behind}
 use Rattle.spec.proofs.WalkLaws.{passes_at, front_live_lem, first_end, first_hit, first_miss}
 use Rattle.scanner.proofs.NeedleLaws.{needle_at}
-use Rattle.declared_parts.specs.DeclaredParts.{starts_key, key_at, cut_of, cut_in}
+use Rattle.declared_parts.specs.DeclaredParts.{starts_key, key_at, cut_of, cut_in, Fits}
 use Rattle.declared_parts.specs.declared.Cut.{Cut}
 
 -- ---- a lone `=` at i
@@ -67,32 +67,27 @@ module _ (t : List Marked) (i : ℕ) where
       or_second (eqb b 58) _ (or_second (eqb b 61) _ (eq-eqb (upper b) 68 d))
 
   -- a key of n bytes stands there; or none does
-  key_stands : (n : ℕ) → IsDefaultKey t i n → (n ≡ key_at t i) × (i + n ≤ length t)
+  key_stands : (n : ℕ) → IsDefaultKey t i n → (Some n ≡ key_at t i) × (i + n ≤ length t)
   unfolding key_at
-  key_stands n k = (rw (key_complete t i n k) (sym (key_length_lem t i n k)), key_fits n k)
+  key_stands n k = (rw (key_complete t i n k) (ap Some (sym (key_length_lem t i n k))), key_fits n k)
 
-  key_missing : passes_at default_here t i ≡ false → 0 ≡ key_at t i
+  key_missing : passes_at default_here t i ≡ false → None ≡ key_at t i
   unfolding key_at
   key_missing e = rw e refl
 
-  -- the search at i, by how many bytes of a key stand there
-  pub search_goes_on : key_at t i ≡ 0 → i < length t → first default_here i t ≡ first default_here (i + 1) t
-  search_goes_on z h = by (passes_at default_here t i) (λ e. absurd (none (key_sound t i e))) (first_miss default_here t i h)
-    where
-      none : (n : ℕ) × IsDefaultKey t i n → ⊥
-      none (n, k) = some_bytes n k ((key_stands n k).0 ∙ z)
-        where
-          some_bytes : (n : ℕ) → IsDefaultKey t i n → n ≡ 0 → ⊥
-          some_bytes _ (assign r) e = omega arith
-          some_bytes _ (equals r) e = omega arith
-          some_bytes _ (word r) e = omega arith
-
-  search_stops : (n : ℕ) → n ≡ key_at t i → (n ≡ 0 → ⊥) → i < length t → (first default_here i t ≡ Some i) × (n ≡ key_length (drop i t))
-  unfolding key_at
-  search_stops n e z h =
+  -- the search at i, by the key that stands there
+  pub search_goes_on : None ≡ key_at t i → i < length t → first default_here i t ≡ first default_here (i + 1) t
+  search_goes_on z h =
       by (passes_at default_here t i)
-      (λ p. (first_hit default_here t i h p, (rw p at e)))
-      (λ p. absurd (z (rw p at e)))
+      (λ e. let k = key_sound t i e in apart (key_at t i) k.0 (sym (key_stands k.0 k.1).0) (sym z))
+      (first_miss default_here t i h)
+
+  search_stops : (n : ℕ) → Some n ≡ key_at t i → i < length t → (first default_here i t ≡ Some i) × (n ≡ key_length (drop i t))
+  unfolding key_at
+  search_stops n e h =
+      by (passes_at default_here t i)
+      (λ p. let s : Some n ≡ Some (key_length (drop i t)) = rw p at e in (first_hit default_here t i h p, cc))
+      (λ p. let s : Some n ≡ None = rw p at e in apart (Some n) n refl s)
 
 -- ---- the same by the bytes and the map
 
@@ -100,17 +95,17 @@ module _ (xs ms : List ℕ) (i : ℕ) (h : i < length xs) where
   abbrev t : List Marked
   t = marked xs ms
 
-  -- how many bytes of a key stand there, within the text
-  abbrev Tells : ℕ → Type 0
-  Tells n = (n ≡ key_at t i) × (i + n ≤ length xs)
+  -- the key that stands there
+  abbrev Tells : Option ℕ → Type 0
+  Tells o = o ≡ key_at t i
 
-  stands : (n : ℕ) → IsDefaultKey t i n → Tells n
-  stands n k = let s = key_stands t i n k in (s.0, omega (arith, s.1, marked_length xs ms))
+  stands : (n : ℕ) → IsDefaultKey t i n → Tells (Some n)
+  stands n k = (key_stands t i n k).0
 
-  missing : passes_at default_here t i ≡ false → Tells 0
-  missing e = (key_missing t i e, omega arith)
+  missing : passes_at default_here t i ≡ false → Tells None
+  missing e = key_missing t i e
 
-  pub key_other : starts_key (get_or xs i 0) ≡ false → Tells 0
+  pub key_other : starts_key (get_or xs i 0) ≡ false → Tells None
   key_other q =
       missing
       (by (passes_at default_here t i)
@@ -122,7 +117,7 @@ module _ (xs ms : List ℕ) (i : ℕ) (h : i < length xs) where
 
   -- m is the map byte at i
   module _ (m : ℕ) (e : m ≡ get_or ms i 0) where
-    pub key_quoted : (m ≡ 0 → ⊥) → Tells 0
+    pub key_quoted : (m ≡ 0 → ⊥) → Tells None
     unfolding default_here assign_here needle_here equals_here keyword_here word_here
     key_quoted z = missing (simp (front_live_lem xs ms i h ∙ ne_eqb (get_or ms i 0) 0 (λ q. z (e ∙ q))))
 
@@ -138,40 +133,49 @@ module _ (xs ms : List ℕ) (i : ℕ) (h : i < length xs) where
       unfolding equals_here
       equals_tested = simp is_live_lem
 
-      pub key_assign : is_prefix (ascii ":=") (drop i xs) ≡ true → Tells 2
+      pub key_assign : is_prefix (ascii ":=") (drop i xs) ≡ true → Tells (Some 2)
       key_assign q = stands 2 (assign ((assign_says t i).0 (assign_tested ∙ q)))
 
-      pub key_equals : passes_at is_lone t i ≡ true → Tells 1
+      pub key_equals : passes_at is_lone t i ≡ true → Tells (Some 1)
       key_equals q = stands 1 (equals ((equals_says t i).0 (equals_tested ∙ q)))
 
-      pub key_word : passes_at (keyword_here (ascii "DEFAULT")) t i ≡ true → Tells 7
+      pub key_word : passes_at (keyword_here (ascii "DEFAULT")) t i ≡ true → Tells (Some 7)
       unfolding keyword_here
       key_word q = stands 7 (word ((word_says t (ascii "DEFAULT") i).0 q))
 
-      pub key_none : is_prefix (ascii ":=") (drop i xs) ≡ false → passes_at is_lone t i ≡ false → passes_at (keyword_here (ascii "DEFAULT")) t i ≡ false → Tells 0
+      pub key_none : is_prefix (ascii ":=") (drop i xs) ≡ false → passes_at is_lone t i ≡ false → passes_at (keyword_here (ascii "DEFAULT")) t i ≡ false → Tells None
       unfolding default_here
       key_none a b c = missing (simp (assign_tested ∙ a, equals_tested ∙ b, c))
+
+-- a key stands within the text
+pub key_within : (xs ms : List ℕ) (i n : ℕ) → Some n ≡ key_at (marked xs ms) i → i < length xs → i + n ≤ length xs
+key_within xs ms i n e h =
+    let t = marked xs ms in
+    let l = marked_length xs ms in
+    by (passes_at default_here t i)
+    (λ p.
+    let k = key_sound t i p in
+    let s = key_stands t i k.0 k.1 in
+    let q : Some n ≡ Some k.0 = e ∙ sym s.0 in
+    let z : n ≡ k.0 = cc in
+    omega (arith, s.1, l))
+    (λ p. apart (Some n) n refl (e ∙ sym (key_missing t i p)))
 
 -- ---- the cut
 
 -- a search that stops at i, and one that ends
 module _ (t : List Marked) (i : ℕ) (s : first default_here 0 t ≡ first default_here i t) where
-  pub cut_behind : (n : ℕ) → n ≡ key_at t i → (n ≡ 0 → ⊥) → i < length t → record { head = i; rest = i + n; present = 1 } ≡ cut_in t
+  pub cut_behind : (n : ℕ) → Some n ≡ key_at t i → i < length t → record { head = i; rest = Some (i + n) } ≡ cut_in t
   unfolding cut_in
-  cut_behind n e z h =
-      let p = search_stops t i n e z h in
+  cut_behind n e h =
+      let p = search_stops t i n e h in
       rw (s ∙ p.0, p.1) refl
 
-  pub cut_none : i ≡ length t → record { head = i; rest = i; present = 0 } ≡ cut_in t
+  pub cut_none : i ≡ length t → record { head = i; rest = None } ≡ cut_in t
   unfolding cut_in
   cut_none h = rw (s ∙ first_end default_here t i (omega arith), h) refl
 
 -- its two parts stand within the text
-pub record Fits (c : Cut) (n : ℕ) : Type 0 where
-  pub ordered : c.head ≤ c.rest
-  pub within : c.rest ≤ n
-  pub flag : c.present ≤ 1
-
 pub cut_fits : (t : List Marked) → Fits (cut_in t) (length t)
 unfolding cut_in
 cut_fits t = go (first default_here 0 t) refl
@@ -180,12 +184,21 @@ cut_fits t = go (first default_here 0 t) refl
     go (Some i) e =
         let k = key_sound t i (first_least default_here t 0 i e).passes in
         let n = key_length_lem t i k.0 k.1 in
-        record { ordered = omega arith; within = omega (arith, n, key_fits t i k.0 k.1); flag = omega arith }
-    go None e = record { ordered = omega arith; within = omega arith; flag = omega arith }
+        let l = key_fits t i k.0 k.1 in
+        record {
+          head = omega (arith, l);
+          ordered = λ r q. let z : i + key_length (drop i t) ≡ r = cc in omega arith;
+          within = λ r q. let z : i + key_length (drop i t) ≡ r = cc in omega (arith, n, l);
+        }
+    go None e =
+        record {
+          head = omega arith;
+          ordered = λ r q. apart None r q refl;
+          within = λ r q. apart None r q refl;
+        }
 
 -- so is a cut that is the definition's
-pub cut_tells : (xs ms : List ℕ) (c : Cut) → c ≡ cut_in (marked xs ms) → (c ≡ cut_in (marked xs ms)) × ((c.head ≤ c.rest) × (c.rest ≤ length xs) × (c.present ≤ 1))
+pub cut_tells : (xs ms : List ℕ) (c : Cut) → c ≡ cut_in (marked xs ms) → Fits c (length xs)
 cut_tells xs ms c e =
     let f = cut_fits (marked xs ms) in
-    let n = marked_length xs ms in
-    (e, (rw e f.ordered, rw (e, ← n) f.within, rw e f.flag))
+    rw (e, ← marked_length xs ms) f

@@ -1,23 +1,24 @@
 -- What a part declares, by the places that are read in its text. Assumes nothing.
-use Rattle.std.specs.Prelude.{Option, Some, None}
+use Rattle.std.specs.Prelude.{Option, Some, None, is_some}
 use mathlib.Core.Path.{◌≡◌, refl, sym, ap, ◌∙◌}
-use mathlib.Core.Bool.{Bool}
+use mathlib.Core.Bool.{Bool, true, false}
 use mathlib.Core.List.{List}
 use Prim.Native.Nat.{ℕ, ◌+◌, ◌-◌, ◌≤◌}
 use native.Mathlib.Omega.{arith}
 use lib.ListN.{length, take, drop}
 use lib.Seq.{take_all}
 use Rattle.spec.proofs.BytesLaws.{while_length_bytes, end_length_bytes}
+use Rattle.spec.proofs.ListLaws.{drop_end_le}
 use Rattle.spec.proofs.PartLaws.{marked_part, bytes_part}
 use Rattle.spec.proofs.RefusalBounds.{bytes_length}
-use Rattle.spec.proofs.WalkLaws.{while_take}
+use Rattle.spec.proofs.WalkLaws.{while_take, while_length}
 use Rattle.spec.specs.Bytes.{is_w}
 use Rattle.spec.specs.Lists.{take_while, drop_while, drop_end}
 use Rattle.spec.specs.Map.{Marked, bytes, marked, of_byte}
 use Rattle.spec.specs.Search.{first}
 use Rattle.spec.specs.Parts.{trim, trim_end, part}
-use Rattle.spec.specs.Declarations.{words, declared_of, default_here, part_at, declaration}
-use Rattle.declared_parts.specs.DeclaredParts.{not_w, cut_of, cut_in, type_in, value_of, default_by, declared_by, part_numbers, read_of}
+use Rattle.spec.specs.Declarations.{requoted_default, words, declared_of, default_here, part_at, declaration, one_if}
+use Rattle.declared_parts.specs.DeclaredParts.{not_w, is_set, cut_of, cut_in, type_in, value_place, value_of, default_by, declared_by, place_or, part_numbers, read_of}
 use Rattle.declared_parts.specs.declared.Cut.{Cut}
 use Rattle.declared_parts.specs.declared.DeclarationPlaces.{DeclarationPlaces}
 use Rattle.declared_parts.specs.declared.TypePlaces.{TypePlaces}
@@ -69,14 +70,19 @@ trimmed xs ms a b s e p q h =
 
 -- ---- one part
 
+-- the default that begins there
+abbrev pub default_behind : Option ℕ → List Marked → Option (List ℕ)
+default_behind (Some r) t = Some (requoted_default (bytes (trim (drop r t))))
+default_behind None t = None
+
 cut_part : (f : Option ℕ) (t : List Marked)
-    → part_at f t ≡ declared_of (words (take (cut_of f t).head t)) (value_of (cut_of f t).present (bytes (trim (drop (cut_of f t).rest t))))
+    → part_at f t ≡ declared_of (words (take (cut_of f t).head t)) (default_behind (cut_of f t).rest t)
 unfolding part_at
 cut_part (Some i) t = refl
 cut_part None t = rw (take_all (length t) t (omega arith)) refl
 
 pub cut_declaration : (part t : List Marked) (c : Cut) → trim part ≡ t → c ≡ cut_in t
-    → declaration part ≡ declared_of (words (take c.head t)) (value_of c.present (bytes (trim (drop c.rest t))))
+    → declaration part ≡ declared_of (words (take c.head t)) (default_behind c.rest t)
 unfolding declaration cut_in
 cut_declaration part t c e k = rw (e, k) (cut_part (first default_here 0 t) t)
 
@@ -87,18 +93,16 @@ pub record Places (xs : List ℕ) (from to start end : ℕ) (c : Cut) (k : TypeP
   pub inside : end ≤ to
   pub within : to ≤ length xs
   pub ordered : start + c.head ≤ end
-  pub name : p.name ≡ front_end is_w xs start (start + c.head)
-  pub name_end : p.name + p.name_len ≡ front_end not_w xs p.name (start + c.head)
-  pub name_inside : p.name + p.name_len ≤ start + c.head
-  pub typed : k ≡ type_in (part (p.name + p.name_len) (start + c.head) xs)
-  pub kind : p.kind ≡ p.name + p.name_len + k.from
-  pub kind_len : p.kind_len ≡ k.to - k.from
+  pub name : p.name.at ≡ front_end is_w xs start (start + c.head)
+  pub name_end : p.name.at + p.name.len ≡ front_end not_w xs p.name.at (start + c.head)
+  pub name_inside : p.name.at + p.name.len ≤ start + c.head
+  pub typed : k ≡ type_in (part (p.name.at + p.name.len) (start + c.head) xs)
+  pub kind : p.kind.at ≡ p.name.at + p.name.len + k.from
+  pub kind_len : p.kind.len ≡ k.to - k.from
   pub constant : p.constant ≡ k.constant
   pub not_null : p.not_null ≡ k.not_null
-  pub present : p.present ≡ c.present
-  pub value : p.value ≡ front_end is_w xs (start + c.rest) end
-  pub value_end : p.value + p.value_len ≡ p.value + end_len is_w xs p.value end
-  pub value_inside : p.value + p.value_len ≤ end
+  pub value : p.value ≡ value_place xs start end c.rest
+  pub value_inside : (r : ℕ) → c.rest ≡ Some r → start + r ≤ end
 
 -- a part of the text between two places
 piece_between : (xs : List ℕ) (a b i j : ℕ) → a ≤ b → b ≤ length xs → i ≤ j → j ≤ length (part a b xs) → part i j (part a b xs) ≡ take (j - i) (drop (a + i) xs)
@@ -106,6 +110,34 @@ piece_between xs a b i j h l o w =
     let n = between_length xs a b h l in
     let k : a + i + (j - i) - (a + i) ≡ j - i = omega arith in
     ap (take (j - i)) (drop_between xs a b i) ∙ (take_between xs (a + i) b (j - i) (omega arith) ∙ rw k refl)
+
+-- the default, by the place that is read of it
+module _ (xs ms : List ℕ) (start end : ℕ) (within : end ≤ length xs) where
+  -- it ends within the part
+  place_ends : (a : ℕ) → a ≤ end → front_end is_w xs a end + end_len is_w xs (front_end is_w xs a end) end ≤ end
+  place_ends a h =
+      let at = front_end is_w xs a end in
+      let f : at ≤ end = omega (arith, while_length is_w (part a end xs), between_length xs a end h within) in
+      omega (arith, drop_end_le is_w (part at end xs), between_length xs at end f within)
+
+  pub default_read : (o : Option ℕ) → ((r : ℕ) → o ≡ Some r → start + r ≤ end)
+      → value_of (is_set (one_if (is_some (value_place xs start end o)))) (take (place_or (value_place xs start end o)).len (drop (place_or (value_place xs start end o)).at xs))
+      ≡ default_behind o (part start end (marked xs ms))
+  default_read None h = refl
+  default_read (Some r) h =
+      let m = marked xs ms in
+      let at = front_end is_w xs (start + r) end in
+      let len = end_len is_w xs at end in
+      let i : at + len - at ≡ len = omega arith in
+      let trimmed_there = trimmed xs ms (start + r) end at (at + len) refl refl (place_ends (start + r) (h r refl)) in
+      let z : bytes (trim (drop r (part start end m))) ≡ take len (drop at xs) =
+      ap (λ u. bytes (trim u)) (drop_between m start end r)
+      ∙ (ap bytes trimmed_there ∙ (bytes_between xs ms at (at + len) ∙ ap (λ k. take k (drop at xs)) i)) in
+      ap (λ u. Some (requoted_default u)) (sym z)
+
+set_one : (b : Bool) → is_set (one_if b) ≡ b
+set_one true = refl
+set_one false = refl
 
 -- what a part declares
 pub part_read : (xs ms : List ℕ) (from to start end : ℕ) (c : Cut) (k : TypePlaces) (p : DeclarationPlaces) → Places xs from to start end c k p
@@ -116,27 +148,24 @@ part_read xs ms from to start end c k p l cut =
     let m = marked xs ms in
     let t = part start end m in
     let head = start + c.head in
-    let name_end = p.name + p.name_len in
+    let name_end = p.name.at + p.name.len in
     let rest = part name_end head m in
-    let o = value_of c.present (bytes (trim (drop c.rest t))) in
-    let i₁ : name_end - p.name ≡ p.name_len = omega arith in
-    let i₂ : p.value + p.value_len - p.value ≡ p.value_len = omega arith in
+    let o = default_behind c.rest t in
+    let i : name_end - p.name.at ≡ p.name.len = omega arith in
     let h : take c.head t ≡ part start head m = take_between m start end c.head l.ordered in
-    let v : part p.name head m ≡ drop_while space (part start head m) = rw l.name (sym (skipped xs ms start head is_w)) in
-    let r : rest ≡ drop_while in_word (part p.name head m) = rw l.name_end (sym (skipped xs ms p.name head not_w)) in
+    let v : part p.name.at head m ≡ drop_while space (part start head m) = rw l.name (sym (skipped xs ms start head is_w)) in
+    let r : rest ≡ drop_while in_word (part p.name.at head m) = rw l.name_end (sym (skipped xs ms p.name.at head not_w)) in
     let b : bytes rest ≡ part name_end head xs = bytes_between xs ms name_end head in
     let q : type_in (bytes rest) ≡ k = ap type_in b ∙ sym l.typed in
     let w = rw q at (type_read rest) in
-    let n : bytes (take_while in_word (part p.name head m)) ≡ take p.name_len (drop p.name xs) =
-    front_text xs ms p.name head not_w name_end l.name_end l.name_inside ∙ ap (λ i. take i (drop p.name xs)) i₁ in
+    let n : bytes (take_while in_word (part p.name.at head m)) ≡ take p.name.len (drop p.name.at xs) =
+    front_text xs ms p.name.at head not_w name_end l.name_end l.name_inside ∙ ap (λ i. take i (drop p.name.at xs)) i in
     let y : part k.from k.to (part name_end head xs) ≡ take (k.to - k.from) (drop (name_end + k.from) xs) =
     piece_between xs name_end head k.from k.to l.name_inside (omega (arith, l.within, l.inside, l.ordered)) w.ordered
     (omega (arith, w.within, bytes_length rest, ap length b)) in
-    let z : bytes (trim (drop c.rest t)) ≡ take p.value_len (drop p.value xs) =
-    ap (λ u. bytes (trim u)) (drop_between m start end c.rest)
-    ∙ (ap bytes (trimmed xs ms (start + c.rest) end p.value (p.value + p.value_len) l.value l.value_end l.value_inside)
-    ∙ (bytes_between xs ms p.value (p.value + p.value_len) ∙ ap (λ i. take i (drop p.value xs)) i₂)) in
+    let d : value_of (is_set (one_if (is_some p.value))) (take (place_or p.value).len (drop (place_or p.value).at xs)) ≡ o =
+    rw l.value (default_read xs ms start end (omega (arith, l.within, l.inside)) c.rest l.value_inside) in
     cut_declaration (part from to m) t c (trimmed xs ms from to start end l.starts l.ends l.inside) (cut ∙ ap cut_in (marked_between xs ms start end))
     ∙ (ap (λ u. declared_of (words u) o) h
-    ∙ (declared_words o (part start head m) (part p.name head m) rest v r
-    ∙ rw (q, n, b, y, z, l.kind, l.kind_len, l.present, l.constant, l.not_null) refl))
+    ∙ (declared_words o (part start head m) (part p.name.at head m) rest v r
+    ∙ rw (q, n, b, y, l.kind, l.kind_len, d, l.constant, l.not_null, set_one k.constant, set_one k.not_null) refl))

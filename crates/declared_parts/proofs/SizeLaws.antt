@@ -10,21 +10,34 @@ use lib.ListN.{length, take, drop, length-append, length-drop}
 use lib.Seq.{length-take-le}
 use Rattle.spec.proofs.RefusalBounds.{bytes_length}
 use Rattle.spec.proofs.RequotedLength.{long_quoted, doubled_le}
-use Rattle.spec.proofs.Choice.{by, cond_case, made_some}
+use Rattle.spec.proofs.Choice.{by, made_some}
 use Rattle.spec.proofs.LengthLaws.{trim_le}
 use Rattle.spec.proofs.ListLaws.{while_sum, drop_while_le}
 use Rattle.spec.specs.Lists.{take_while, drop_while}
 use Rattle.spec.specs.Map.{Marked, bytes}
 use Rattle.spec.specs.Parts.{trim, part}
 use Rattle.spec.specs.Declarations.{Declared, delimiter_of, requoted_default, words, declared_of, declaration, text_or, packed_record}
-use Rattle.declared_parts.specs.DeclaredParts.{cut_in, type_in, value_of, is_whole, spaced}
+use Rattle.declared_parts.specs.DeclaredParts.{cut_in, type_in, Fits, is_whole, spaced}
+use Rattle.declared_parts.specs.declared.Cut.{Cut}
 use Rattle.declared_parts.proofs.BetweenLaws.{piece_le}
 use Rattle.declared_parts.proofs.DefaultCutLaws.{cut_fits}
-use Rattle.declared_parts.proofs.ReadLaws.{cut_declaration}
+use Rattle.declared_parts.proofs.ReadLaws.{default_behind, cut_declaration}
 use Rattle.declared_parts.proofs.SpacedLaws.{spaced_le}
 use Rattle.declared_parts.proofs.WholeLaws.{delimiter_length, whole_long, whole_text, other_text}
 use Rattle.declared_parts.proofs.WordsLaws.{space, in_word}
 use Rattle.declared_parts.proofs.TypeLaws.{declared_at, declared_words}
+
+-- where a default begins, else the end
+abbrev rest_or : ℕ → Option ℕ → ℕ
+rest_or n (Some r) = r
+rest_or n None = n
+
+rest_behind : (c : Cut) (n : ℕ) → Fits c n → c.head ≤ rest_or n c.rest
+rest_behind c n f = go c.rest refl
+  where
+    go : (o : Option ℕ) → c.rest ≡ o → c.head ≤ rest_or n o
+    go (Some r) e = f.ordered r e
+    go None e = f.head
 
 requoted_le : (xs : List ℕ) → length (requoted_default xs) ≤ 2 * length xs
 requoted_le xs =
@@ -43,10 +56,11 @@ requoted_le xs =
     ))
     (λ e. omega (arith, ap length (other_text xs n refl e)))
 
-value_le : (p : ℕ) (t : List Marked) → length (text_or (value_of p (bytes t))) ≤ 2 * length t
-value_le p t =
-    cond_case (λ o. length (text_or o) ≤ 2 * length t) (eqb p 0) None (Some (requoted_default (bytes t)))
-    (λ _. zero-le) (λ _. omega (arith, requoted_le (bytes t), bytes_length t))
+value_le : (o : Option ℕ) (t : List Marked) → length (text_or (default_behind o t)) ≤ 2 * (length t - rest_or (length t) o)
+value_le None t = zero-le
+value_le (Some r) t =
+    let u = trim (drop r t) in
+    omega (arith, requoted_le (bytes u), bytes_length u, trim_le (drop r t), length-drop r t)
 
 -- the name and the type stand in the words' text
 record Short (n : ℕ) (o : Option (List ℕ)) (d : Declared) : Type 0 where
@@ -79,18 +93,15 @@ packed_part part d h =
     let t = trim part in
     let c = cut_in t in
     let f = cut_fits t in
-    let rest = trim (drop c.rest t) in
-    let s = words_le (take c.head t) (value_of c.present (bytes rest)) d (sym (cut_declaration part t c refl refl) ∙ h) in
+    let s = words_le (take c.head t) (default_behind c.rest t) d (sym (cut_declaration part t c refl refl) ∙ h) in
     omega (
       arith,
-      f.ordered,
-      f.within,
+      f.head,
+      rest_behind c (length t) f,
       s.front,
       ap (λ o. length (text_or o)) s.default,
-      value_le c.present rest,
-      trim_le (drop c.rest t),
-      length-drop c.rest t,
-      length-take-le c.head t (omega (arith, f.ordered, f.within)),
+      value_le c.rest t,
+      length-take-le c.head t f.head,
       trim_le part,
       length-append d.name (d.type ++ text_or d.default),
       length-append d.type (text_or d.default),

@@ -1,7 +1,7 @@
 -- The type in a text behind a name, by its places, and what a text's words declare. Assumes nothing.
 use Rattle.std.specs.Prelude.{Option, Some, None}
 use mathlib.Core.Path.{◌≡◌, refl, sym, ap, ◌∙◌}
-use mathlib.Core.Bool.{Bool, true, false, cond, not}
+use mathlib.Core.Bool.{false, cond, not}
 use mathlib.Core.List.{List, [], ◌∷◌}
 use Prim.Native.Nat.{ℕ, zero, suc, ◌+◌, ◌-◌, ◌≤◌}
 use native.Mathlib.Omega.{arith}
@@ -18,8 +18,8 @@ use Rattle.spec.specs.Bytes.{is_w}
 use Rattle.spec.specs.Lists.{is_empty, take_while, drop_while}
 use Rattle.spec.specs.Map.{Marked, bytes}
 use Rattle.spec.specs.Parts.{part}
-use Rattle.spec.specs.Declarations.{Declared, words, join_words, is_constant, is_not_null, behind_constant, ahead_of_not_null, declared_of, one_if}
-use Rattle.declared_parts.specs.DeclaredParts.{is_set, constant_len, type_len, type_in, spaced}
+use Rattle.spec.specs.Declarations.{Declared, words, join_words, is_constant, is_not_null, behind_constant, ahead_of_not_null, declared_of}
+use Rattle.declared_parts.specs.DeclaredParts.{constant_len, type_len, type_in, spaced}
 use Rattle.declared_parts.specs.declared.TypePlaces.{TypePlaces}
 use Rattle.declared_parts.proofs.ConstantPlaces.{ConstantRead, constant_read, skip_twice}
 use Rattle.declared_parts.proofs.NotNullPlaces.{NotNullRead, not_null_read}
@@ -31,14 +31,10 @@ no_front zero v h = refl
 no_front (suc k) [] h = refl
 no_front (suc k) (x ∷ v) h = by (space x) (λ e. absurd (shorter x v (rw e at h))) (λ e. rw e refl)
 
-set_one : (b : Bool) → is_set (one_if b) ≡ b
-set_one true = refl
-set_one false = refl
-
 -- the places p are those of the type in r
 pub record TypeRead (r : List Marked) (p : TypePlaces) : Type 0 where
-  pub constant : is_constant (words r) ≡ is_set p.constant
-  pub not_null : is_not_null (behind_constant (words r)) ≡ is_set p.not_null
+  pub constant : is_constant (words r) ≡ p.constant
+  pub not_null : is_not_null (behind_constant (words r)) ≡ p.not_null
   pub type : join_words (ahead_of_not_null (behind_constant (words r))) ≡ spaced false (part p.from p.to (bytes r))
   pub empty : is_empty (ahead_of_not_null (behind_constant (words r))) ≡ eqb (p.to - p.from) 0
   pub ordered : p.from ≤ p.to
@@ -58,15 +54,15 @@ module _ (r : List Marked) (s f n : ℕ) (v : List Marked) (low : s ≤ length r
   plain : drop_while space (take n v) ≡ take n v
   plain = no_front n v (rw d at c.front)
 
-  places_read : TypeRead r record { from = s + f; to = s + f + n; constant = one_if (not (eqb f 0)); not_null = one_if (not (eqb n (length v))) }
+  places_read : TypeRead r record { from = s + f; to = s + f + n; constant = not (eqb f 0); not_null = not (eqb n (length v)) }
   places_read =
       let k : s + f + n - (s + f) ≡ n = omega arith in
       let b : take n (drop (s + f) (bytes r)) ≡ bytes (take n v) =
       sym (bytes_take n v ∙ ap (take n) (ap bytes (sym at_v) ∙ bytes_drop (s + f) r)) in
       let l : length (take n v) ≡ n = length-take-le n v m.within in
       record {
-        constant = ap is_constant (sym (words_skip r)) ∙ (c.mark ∙ sym (set_one (not (eqb f 0))));
-        not_null = ap is_not_null behind_words ∙ (m.mark ∙ sym (set_one (not (eqb n (length v)))));
+        constant = ap is_constant (sym (words_skip r)) ∙ c.mark;
+        not_null = ap is_not_null behind_words ∙ m.mark;
         type = ap join_words type_words_lem ∙ (joined_words (take n v) plain ∙ rw (k, b) refl);
         empty = ap is_empty type_words_lem ∙ (empty_words (take n v) plain ∙ (empty_length (take n v) ∙ rw (l, k) refl));
         ordered = omega arith;
@@ -99,8 +95,8 @@ declared_at o name xs p =
       name = name;
       type = spaced false (part p.from p.to xs);
       default = o;
-      constant = is_set p.constant;
-      not_null = is_set p.not_null;
+      constant = p.constant;
+      not_null = p.not_null;
     })
 
 no_name : (o : Option (List ℕ)) → declared_of [] o ≡ None

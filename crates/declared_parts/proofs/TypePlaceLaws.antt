@@ -1,8 +1,8 @@
 -- The places of CONSTANT and NOT NULL around a type's words, as the code reads them. Assumes nothing.
 use mathlib.Core.Path.{◌≡◌, refl, sym, ap, ◌∙◌}
-use mathlib.Core.Bool.{Bool, true, false, cond, not, ◌&&◌}
+use mathlib.Core.Bool.{true, false, not}
 use mathlib.Core.List.{List}
-use Prim.Native.Nat.{ℕ, ◌+◌, ◌-◌, ◌≤◌}
+use Prim.Native.Nat.{ℕ, ◌+◌, ◌-◌}
 use native.Mathlib.Omega.{arith}
 use lib.Dec.{eqb}
 use lib.ListN.{length, take, drop, length-drop}
@@ -11,22 +11,22 @@ use Rattle.spec.proofs.AheadLaws.{rest_of}
 use Rattle.spec.specs.Bytes.{ascii, is_w}
 use Rattle.spec.specs.Lists.{take_while, drop_end}
 use Rattle.spec.specs.Parts.{part}
-use Rattle.spec.specs.Declarations.{one_if}
 use Rattle.declared_parts.specs.DeclaredParts.{not_w, is_text, constant_len, last_word, ends_in, type_len, type_in}
 use Rattle.declared_parts.specs.declared.LastWord.{LastWord}
 
-pub one_if_le : (b : Bool) → one_if b ≤ 1
-one_if_le true = omega arith
-one_if_le false = omega arith
-
 module _ (xs : List ℕ) where
   -- the first word ends at n
-  pub constant_by : (n : ℕ) → n ≡ 0 + length (take_while not_w xs)
-      → constant_len xs ≡ cond (is_text (ascii "CONSTANT") (take n xs)) (n + length (take_while is_w (drop n xs))) 0
-  unfolding constant_len
-  constant_by n e =
-      let z : length (take_while not_w xs) ≡ n = omega arith in
-      rw z refl
+  module _ (n : ℕ) (e : n ≡ 0 + length (take_while not_w xs)) where
+    first_at : length (take_while not_w xs) ≡ n
+    first_at = omega arith
+
+    pub constant_stands : (m : ℕ) → m ≡ n + length (take_while is_w (drop n xs)) → true ≡ is_text (ascii "CONSTANT") (take n xs) → m ≡ constant_len xs
+    unfolding constant_len
+    constant_stands m h q = rw (first_at, ← q) h
+
+    pub constant_missing : false ≡ is_text (ascii "CONSTANT") (take n xs) → 0 ≡ constant_len xs
+    unfolding constant_len
+    constant_missing q = rw (first_at, ← q) refl
 
   -- the last word ends at b and starts at a
   pub last_by : (a b : ℕ) → b ≡ length (drop_end is_w (take (length xs) xs)) → a ≡ length (drop_end not_w (take b xs))
@@ -37,14 +37,19 @@ module _ (xs : List ℕ) where
       rw (z, sym h) refl
 
   -- the last word, and the last one ahead of it
-  pub type_by : (l m : LastWord) → l ≡ last_word xs → m ≡ last_word (take l.from xs)
-      → type_len xs
-      ≡ cond
-      (is_text (ascii "NULL") (part l.from l.to xs) && is_text (ascii "NOT") (part m.from m.to (take l.from xs)))
-      m.from
-      (length xs)
-  unfolding type_len ends_in
-  type_by l m e h = rw (h, e) refl
+  module _ (l : LastWord) (e : l ≡ last_word xs) where
+    pub null_missing : false ≡ is_text (ascii "NULL") (part l.from l.to xs) → length xs ≡ type_len xs
+    unfolding type_len ends_in
+    null_missing p = rw (← e, ← p) refl
+
+    module _ (m : LastWord) (h : m ≡ last_word (take l.from xs)) (p : true ≡ is_text (ascii "NULL") (part l.from l.to xs)) where
+      pub not_missing : false ≡ is_text (ascii "NOT") (part m.from m.to (take l.from xs)) → length xs ≡ type_len xs
+      unfolding type_len ends_in
+      not_missing q = rw (← e, ← p, ← h, ← q) refl
+
+      pub both_stand : true ≡ is_text (ascii "NOT") (part m.from m.to (take l.from xs)) → m.from ≡ type_len xs
+      unfolding type_len ends_in
+      both_stand q = rw (← e, ← p, ← h, ← q) refl
 
   -- the places by what the calls answered
   pub places_by : (start front n : ℕ) → start ≡ 0 + length (take_while is_w xs) → front ≡ constant_len (take (length xs - start) (drop start xs))
@@ -52,8 +57,8 @@ module _ (xs : List ℕ) where
       → record {
         from = start + front;
         to = start + front + n;
-        constant = one_if (not (eqb front 0));
-        not_null = one_if (not (eqb n (length xs - (start + front))));
+        constant = not (eqb front 0);
+        not_null = not (eqb n (length xs - (start + front)));
       }
       ≡ type_in xs
   unfolding type_in

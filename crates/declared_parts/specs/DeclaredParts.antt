@@ -1,11 +1,12 @@
 -- One part of the declarations by places in its text. Assumes nothing.
-use Rattle.std.specs.Prelude.{ℕ, ◌+◌, ◌-◌, ◌≤◌, Bool, true, false, cond, not, ◌&&◌, ◌||◌, List, [], ◌∷◌, reverse, eqb, leb, length, get_or, take, drop, Option, Some, None}
+use Rattle.std.specs.Prelude.{ℕ, ◌+◌, ◌-◌, ◌≤◌, Bool, true, false, cond, not, ◌&&◌, ◌||◌, List, [], ◌∷◌, reverse, eqb, leb, length, get_or, take, drop, Option, Some, None, is_some, ◌≡◌}
 use Rattle.spec.specs.Bytes.{ascii, is_w, upper, prefix_by, is_prefix, is_same}
 use Rattle.spec.specs.Lists.{take_while, drop_end}
 use Rattle.spec.specs.Parts.{part}
 use Rattle.spec.specs.Map.{Marked}
 use Rattle.spec.specs.Search.{first}
 use Rattle.spec.specs.Declarations.{Declared, requoted_default, default_here, key_length, one_if}
+use Rattle.declared_parts.specs.declared.Place.{Place}
 use Rattle.declared_parts.specs.declared.Cut.{Cut}
 use Rattle.declared_parts.specs.declared.LastWord.{LastWord}
 use Rattle.declared_parts.specs.declared.TypePlaces.{TypePlaces}
@@ -15,9 +16,9 @@ use Rattle.declared_parts.specs.declared.DeclarationPlaces.{DeclarationPlaces}
 unfoldable pub starts_key : ℕ → Bool
 starts_key b = eqb b 58 || (eqb b 61 || eqb (upper b) 68)
 
--- how many bytes of a default key stand at i, 0 if none does
-unfoldable pub key_at : List Marked → ℕ → ℕ
-key_at t i = cond (default_here (reverse (take i t)) (drop i t)) (key_length (drop i t)) 0
+-- how many bytes the default key at i has, if one stands there
+unfoldable pub key_at : List Marked → ℕ → Option ℕ
+key_at t i = cond (default_here (reverse (take i t)) (drop i t)) (Some (key_length (drop i t))) None
 
 -- the words of a text that does not start with W, joined by single spaces; g: W stood before
 unfoldable pub spaced : Bool → List ℕ → List ℕ
@@ -31,11 +32,27 @@ spaced g (c ∷ cs) =
 
 -- the default of t by the place of its key
 abbrev pub cut_of : Option ℕ → List Marked → Cut
-cut_of (Some i) t = record { head = i; rest = i + key_length (drop i t); present = 1 }
-cut_of None t = record { head = length t; rest = length t; present = 0 }
+cut_of (Some i) t = record { head = i; rest = Some (i + key_length (drop i t)) }
+cut_of None t = record { head = length t; rest = None }
 
 unfoldable pub cut_in : List Marked → Cut
 cut_in t = cut_of (first default_here 0 t) t
+
+-- its two parts stand within n bytes
+pub record Fits (c : Cut) (n : ℕ) : Type 0 where
+  pub head : c.head ≤ n
+  pub ordered : (r : ℕ) → c.rest ≡ Some r → c.head ≤ r
+  pub within : (r : ℕ) → c.rest ≡ Some r → r ≤ n
+
+-- where a default stands without W at both ends, which begins in the text xs at that place behind `from` and ends at `to`
+abbrev pub trimmed_place : List ℕ → ℕ → ℕ → Place
+trimmed_place xs from to =
+    let at = from + length (take_while is_w (part from to xs)) in
+    record { at = at; len = length (drop_end is_w (part at to xs)) }
+
+abbrev pub value_place : List ℕ → ℕ → ℕ → Option ℕ → Option Place
+value_place xs from to (Some r) = Some (trimmed_place xs (from + r) to)
+value_place xs from to None = None
 
 -- a mark is set if it is not 0
 abbrev pub is_set : ℕ → Bool
@@ -81,17 +98,17 @@ type_in xs =
     record {
       from = start + front;
       to = start + front + type_len rest;
-      constant = one_if (is_set front);
-      not_null = one_if (not (eqb (type_len rest) (length rest)));
+      constant = is_set front;
+      not_null = not (eqb (type_len rest) (length rest));
     }
 
--- a default that is there if the number is not 0
-abbrev pub value_of : ℕ → List ℕ → Option (List ℕ)
-value_of present text = cond (eqb present 0) None (Some (requoted_default text))
+-- a default, if one is there
+abbrev pub value_of : Bool → List ℕ → Option (List ℕ)
+value_of present text = cond present (Some (requoted_default text)) None
 
 -- ten numbers as of a record, but the places are those of the name, the type's words and the default in the text xs
 unfoldable pub default_by : List ℕ → List ℕ → Option (List ℕ)
-default_by xs ns = value_of (get_or ns 5 0) (take (get_or ns 7 0) (drop (get_or ns 6 0) xs))
+default_by xs ns = value_of (is_set (get_or ns 5 0)) (take (get_or ns 7 0) (drop (get_or ns 6 0) xs))
 
 unfoldable pub declared_by : List ℕ → List ℕ → Declared
 declared_by xs ns =
@@ -103,25 +120,41 @@ declared_by xs ns =
       not_null = is_set (get_or ns 9 0);
     }
 
+-- where a default stands, 0 and 0 if there is none
+abbrev pub place_or : Option Place → Place
+place_or None = record { at = 0; len = 0 }
+place_or (Some v) = v
+
 unfoldable pub part_numbers : DeclarationPlaces → List ℕ
 part_numbers p =
-    0 ∷ p.name ∷ p.name_len ∷ p.kind ∷ p.kind_len ∷ p.present ∷ p.value ∷ p.value_len ∷ p.constant ∷ p.not_null ∷ []
+    let v = place_or p.value in
+    0
+    ∷ p.name.at
+    ∷ p.name.len
+    ∷ p.kind.at
+    ∷ p.kind.len
+    ∷ one_if (is_some p.value)
+    ∷ v.at
+    ∷ v.len
+    ∷ one_if p.constant
+    ∷ one_if p.not_null
+    ∷ []
 
 -- what a part declares; without a type it declares nothing
 unfoldable pub read_of : List ℕ → DeclarationPlaces → Option Declared
-read_of xs p = cond (eqb p.kind_len 0) None (Some (declared_by xs (part_numbers p)))
+read_of xs p = cond (eqb p.kind.len 0) None (Some (declared_by xs (part_numbers p)))
 
--- its places and lengths are at most n, its marks and the default's flag at most 1
+-- a place and a length that are at most n, if there are any
+abbrev pub PlaceWithin : ℕ → Option Place → Type 0
+PlaceWithin n v = ((place_or v).at ≤ n) × ((place_or v).len ≤ n)
+
+-- its places and lengths are at most n
 pub record Within (n : ℕ) (p : DeclarationPlaces) : Type 0 where
-  pub name : p.name ≤ n
-  pub name_len : p.name_len ≤ n
-  pub kind : p.kind ≤ n
-  pub kind_len : p.kind_len ≤ n
-  pub present : p.present ≤ 1
-  pub value : p.value ≤ n
-  pub value_len : p.value_len ≤ n
-  pub constant : p.constant ≤ 1
-  pub not_null : p.not_null ≤ 1
+  pub name : p.name.at ≤ n
+  pub name_len : p.name.len ≤ n
+  pub kind : p.kind.at ≤ n
+  pub kind_len : p.kind.len ≤ n
+  pub value : PlaceWithin n p.value
 
 -- the text xs is wholly d, an inside, d
 unfoldable pub is_whole : List ℕ → List ℕ → Bool

@@ -1,61 +1,64 @@
 // One part of the declarations: where its name, its type's words and its default stand, and how they are written.
 #![tactic(auto)]
 
-ghost use Rattle.std.specs.Prelude.{◌≡◌, false, List, reverse, ◌+◌, ◌*◌, ◌^◌, ◌≤◌, ◌<◌, length, take, drop};
+ghost use Rattle.std.specs.Prelude.{◌≡◌, ℕ, false, List, Some, reverse, ◌+◌, ◌*◌, ◌^◌, ◌≤◌, ◌<◌, length, take, drop};
 ghost use Rattle.std.proofs.lemmas.List.Edits.{sets};
 ghost use Rattle.spec.specs.Bytes.{is_w, is_same, is_before};
 ghost use Rattle.spec.specs.Lists.{take_while, drop_end};
 ghost use Rattle.spec.specs.Map.{Marked, marked, bytes};
-ghost use Rattle.spec.specs.Declarations.{delimiter_of, requoted_default, is_lone, declaration, one_if};
+ghost use Rattle.spec.specs.Declarations.{delimiter_of, requoted_default, is_lone, declaration};
 ghost use Rattle.runs.specs.Sets.{in_set};
 ghost use Rattle.spec.specs.Parts.{part};
-ghost use Rattle.declared_parts.specs.DeclaredParts.{spaced, starts_key, key_at, cut_in, is_text, constant_len, last_word, type_len, type_in, read_of, Within, is_whole};
+ghost use Rattle.declared_parts.specs.DeclaredParts.{spaced, starts_key, key_at, cut_in, is_text, constant_len, last_word, type_len, type_in, Fits, value_place, PlaceWithin, read_of, Within, is_whole};
 
 use classes::{byte_at, is_w, lone_equals, starts_with, upper_of};
 use output::{put, put_all, put_single_quoted};
 use runs::{Set, run_end, run_start};
 use scanner::{keyword_at, starts_ignoring_case};
 
-// Where a part ends ahead of its default, where the default begins, and 1 if there is one, else 0.
+// Where a piece of a text begins, and how many bytes it has.
+#[derive(Clone, Copy)]
+pub struct Place {
+    pub at: usize,
+    pub len: usize,
+}
+
+// Where a part ends ahead of its default, and where the default begins, if there is one.
 #[derive(Clone, Copy)]
 pub struct Cut {
     pub head: usize,
-    pub rest: usize,
-    pub present: usize,
+    pub rest: Option<usize>,
 }
 
-// Where the last word of a text stands.
+// Where the last word of a text stands. No Range, which is not Copy, and no pair, which would name neither end.
 #[derive(Clone, Copy)]
 pub struct LastWord {
     pub from: usize,
     pub to: usize,
 }
 
-// Where the type's words stand, and 1 or 0 for CONSTANT ahead of them and for NOT NULL behind them.
+// Where the type's words stand, and whether CONSTANT stands ahead of them and NOT NULL behind them.
 #[derive(Clone, Copy)]
 pub struct TypePlaces {
     pub from: usize,
     pub to: usize,
-    pub constant: usize,
-    pub not_null: usize,
+    pub constant: bool,
+    pub not_null: bool,
 }
 
-// Places in a text: the name, the type's words, and the default if `present` is 1; then 1 or 0 for CONSTANT ahead of the
-// type and for NOT NULL behind it. A part that has no type declares nothing.
+// Places in a text: the name, the type's words, and the default, if there is one; then whether CONSTANT stands ahead of the
+// type and NOT NULL behind it. A part that has no type declares nothing.
 #[derive(Clone, Copy)]
 pub struct DeclarationPlaces {
-    pub name: usize,
-    pub name_len: usize,
-    pub kind: usize,
-    pub kind_len: usize,
-    pub present: usize,
-    pub value: usize,
-    pub value_len: usize,
-    pub constant: usize,
-    pub not_null: usize,
+    pub name: Place,
+    pub kind: Place,
+    pub value: Option<Place>,
+    pub constant: bool,
+    pub not_null: bool,
 }
 
 // Where the bytes of the set end that stand at the front of the text between the two places.
+#[tactic(auto, using(crate::proofs::BetweenLaws::between_length))]
 fn run_end_between(text: &[u8], set: Set, from: usize, to: usize) -> usize
     requires from_le_to { from ≤ to }
     requires to_in_bounds { to ≤ length text.now }
@@ -66,6 +69,7 @@ fn run_end_between(text: &[u8], set: Set, from: usize, to: usize) -> usize
 }
 
 // Where W begins that stands at the end of the text between the two places.
+#[tactic(auto, using(crate::proofs::BetweenLaws::between_length, runs::proofs::RunLaws::start_whole))]
 fn trim_end(text: &[u8], from: usize, to: usize) -> usize
     requires from_le_to { from ≤ to }
     requires to_in_bounds { to ≤ length text.now }
@@ -77,99 +81,76 @@ fn trim_end(text: &[u8], from: usize, to: usize) -> usize
 }
 
 // Whether a lone `=` stands at i: no `=` on either side and no `>` behind.
+#[tactic(auto, using(crate::proofs::DefaultCutLaws::lone_no, crate::proofs::DefaultCutLaws::lone_front, crate::proofs::DefaultCutLaws::lone_behind))]
 fn is_lone(text: &[u8], i: usize) -> bool
     requires { i < length text.now }
     ensures { (t : List Marked) → bytes t ≡ text.now → result ≡ is_lone (reverse (take i t)) (drop i t) }
 {
-    if lone_equals(text, i) {
-        if i == 0 { true } else { text[i - 1] != b'=' }
-    } else {
-        false
-    }
+    lone_equals(text, i) && (i == 0 || text[i - 1] != b'=')
 }
 
 // Whether a default key can start with b.
+#[tactic(auto, unfolding(crate::specs::DeclaredParts::starts_key))]
 fn starts_key(b: u8) -> bool
     ensures { result ≡ starts_key b }
 {
-    if b == b':' {
-        true
-    } else if b == b'=' {
-        true
-    } else {
-        upper_of(b) == b'D'
-    }
+    b == b':' || b == b'=' || upper_of(b) == b'D'
 }
 
-// How many bytes of a default key stand at i: 2 of a live `:=`, 1 of a live lone `=`, 7 of a live DEFAULT, else 0.
-fn default_key(text: &[u8], map: &[u8], i: usize) -> usize
+// How many bytes the default key at i has, if one stands there: 2 of a live `:=`, 1 of a live lone `=`, 7 of a live DEFAULT.
+#[tactic(auto, using(crate::proofs::DefaultCutLaws::key_other, crate::proofs::DefaultCutLaws::key_quoted, crate::proofs::DefaultCutLaws::key_assign, crate::proofs::DefaultCutLaws::key_equals, crate::proofs::DefaultCutLaws::key_word, crate::proofs::DefaultCutLaws::key_none, spec::proofs::AheadLaws::rest_of, spec::proofs::MapLaws::marked_bytes))]
+fn default_key(text: &[u8], map: &[u8], i: usize) -> Option<usize>
     requires { i < length text.now }
-    ensures value { result ≡ key_at (marked text.now map.now) i }
-    ensures result_in_bounds { i + result ≤ length text.now }
+    ensures { result ≡ key_at (marked text.now map.now) i }
 {
     // Most bytes fail here.
     if !starts_key(text[i]) {
-        return 0;
+        return None;
     }
     if byte_at(map, i) != 0 {
-        return 0;
+        return None;
     }
     if starts_with(&text[i..], b":=") {
-        return 2;
+        return Some(2);
     }
     if is_lone(text, i) {
-        return 1;
+        return Some(1);
     }
     if keyword_at(text, map, b"DEFAULT", i) {
-        return 7;
+        return Some(7);
     }
-    0
+    None
 }
 
 // Where a part, trimmed of W, is cut for its default: at its leftmost default key.
 fn find_default(text: &[u8], map: &[u8]) -> Cut
     ensures value { result ≡ cut_in (marked text.now map.now) }
-    ensures head_le_rest { (result.head ≤ result.rest) × (result.rest ≤ length text.now) × (result.present ≤ 1) }
+    ensures fits { Fits result (length text.now) }
 {
-    let mut i: usize = 0;
-    while i < text.len() {
-        let n = default_key(text, map, i);
-        if n == 0 {
-            i += 1;
-        } else {
+    for i in 0..text.len() {
+        if let Some(n) = default_key(text, map, i) {
             return Cut {
                 head: i,
-                rest: i + n,
-                present: 1,
+                rest: Some(i + n),
             };
         }
     }
     Cut {
-        head: i,
-        rest: i,
-        present: 0,
+        head: text.len(),
+        rest: None,
     }
 }
 
 // Whether the text is this word, in any letter case.
+#[tactic(auto, unfolding(crate::specs::DeclaredParts::is_text))]
 fn is_text(text: &[u8], word: &[u8]) -> bool
     ensures { result ≡ is_text word.now text.now }
 {
-    if text.len() == word.len() {
-        starts_ignoring_case(text, word)
-    } else {
-        false
-    }
-}
-
-// 1 if so, else 0.
-fn one_if(b: bool) -> usize
-    ensures { result ≡ one_if b }
-{
-    if b { 1 } else { 0 }
+    text.len() == word.len() && starts_ignoring_case(text, word)
 }
 
 // How many bytes CONSTANT and the W behind it take at the front of a text; 0 if its first word is another.
+#[tactic(auto, using(crate::proofs::TypePlaceLaws::constant_stands, crate::proofs::TypePlaceLaws::constant_missing))]
 fn constant_len(text: &[u8]) -> usize
     ensures value { result ≡ constant_len text.now }
     ensures upper_bound { result ≤ length text.now }
@@ -183,6 +164,7 @@ fn constant_len(text: &[u8]) -> usize
 }
 
 // The last word of a text; empty if there is none.
+#[tactic(auto, using(crate::proofs::TypePlaceLaws::last_by))]
 fn last_word(text: &[u8]) -> LastWord
     ensures value { result ≡ last_word text.now }
     ensures from_le_to { (result.from ≤ result.to) × (result.to ≤ length text.now) }
@@ -196,29 +178,27 @@ fn last_word(text: &[u8]) -> LastWord
 }
 
 // How many bytes of a text stand ahead of NOT NULL; all of them if its last two words are others.
+#[tactic(auto, using(crate::proofs::TypePlaceLaws::both_stand, crate::proofs::TypePlaceLaws::not_missing, crate::proofs::TypePlaceLaws::null_missing))]
 fn ahead_of_not_null(text: &[u8]) -> usize
     ensures value { result ≡ type_len text.now }
     ensures upper_bound { result ≤ length text.now }
 {
     let last = last_word(text);
-    let from = last.from;
-    let to = last.to;
-    if is_text(&text[from..to], b"NULL") {
-        let front = &text[..from];
+    if is_text(&text[last.from..last.to], b"NULL") {
+        let front = &text[..last.from];
         let second = last_word(front);
-        let start = second.from;
-        let end = second.to;
-        if is_text(&front[start..end], b"NOT") {
-            return start;
+        if is_text(&front[second.from..second.to], b"NOT") {
+            return second.from;
         }
     }
     text.len()
 }
 
 // The type in what stands behind a name.
+#[tactic(auto, using(spec::proofs::AheadLaws::rest_of))]
 fn read_type(text: &[u8]) -> TypePlaces
     ensures value { result ≡ type_in text.now }
-    ensures from_le_to { (result.from ≤ result.to) × (result.to ≤ length text.now) × (result.constant ≤ 1) × (result.not_null ≤ 1) }
+    ensures from_le_to { (result.from ≤ result.to) × (result.to ≤ length text.now) }
 {
     let start = run_end(text, Set::W, 0);
     let front = constant_len(&text[start..]);
@@ -228,9 +208,24 @@ fn read_type(text: &[u8]) -> TypePlaces
     TypePlaces {
         from: from,
         to: from + n,
-        constant: one_if(front != 0),
-        not_null: one_if(n != rest),
+        constant: front != 0,
+        not_null: n != rest,
     }
+}
+
+// Where a default stands without W at both ends, if there is one, by where it begins behind `from`.
+fn value_place(text: &[u8], from: usize, to: usize, rest: Option<usize>) -> Option<Place>
+    requires inside { (r : ℕ) → rest ≡ Some r → from + r ≤ to }
+    requires to_in_bounds { to ≤ length text.now }
+    ensures value { result ≡ value_place text.now from to rest }
+    ensures within { PlaceWithin to result }
+{
+    let Some(r) = rest else {
+        return None;
+    };
+    let at = run_end_between(text, Set::W, from + r, to);
+    let end = trim_end(text, at, to);
+    Some(Place { at, len: end - at })
 }
 
 // The part of a text between the two places.
@@ -248,16 +243,16 @@ pub fn read_part(text: &[u8], map: &[u8], from: usize, to: usize) -> Declaration
     let name = run_end_between(text, Set::W, start, head);
     let name_end = run_end_between(text, Set::NotW, name, head);
     let kind = read_type(&text[name_end..head]);
-    let value = run_end_between(text, Set::W, start + cut.rest, end);
-    let value_end = trim_end(text, value, end);
     DeclarationPlaces {
-        name: name,
-        name_len: name_end - name,
-        kind: name_end + kind.from,
-        kind_len: kind.to - kind.from,
-        present: cut.present,
-        value: value,
-        value_len: value_end - value,
+        name: Place {
+            at: name,
+            len: name_end - name,
+        },
+        kind: Place {
+            at: name_end + kind.from,
+            len: kind.to - kind.from,
+        },
+        value: value_place(text, start, end, cut.rest),
         constant: kind.constant,
         not_null: kind.not_null,
     }
@@ -271,51 +266,31 @@ pub fn put_spaced(out: &mut [u8], n: usize, text: &[u8]) -> usize
 {
     let mut o = n;
     let mut gap = false;
-    let mut j: usize = 0;
-    while j < text.len() {
-        let b = text[j];
+    for &b in text {
         if is_w(b) {
             gap = true;
-            j += 1;
         } else if gap {
             o = put(out, o, b' ');
             o = put(out, o, b);
             gap = false;
-            j += 1;
         } else {
             o = put(out, o, b);
-            j += 1;
         }
     }
     o
 }
 
-// Whether x and y are the same bytes. They are compared from both ends, so that names that share a front or an end differ at once.
+// Whether x and y are the same bytes.
+#[tactic(auto, using(crate::proofs::DeclaredNameLaws::same_of_library))]
 pub fn same_bytes(x: &[u8], y: &[u8]) -> bool
     ensures { result ≡ is_same x.now y.now }
 {
-    if x.len() == y.len() {
-        let mut i: usize = 0;
-        let mut j = x.len();
-        while i < j {
-            if x[j - 1] != y[j - 1] {
-                return false;
-            }
-            if x[i] == y[i] {
-                i += 1;
-                j -= 1;
-            } else {
-                return false;
-            }
-        }
-        true
-    } else {
-        false
-    }
+    x == y
 }
 
-// Whether x comes before y in byte order. Two bytes are compared in each round: a loop of one byte takes half as long again
-// where the linker lets it cross a line of the cache.
+// Whether x comes before y in byte order. A loop by hand, since the library's `<` was measured and takes up to twice as long;
+// two bytes in each round, since a loop of one byte takes half as long again where the linker lets it cross a line of the
+// cache.
 pub fn comes_before(x: &[u8], y: &[u8]) -> bool
     ensures { result ≡ is_before x.now y.now }
 {
@@ -339,6 +314,7 @@ pub fn comes_before(x: &[u8], y: &[u8]) -> bool
 }
 
 // Whether a default is wholly `$tag$..$tag$`, where its delimiter would have d bytes.
+#[tactic(auto, using(crate::proofs::WholeLaws::delimiter_length, crate::proofs::WholeLaws::whole_short, crate::proofs::WholeLaws::whole_first, crate::proofs::WholeLaws::whole_last, crate::proofs::WholeLaws::whole_same, spec::proofs::AheadLaws::rest_of))]
 fn is_whole(text: &[u8], d: usize) -> bool
     requires d_value { d ≡ length (delimiter_of text.now) }
     requires text_bound { 2 * length text.now < 2 ^ 63 }
@@ -351,18 +327,11 @@ fn is_whole(text: &[u8], d: usize) -> bool
     if behind < d {
         return false;
     }
-    if text[0] == b'$' {
-        if text[d - 1] == b'$' {
-            same_bytes(&text[behind..], &text[..d])
-        } else {
-            false
-        }
-    } else {
-        false
-    }
+    text[0] == b'$' && text[d - 1] == b'$' && same_bytes(&text[behind..], &text[..d])
 }
 
 // A default, requoted.
+#[tactic(auto, using(crate::proofs::WholeLaws::delimiter_length, crate::proofs::WholeLaws::other_text, runs::proofs::RunLaws::end_le))]
 pub fn put_requoted(out: &mut [u8], n: usize, text: &[u8]) -> usize
     requires { n + 2 * length text.now + 2 < 2 ^ 63 }
     ensures value { result ≡ n + length (requoted_default text.now) }
@@ -378,13 +347,10 @@ pub fn put_requoted(out: &mut [u8], n: usize, text: &[u8]) -> usize
 }
 
 // The n bytes of a text from `at` on, as far as it reaches.
+#[tactic(auto, using(spec::proofs::AheadLaws::rest_of))]
 pub fn piece<'a>(text: &'a [u8], at: usize, n: usize) -> &'a [u8]
     ensures { result.now ≡ take n (drop at text.now) }
 {
-    if at <= text.len() {
-        let rest = &text[at..];
-        if n <= rest.len() { &rest[..n] } else { rest }
-    } else {
-        &text[..0]
-    }
+    let rest = text.get(at..).unwrap_or(&[]);
+    rest.get(..n).unwrap_or(rest)
 }

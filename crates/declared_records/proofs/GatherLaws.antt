@@ -1,12 +1,12 @@
 -- The records of a section, part by part: where a name stands, what a part adds, and what the parts give. Assumes nothing.
-use Rattle.std.specs.Prelude.{Some, None}
+use Rattle.std.specs.Prelude.{Some, None, Result, Ok, Err}
 use mathlib.Core.Path.{◌≡◌, refl, sym, ap, ◌∙◌, subst}
 use mathlib.Core.Bool.{true, false}
 use mathlib.Core.List.{List, [], ◌∷◌, ◌++◌}
-use Prim.Native.Nat.{ℕ, suc, ◌+◌, ◌-◌, ◌*◌, ◌≤◌, ◌<◌, zero-le, suc-le-suc}
+use Prim.Native.Nat.{ℕ, suc, ◌+◌, ◌-◌, ◌*◌, ◌≤◌, ◌<◌, zero-le, suc-le-suc, max}
 use native.Mathlib.Omega.{arith}
-use borrow.Author.Tests.{eq-eqb, ne_eqb, eqb-true, eqb-false}
-use lib.Dec.{eqb}
+use borrow.Author.Tests.{eq-eqb, ne_eqb, eqb-true, eqb-false, ltb-true, ltb-false}
+use lib.Dec.{eqb, ltb}
 use lib.ListN.{length, get_or, take, drop, length-append, length-drop}
 use lib.Seq.{sets, length-take-le}
 use Rattle.spec.proofs.AheadLaws.{rest_of}
@@ -22,7 +22,9 @@ use Rattle.spec.specs.Parts.{part}
 use Rattle.declared_parts.proofs.DeclaredNameLaws.{not_same}
 use Rattle.declared_parts.specs.DeclaredParts.{declared_by, part_numbers, read_of, Within}
 use Rattle.declared_parts.specs.declared.DeclarationPlaces.{DeclarationPlaces}
-use Rattle.declared_records.specs.Held.{record_in, records_from, place_of, name_hash, held_numbers, HashIn, Hashed, Added, Gathered}
+use Rattle.declared_records.specs.Held.{record_in, records_from, place_of, name_hash, held_numbers, HashIn, Hashed, HeldIn, Added, Gathered}
+use Rattle.spec.specs.declared.Refusal.{Refusal}
+use Rattle.spec.specs.declared.Refusal.TheVariants.{TooManyNames}
 use Rattle.declared_records.proofs.HeldLaws.{sets_drop, record_other, record_put, hash_put, hash_other, from_length, from_replaced, from_added}
 
 -- ---- where a name stands
@@ -85,11 +87,7 @@ within_more n m p h w =
       name_len = omega (arith, w.name_len);
       kind = omega (arith, w.kind);
       kind_len = omega (arith, w.kind_len);
-      present = w.present;
-      value = omega (arith, w.value);
-      value_len = omega (arith, w.value_len);
-      constant = w.constant;
-      not_null = w.not_null;
+      value = (omega (arith, w.value.0), omega (arith, w.value.1));
     }
 
 module _ (xs rs : List ℕ) (count : ℕ) (p : DeclarationPlaces) where
@@ -100,13 +98,14 @@ module _ (xs rs : List ℕ) (count : ℕ) (p : DeclarationPlaces) where
   new = declared_by xs (part_numbers p)
 
   -- no type, no record
-  pub add_none : Hashed xs rs count → p.kind_len ≡ 0 → Added xs rs count p rs count
+  pub add_none : count ≤ 512 → Hashed xs rs count → p.kind.len ≡ 0 → Added xs rs count p rs (Ok count)
   unfolding read_of declare_maybe
-  add_none g e =
-      let o : declare_maybe (read_of xs p) held ≡ held = rw (eq-eqb p.kind_len 0 e) refl in
-      record { number = sym (ap length o ∙ from_length xs rs 1 count); records = λ _. sym o; hashed = λ _. g; behind = refl }
+  add_none h g e =
+      let o : declare_maybe (read_of xs p) held ≡ held = rw (eq-eqb p.kind.len 0 e) refl in
+      let number = sym (ap length o ∙ from_length xs rs 1 count) in
+      record { held = record { number = number; within = h; records = sym o; hashed = g }; behind = refl }
 
-  module _ (e : p.kind_len ≡ 0 → ⊥) (k : ℕ) (q : k ≡ place_of (take p.name_len (drop p.name xs)) held) where
+  module _ (e : p.kind.len ≡ 0 → ⊥) (k : ℕ) (q : k ≡ place_of (take p.name.len (drop p.name.at xs)) held) where
     known : k ≡ place_of new.name held
     unfolding declared_by part_numbers
     known = q
@@ -116,7 +115,7 @@ module _ (xs rs : List ℕ) (count : ℕ) (p : DeclarationPlaces) where
 
     made : declare_maybe (read_of xs p) held ≡ take k held ++ (new ∷ drop (suc k) held)
     unfolding read_of declare_maybe
-    made = rw (ne_eqb p.kind_len 0 e, known) (declare_place new held)
+    made = rw (ne_eqb p.kind.len 0 e, known) (declare_place new held)
 
     made_length : length (declare_maybe (read_of xs p) held) ≡ k + suc (count - suc k)
     made_length =
@@ -131,12 +130,12 @@ module _ (xs rs : List ℕ) (count : ℕ) (p : DeclarationPlaces) where
         )
 
     -- no room
-    pub add_full : count ≤ 512 → k ≡ 512 → Added xs rs count p rs 513
-    add_full h f = record { number = omega (arith, low, made_length); records = λ g. absurd (omega arith); hashed = λ g. absurd (omega arith); behind = refl }
+    pub add_full : count ≤ 512 → k ≡ 512 → Added xs rs count p rs (Err TooManyNames)
+    add_full h f = record { held = (refl, omega (arith, low, made_length)); behind = refl }
 
     module _ (room : 10 * (k + 1) + 10 ≤ length rs) (within : k < 512) (keeps : Hashed xs rs count) where
       abbrev numbers : List ℕ
-      numbers = held_numbers (name_hash (take p.name_len (drop p.name xs))) p
+      numbers = held_numbers (name_hash (take p.name.len (drop p.name.at xs))) p
 
       abbrev stored : List ℕ
       stored = sets rs (10 * (k + 1)) numbers
@@ -164,30 +163,46 @@ module _ (xs rs : List ℕ) (count : ℕ) (p : DeclarationPlaces) where
           (λ e. let n = eqb-false j (k + 1) e in hash_other xs rs numbers (k + 1) j ten n (keeps j a (f j b n)))
 
       -- a repeated name
-      pub add_replaced : k < count → Added xs rs count p stored count
-      add_replaced h =
+      add_replaced : count ≤ 512 → k < count → Added xs rs count p stored (Ok count)
+      add_replaced l h =
           record {
-            number = omega (arith, made_length);
-            records = λ _. from_replaced xs rs stored new k count 1 h at others ∙ sym made;
-            hashed = λ _. all_hashed count (λ j b n. b);
+            held = record {
+              number = omega (arith, made_length);
+              within = l;
+              records = from_replaced xs rs stored new k count 1 h at others ∙ sym made;
+              hashed = all_hashed count (λ j b n. b);
+            };
             behind = past;
           }
 
       -- a new one
-      pub add_new : count ≤ k → Added xs rs count p stored (k + 1)
+      add_new : count ≤ k → Added xs rs count p stored (Ok (k + 1))
       add_new h =
           let z : k ≡ count = omega (arith, low) in
           record {
-            number = omega (arith, made_length);
-            records =
-                λ _.
-                (let m : k + 1 ≡ suc count = omega arith in
-                let a : record_in xs stored (1 + count) ≡ new = ap (λ i. record_in xs stored (1 + i)) (sym z) ∙ at in
-                let o : (j : ℕ) → (j ≡ 1 + count → ⊥) → record_in xs stored j ≡ record_in xs rs j = λ j n. others j (λ r. n (r ∙ ap (λ i. 1 + i) z)) in
-                ap (records_from xs stored 1) m ∙ (from_added xs rs stored new count 1 a o ∙ sym (rw z at made)));
-            hashed = λ _. all_hashed (k + 1) (λ j b n. omega (arith, low, n));
+            held = record {
+              number = omega (arith, made_length);
+              within = omega arith;
+              records =
+                  let m : k + 1 ≡ suc count = omega arith in
+                  let a : record_in xs stored (1 + count) ≡ new = ap (λ i. record_in xs stored (1 + i)) (sym z) ∙ at in
+                  let o : (j : ℕ) → (j ≡ 1 + count → ⊥) → record_in xs stored j ≡ record_in xs rs j = λ j n. others j (λ r. n (r ∙ ap (λ i. 1 + i) z)) in
+                  ap (records_from xs stored 1) m ∙ (from_added xs rs stored new count 1 a o ∙ sym (rw z at made));
+              hashed = all_hashed (k + 1) (λ j b n. omega (arith, low, n));
+            };
             behind = past;
           }
+
+      -- either way there are as many as the new record reaches, or as before
+      pub add_one : count ≤ 512 → Added xs rs count p stored (Ok (max count (k + 1)))
+      add_one l =
+          by (ltb k count)
+          (λ e. let h = ltb-true k count e in
+          let m : max count (k + 1) ≡ count = omega arith in
+          rw m (add_replaced l h))
+          (λ e. let h = ltb-false k count e in
+          let m : max count (k + 1) ≡ k + 1 = omega arith in
+          rw m (add_new h))
 
 -- ---- the parts
 
@@ -196,12 +211,18 @@ unfolding declare_all
 all_longer [] ds = omega arith
 all_longer (p ∷ ps) ds = omega (arith, maybe_longer (declaration p) ds, all_longer ps (declare_maybe (declaration p) ds))
 
+-- the records so far, with what the parts from `at` on declare, are what all parts declare
+pub record Going (xs ms : List ℕ) (at : ℕ) (rs : List ℕ) (count : ℕ) : Type 0 where
+  pub within : count ≤ 512
+  pub all : declare_all (pieces (byte_here 59) (marked xs ms)) [] ≡ declare_all (pieces_at (byte_here 59) (marked xs ms) at) (records_from xs rs 1 count)
+  pub hashed : Hashed xs rs count
+
 module _ (xs ms : List ℕ) (at : ℕ) (rs : List ℕ) (count : ℕ) where
   abbrev t : List Marked
   t = marked xs ms
 
   -- what the parts from `at` on make of these records
-  abbrev pub made_from : List Declared
+  abbrev made_from : List Declared
   made_from = declare_all (pieces_at (byte_here 59) t at) (records_from xs rs 1 count)
 
   module _ (p : DeclarationPlaces) where
@@ -219,27 +240,34 @@ module _ (xs ms : List ℕ) (at : ℕ) (rs : List ℕ) (count : ℕ) where
         ap (λ ps. declare_all ps (records_from xs rs 1 count)) (pieces_cut (byte_here 59) t at j e)
         ∙ ap (λ o. declare_all (pieces_at (byte_here 59) t (j + 1)) (declare_maybe o (records_from xs rs 1 count))) d
 
-    module _ (rs' : List ℕ) (r : ℕ) (add : Added xs rs count p rs' r) (whole : declare_all (pieces (byte_here 59) t) [] ≡ made_from) where
+    -- more parts leave no fewer records
+    over_next : (ps : List (List Marked)) (ds : List Declared) → 512 < length ds → 512 < length (declare_all ps ds)
+    over_next ps ds h = omega (arith, all_longer ps ds)
+
+    module _ (rs' : List ℕ) (o : Result ℕ Refusal) (add : Added xs rs count p rs' o) (g : Going xs ms at rs count) where
       -- the last part
-      pub gathered_last : first (byte_here 59) at t ≡ None → declaration (part at (length xs) t) ≡ read_of xs p → Gathered xs t rs' r
+      pub gathered_last : first (byte_here 59) at t ≡ None → declaration (part at (length xs) t) ≡ read_of xs p → Gathered xs t rs' o
       gathered_last e d =
-          let f = whole ∙ last_part e d in
-          record { records = λ h. add.records h ∙ sym f; over = λ h. omega (arith, ap length f, add.number) }
+          subst (λ ds. HeldIn xs ds rs' o) (sym (g.all ∙ last_part e d)) add.held
 
       module _ (j : ℕ) (e : first (byte_here 59) at t ≡ Some j) (d : declaration (part at j t) ≡ read_of xs p) where
         -- too many
-        pub gathered_over : 512 < r → Gathered xs t rs' r
-        gathered_over h =
-            record {
-              records = λ l. absurd (omega arith);
-              over = λ _. omega (arith, ap length (whole ∙ next_part j e d), add.number, all_longer (pieces_at (byte_here 59) t (j + 1)) (declare_maybe (read_of xs p) (records_from xs rs 1 count)));
-            }
+        pub gathered_over : (r : Refusal) → o ≡ Err r → Gathered xs t rs' (Err r)
+        gathered_over r h =
+            let k : HeldIn xs (declare_maybe (read_of xs p) (records_from xs rs 1 count)) rs' (Err r) = rw h at add.held in
+            (k.0, rw (g.all ∙ next_part j e d) (over_next (pieces_at (byte_here 59) t (j + 1)) (declare_maybe (read_of xs p) (records_from xs rs 1 count)) k.1))
 
         -- one part further on
-        pub gathered_next : r ≤ 512 → declare_all (pieces (byte_here 59) t) [] ≡ declare_all (pieces_at (byte_here 59) t (j + 1)) (records_from xs rs' 1 r)
-        gathered_next h = whole ∙ (next_part j e d ∙ ap (declare_all (pieces_at (byte_here 59) t (j + 1))) (sym (add.records h)))
+        pub gathered_next : (r : ℕ) → o ≡ Ok r → Going xs ms (j + 1) rs' r
+        gathered_next r h =
+            let k : HeldIn xs (declare_maybe (read_of xs p) (records_from xs rs 1 count)) rs' (Ok r) = rw h at add.held in
+            record {
+              within = k.within;
+              all = g.all ∙ (next_part j e d ∙ ap (declare_all (pieces_at (byte_here 59) t (j + 1))) (sym k.records));
+              hashed = k.hashed;
+            }
 
 -- at the start
-pub gathered_start : (xs ms rs : List ℕ) → declare_all (pieces (byte_here 59) (marked xs ms)) [] ≡ made_from xs ms 0 rs 0
+pub gathered_start : (xs ms rs : List ℕ) → Going xs ms 0 rs 0
 unfolding pieces records_from
-gathered_start xs ms rs = refl
+gathered_start xs ms rs = record { within = omega arith; all = refl; hashed = λ k a b. absurd (omega arith) }

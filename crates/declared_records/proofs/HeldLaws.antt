@@ -87,9 +87,9 @@ hash_end h xs i m = rw (drop_of_length-le xs m) refl
 
 -- the hash of a part's name is stored with it
 pub hash_put : (xs rs : List ℕ) (k : ℕ) (p : DeclarationPlaces) → 10 * k + 10 ≤ length rs
-    → HashIn xs (sets rs (10 * k) (held_numbers (name_hash (take p.name_len (drop p.name xs))) p)) k
+    → HashIn xs (sets rs (10 * k) (held_numbers (name_hash (take p.name.len (drop p.name.at xs))) p)) k
 unfolding part_numbers declared_by default_by
-hash_put xs rs k p m = rw (sets_there (held_numbers (name_hash (take p.name_len (drop p.name xs))) p) rs (10 * k) m) refl
+hash_put xs rs k p m = rw (sets_there (held_numbers (name_hash (take p.name.len (drop p.name.at xs))) p) rs (10 * k) m) refl
 
 -- and the others keep theirs
 pub hash_other : (xs rs vs : List ℕ) (k j : ℕ) → length vs ≡ 10 → (j ≡ k → ⊥) → HashIn xs rs j → HashIn xs (sets rs (10 * k) vs) j

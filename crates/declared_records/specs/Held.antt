@@ -1,12 +1,14 @@
 -- The records while they are read: ten numbers each, as of a record, but the places are in the text of the section, and
 -- the first number is the name's hash. Assumes nothing.
-use Rattle.std.specs.Prelude.{◌≡◌, ℕ, zero, suc, ◌+◌, ◌*◌, ◌%◌, ◌≤◌, ◌<◌, cond, List, [], ◌∷◌, length, get_or, drop}
+use Rattle.std.specs.Prelude.{◌≡◌, ℕ, zero, suc, ◌+◌, ◌*◌, ◌%◌, ◌≤◌, ◌<◌, cond, List, [], ◌∷◌, length, get_or, drop, Result, Ok, Err}
 use Rattle.spec.specs.Bytes.{is_same}
 use Rattle.spec.specs.Map.{Marked}
 use Rattle.spec.specs.Search.{byte_here, pieces}
 use Rattle.spec.specs.Declarations.{Declared, declare_maybe, declare_all}
 use Rattle.declared_parts.specs.DeclaredParts.{declared_by, part_numbers, read_of}
 use Rattle.declared_parts.specs.declared.DeclarationPlaces.{DeclarationPlaces}
+use Rattle.spec.specs.declared.Refusal.{Refusal}
+use Rattle.spec.specs.declared.Refusal.TheVariants.{TooManyNames}
 
 -- record k, and n records from record k on
 abbrev pub record_in : List ℕ → List ℕ → ℕ → Declared
@@ -43,14 +45,23 @@ HashIn xs rs k = get_or (drop (10 * k) rs) 0 0 ≡ name_hash (record_in xs rs k)
 abbrev pub Hashed : List ℕ → List ℕ → ℕ → Type 0
 Hashed xs rs count = (k : ℕ) → 1 ≤ k → k ≤ count → HashIn xs rs k
 
--- r records are what a part makes of `count`; over 512 nothing is known of them
-pub record Added (xs rs : List ℕ) (count : ℕ) (p : DeclarationPlaces) (rs' : List ℕ) (r : ℕ) : Type 0 where
-  pub number : r ≡ length (declare_maybe (read_of xs p) (records_from xs rs 1 count))
-  pub records : r ≤ 512 → records_from xs rs' 1 r ≡ declare_maybe (read_of xs p) (records_from xs rs 1 count)
-  pub hashed : r ≤ 512 → Hashed xs rs' r
+-- the r records in rs are ds, and each has its name's hash in front
+pub record HeldAre (xs : List ℕ) (ds : List Declared) (rs : List ℕ) (r : ℕ) : Type 0 where
+  pub number : r ≡ length ds
+  pub within : r ≤ 512
+  pub records : records_from xs rs 1 r ≡ ds
+  pub hashed : Hashed xs rs r
+
+-- the answer o: the records in rs are ds, or ds are too many
+abbrev pub HeldIn : List ℕ → List Declared → List ℕ → Result ℕ Refusal → Type 0
+HeldIn xs ds rs (Ok r) = HeldAre xs ds rs r
+HeldIn xs ds rs (Err e) = (e ≡ TooManyNames) × (512 < length ds)
+
+-- the records in rs' are what a part makes of `count` records
+pub record Added (xs rs : List ℕ) (count : ℕ) (p : DeclarationPlaces) (rs' : List ℕ) (o : Result ℕ Refusal) : Type 0 where
+  pub held : HeldIn xs (declare_maybe (read_of xs p) (records_from xs rs 1 count)) rs' o
   pub behind : drop 5130 rs' ≡ drop 5130 rs
 
--- r records are those of the section t; over 512, too many are declared
-pub record Gathered (xs : List ℕ) (t : List Marked) (rs : List ℕ) (r : ℕ) : Type 0 where
-  pub records : r ≤ 512 → records_from xs rs 1 r ≡ declare_all (pieces (byte_here 59) t) []
-  pub over : 512 < r → 512 < length (declare_all (pieces (byte_here 59) t) [])
+-- the records in rs are those of the section t
+abbrev pub Gathered : List ℕ → List Marked → List ℕ → Result ℕ Refusal → Type 0
+Gathered xs t rs o = HeldIn xs (declare_all (pieces (byte_here 59) t) []) rs o

@@ -2,16 +2,16 @@
 // its name's hash.
 #![tactic(auto)]
 
-ghost use Rattle.std.specs.Prelude.{◌≡◌, ◌∷◌, [], ◌*◌, ◌^◌, ◌≤◌, ◌<◌, length, get_or, drop};
+ghost use Rattle.std.specs.Prelude.{◌≡◌, ◌*◌, ◌^◌, ◌≤◌, ◌<◌, length, get_or, drop};
 ghost use Rattle.std.proofs.lemmas.List.Edits.{sets};
 ghost use Rattle.spec.specs.Bytes.{is_same};
 ghost use Rattle.spec.specs.Map.{marked};
-ghost use Rattle.spec.specs.Declarations.{one_if};
 ghost use Rattle.declared_parts.specs.DeclaredParts.{is_set, Within};
 ghost use Rattle.declared_records.specs.Held.{record_in, records_from, place_of, name_hash, held_numbers, HashIn, Hashed, Added, Gathered};
 
-use declared_parts::{DeclarationPlaces, piece, read_part, same_bytes};
+use declared_parts::{DeclarationPlaces, Place, piece, read_part, same_bytes};
 use scanner::find_byte_in;
+use spec::Refusal;
 
 // How many numbers a record has, how many records there may be, and how many numbers they and the head take.
 pub const RECORD_WIDTH: usize = 10;
@@ -19,9 +19,6 @@ pub const RECORD_WIDTH: usize = 10;
 pub const RECORD_LIMIT: usize = 512;
 
 pub const RECORD_NUMBERS: usize = RECORD_WIDTH * (RECORD_LIMIT + 1);
-
-// The count that stands for too many names.
-const TOO_MANY: usize = RECORD_LIMIT + 1;
 
 // Number j of record k.
 pub fn number(records: &[u32], k: usize, j: usize) -> usize
@@ -34,17 +31,18 @@ pub fn number(records: &[u32], k: usize, j: usize) -> usize
     records[RECORD_WIDTH * k + j] as usize
 }
 
-// 1 if the mark at number j of record k is set, else 0.
-pub fn mark_of(records: &[u32], k: usize, j: usize) -> u32
+// Whether the mark at number j of record k is set.
+pub fn mark_of(records: &[u32], k: usize, j: usize) -> bool
     requires k_bound { k ≤ 512 }
     requires j_bound { j < 10 }
     requires in_bounds { 5130 ≤ length records.now }
-    ensures { result ≡ one_if (is_set (get_or (drop (10 * k) records.now) j 0)) }
+    ensures { result ≡ is_set (get_or (drop (10 * k) records.now) j 0) }
 {
-    if number(records, k, j) == 0 { 0 } else { 1 }
+    number(records, k, j) != 0
 }
 
 // The name of record k.
+#[tactic(auto, unfolding(declared_parts::specs::DeclaredParts::declared_by))]
 pub fn name_of<'a>(text: &'a [u8], records: &[u32], k: usize) -> &'a [u8]
     requires k_bound { k ≤ 512 }
     requires in_bounds { 5130 ≤ length records.now }
@@ -56,53 +54,31 @@ pub fn name_of<'a>(text: &'a [u8], records: &[u32], k: usize) -> &'a [u8]
 }
 
 // The ten numbers of record k.
-pub fn put_numbers(
-    records: &mut [u32],
-    k: usize,
-    next: u32,
-    name: u32,
-    name_len: u32,
-    kind: u32,
-    kind_len: u32,
-    present: u32,
-    value: u32,
-    value_len: u32,
-    constant: u32,
-    not_null: u32,
-)
+pub fn put_numbers(records: &mut [u32], k: usize, numbers: [u32; RECORD_WIDTH])
     requires k_bound { k ≤ 512 }
     requires in_bounds { 5130 ≤ length records.old }
-    ensures { records.new ≡ sets records.old (10 * k) (next ∷ name ∷ name_len ∷ kind ∷ kind_len ∷ present ∷ value ∷ value_len ∷ constant ∷ not_null ∷ []) }
+    ensures { records.new ≡ sets records.old (10 * k) numbers }
 {
     let at = RECORD_WIDTH * k;
-    records[at] = next;
-    records[at + 1] = name;
-    records[at + 2] = name_len;
-    records[at + 3] = kind;
-    records[at + 4] = kind_len;
-    records[at + 5] = present;
-    records[at + 6] = value;
-    records[at + 7] = value_len;
-    records[at + 8] = constant;
-    records[at + 9] = not_null;
+    records[at..at + RECORD_WIDTH].copy_from_slice(&numbers);
 }
 
 // A hash of a name, with the multiplier of the FNV hashes; below 2 ^ 32, so that a record's number holds it. Names with
 // different hashes are different.
+#[tactic(auto, using(crate::proofs::HeldLaws::hash_step, crate::proofs::HeldLaws::hash_end))]
 fn hash_of(name: &[u8]) -> usize
     ensures value { result ≡ name_hash name.now }
     ensures upper_bound { result < 2 ^ 32 }
 {
     let mut hash: usize = 0;
-    let mut i: usize = 0;
-    while i < name.len() {
-        hash = (hash * 16777619 + name[i] as usize) % 4294967296;
-        i += 1;
+    for &b in name {
+        hash = (hash * 16777619 + usize::from(b)) % 4294967296;
     }
     hash
 }
 
 // The places of a part as record k, and a hash where the next will stand.
+#[tactic(auto, unfolding(declared_parts::specs::DeclaredParts::part_numbers))]
 fn put_part(records: &mut [u32], k: usize, hash: usize, p: DeclarationPlaces)
     requires k_bound { k ≤ 512 }
     requires in_bounds { 5130 ≤ length records.old }
@@ -110,23 +86,24 @@ fn put_part(records: &mut [u32], k: usize, hash: usize, p: DeclarationPlaces)
     requires within { Within 65536 p }
     ensures { records.new ≡ sets records.old (10 * k) (held_numbers hash p) }
 {
-    put_numbers(
-        records,
-        k,
+    let value = p.value.unwrap_or(Place { at: 0, len: 0 });
+    let numbers = [
         hash as u32,
-        p.name as u32,
-        p.name_len as u32,
-        p.kind as u32,
-        p.kind_len as u32,
-        p.present as u32,
-        p.value as u32,
-        p.value_len as u32,
-        p.constant as u32,
-        p.not_null as u32,
-    );
+        p.name.at as u32,
+        p.name.len as u32,
+        p.kind.at as u32,
+        p.kind.len as u32,
+        u32::from(p.value.is_some()),
+        value.at as u32,
+        value.len as u32,
+        u32::from(p.constant),
+        u32::from(p.not_null),
+    ];
+    put_numbers(records, k, numbers);
 }
 
 // Whether record k has this name; the hashes tell most names apart.
+#[tactic(auto, using(crate::proofs::GatherLaws::other_hash))]
 fn is_named(text: &[u8], records: &[u32], k: usize, name: &[u8], hash: usize) -> bool
     requires k_bound { k ≤ 512 }
     requires in_bounds { 5130 ≤ length records.now }
@@ -134,15 +111,11 @@ fn is_named(text: &[u8], records: &[u32], k: usize, name: &[u8], hash: usize) ->
     requires hash_in { HashIn text.now records.now k }
     ensures { result ≡ is_same name.now (record_in text.now records.now k).name }
 {
-    if number(records, k, 0) == hash {
-        let here = name_of(text, records, k);
-        same_bytes(name, here)
-    } else {
-        false
-    }
+    number(records, k, 0) == hash && same_bytes(name, name_of(text, records, k))
 }
 
 // How many records stand ahead of the first one of this name.
+#[tactic(auto, using(crate::proofs::GatherLaws::place_start, crate::proofs::GatherLaws::place_over, crate::proofs::GatherLaws::place_hit, crate::proofs::GatherLaws::place_miss))]
 fn find_name(text: &[u8], records: &[u32], count: usize, name: &[u8], hash: usize) -> usize
     requires count_bound { count ≤ 512 }
     requires in_bounds { 5130 ≤ length records.now }
@@ -151,40 +124,44 @@ fn find_name(text: &[u8], records: &[u32], count: usize, name: &[u8], hash: usiz
     ensures value { result ≡ place_of name.now (records_from text.now records.now 1 count) }
     ensures upper_bound { result ≤ count }
 {
-    let mut k: usize = 0;
-    while k < count {
+    for k in 0..count {
         if is_named(text, records, k + 1, name, hash) {
             return k;
-        } else {
-            k += 1;
         }
     }
-    k
+    count
 }
 
-// The records with what a part declares; 513 if there would be more than 512.
-fn add_part(text: &[u8], records: &mut [u32], count: usize, p: DeclarationPlaces) -> usize
+// The records with what a part declares: how many there are, unless there would be more than 512.
+#[tactic(auto, using(crate::proofs::GatherLaws::add_none, crate::proofs::GatherLaws::add_full, crate::proofs::GatherLaws::add_one))]
+fn add_part(
+    text: &[u8],
+    records: &mut [u32],
+    count: usize,
+    p: DeclarationPlaces,
+) -> Result<usize, Refusal>
     requires count_bound { count ≤ 512 }
     requires in_bounds { 5130 ≤ length records.old }
     requires within { Within 65536 p }
     requires hashed { Hashed text.now records.old count }
     ensures { Added text.now records.old count p records.new result }
 {
-    if p.kind_len == 0 {
-        return count;
+    if p.kind.len == 0 {
+        return Ok(count);
     }
-    let name = piece(text, p.name, p.name_len);
+    let name = piece(text, p.name.at, p.name.len);
     let hash = hash_of(name);
     let k = find_name(text, records, count, name, hash);
     if k == RECORD_LIMIT {
-        return TOO_MANY;
+        return Err(Refusal::TooManyNames);
     }
     put_part(records, k + 1, hash, p);
-    if k < count { count } else { k + 1 }
+    Ok(count.max(k + 1))
 }
 
-// The records of a section, as places in its text; 513 if more than 512 names are declared.
-pub fn gather(text: &[u8], map: &[u8], records: &mut [u32]) -> usize
+// The records of a section, as places in its text: how many there are, unless more than 512 names are declared.
+#[tactic(auto, using(crate::proofs::GatherLaws::gathered_start, crate::proofs::GatherLaws::gathered_last, crate::proofs::GatherLaws::gathered_over, crate::proofs::GatherLaws::gathered_next, crate::proofs::GatherLaws::within_more))]
+pub fn gather(text: &[u8], map: &[u8], records: &mut [u32]) -> Result<usize, Refusal>
     requires text_len_bound { length text.now ≤ 65536 }
     requires text_in_bounds { length text.now ≤ length map.now }
     requires in_bounds { 5130 ≤ length records.old }
@@ -193,17 +170,11 @@ pub fn gather(text: &[u8], map: &[u8], records: &mut [u32]) -> usize
 {
     let mut count: usize = 0;
     let mut at: usize = 0;
-    loop {
-        let found = find_byte_in(text, map, b';', at);
-        let Some(end) = found else {
-            let last = read_part(text, map, at, text.len());
-            return add_part(text, records, count, last);
-        };
+    while let Some(end) = find_byte_in(text, map, b';', at) {
         let p = read_part(text, map, at, end);
-        count = add_part(text, records, count, p);
-        if RECORD_LIMIT < count {
-            return count;
-        }
+        count = add_part(text, records, count, p)?;
         at = end + 1;
     }
+    let last = read_part(text, map, at, text.len());
+    add_part(text, records, count, last)
 }

@@ -4,12 +4,12 @@ use Rattle.std.specs.Prelude.{Some, None}
 use mathlib.Core.Path.{◌≡◌, refl, sym, ap, ◌∙◌}
 use mathlib.Core.Bool.{true, false}
 use mathlib.Core.List.{List, [], ◌∷◌, ◌++◌, append-nil, reverse}
-use Prim.Native.Nat.{ℕ, zero, suc, ◌+◌, ◌-◌, ◌≤◌, ◌<◌}
+use Prim.Native.Nat.{ℕ, zero, suc, ◌+◌, ◌-◌, ◌≤◌, ◌<◌, min}
 use native.Mathlib.Nat.{add-zero}
 use native.Mathlib.Omega.{arith}
 use borrow.Author.Tests.{ltb-true, ltb-false}
 use lib.Dec.{ltb}
-use lib.ListN.{length, take, drop, get_or, length-append, length-drop, drop_of_length-le}
+use lib.ListN.{length, take, drop, get_or, length-append, length-drop, length-take, drop_of_length-le}
 use lib.Seq.{sets}
 use Rattle.spec.proofs.AheadLaws.{drop_one}
 use Rattle.spec.proofs.Choice.{by}
@@ -126,6 +126,13 @@ module _ (xs ms : List ℕ) where
 
   pub rest_within : (i j : ℕ) → first keyword i (marked xs ms) ≡ Some j → (i ≤ j) × (j + 5 ≤ length xs)
   rest_within i j e = rw marked_length at (elsif_within (marked xs ms) i j e)
+
+-- where the keyword found stands, and how long the part before it is
+pub within_at : (xs ms : List ℕ) (i j : ℕ) → Some j ≡ first keyword i (marked xs ms) → (i ≤ j) × (j + 5 ≤ length xs)
+within_at xs ms i j e = rest_within xs ms i j (sym e)
+
+pub part_len : (k i : ℕ) (xs : List ℕ) → length (take k (drop i xs)) ≡ min k (length xs - i)
+part_len k i xs = omega (arith, length-take k (drop i xs), length-drop i xs)
 
 -- what a turn of `transform_elsif` does: n bytes of the result are in d before it, n' are in d' after it
 pub record Turn (xs ms : List ℕ) (i j : ℕ) (d : List ℕ) (n : ℕ) (d' : List ℕ) (n' : ℕ) : Type 0 where

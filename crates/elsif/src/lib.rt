@@ -10,6 +10,7 @@ use output::put_all;
 use scanner::find_keyword_in;
 
 // The rewritten text, as far as `out` reaches; the result is how many bytes it has. `map` is the text's map.
+#[tactic(auto, using(crate::proofs::ElsifLaws::within_at, crate::proofs::ElsifLaws::part_len), unfolding(spec::specs::Lists::is_empty))]
 pub fn transform_elsif(text: &[u8], map: &[u8], out: &mut [u8]) -> usize
     requires { length text.now ≤ 65536 }
     ensures value { result ≡ length (bytes (elsif (marked text.now map.now))) }
@@ -17,13 +18,10 @@ pub fn transform_elsif(text: &[u8], map: &[u8], out: &mut [u8]) -> usize
 {
     let mut n: usize = 0;
     let mut from: usize = 0;
-    loop {
-        let found = find_keyword_in(text, map, b"ELSIF", from);
-        let Some(at) = found else {
-            return put_all(out, n, &text[from..]);
-        };
+    while let Some(at) = find_keyword_in(text, map, b"ELSIF", from) {
         n = put_all(out, n, &text[from..at]);
         n = put_all(out, n, b"ELSEIF");
         from = at + 5;
     }
+    put_all(out, n, &text[from..])
 }

@@ -3,8 +3,10 @@
 #![tactic(auto)]
 
 ghost use Rattle.std.specs.Prelude.{◌≡◌, []};
-ghost use Rattle.spec.specs.Answers.{map_exit, regions_answer, keyword_answer, word_answer, word_part, search_numbers, search_list, unterminated_answer, byte_answer, needle_answer, handler_answer, split_answer, split_map_exit, split_exit, requoted_length_answer, requote_answer, requote_exit};
+ghost use Rattle.spec.specs.Answers.{map_exit, regions_answer, keyword_answer, word_answer, word_part, unterminated_answer, byte_answer, needle_answer, handler_answer, split_answer, split_map_exit, split_exit, requoted_length_answer, requote_answer, requote_exit};
+ghost use Rattle.searches.specs.Words.{word_found, word_bytes};
 
+use searches::Word;
 use spec::Refusal;
 
 #[derive(Clone, Copy)]
@@ -64,14 +66,13 @@ impl<'a> Scanner<'a> {
         searches::find_str_in_code(self.text, map, needle)
     }
 
-    // The next word of live text at or after `from`: that part of the caller's text, empty if there is none. The answer's
-    // numbers are the number, the found flag and the place.
-    pub fn next_word_in_code(self, map: &mut [u8], from: usize, answer: &mut [u32; 3]) -> &'a [u8]
-        ensures result_value { result.now ≡ word_part self.entry.text.now map.old from }
+    // The next word of live text at or after `from`.
+    pub fn next_word_in_code(self, map: &mut [u8], from: usize) -> Result<Option<Word<'a>>, Refusal>
+        ensures value { word_found result ≡ word_answer self.entry.text.now map.old from }
+        ensures bytes { word_bytes result ≡ word_part self.entry.text.now map.old from }
         ensures map_after { map.new ≡ map_exit self.entry.text.now map.old [] }
-        ensures answer_after { answer.new ≡ search_list (search_numbers (word_answer self.entry.text.now map.old from)) }
     {
-        searches::next_word_in_code(self.text, map, from, answer)
+        searches::next_word_in_code(self.text, map, from)
     }
 
     // Whether a live EXCEPTION has WHEN as its next live word.

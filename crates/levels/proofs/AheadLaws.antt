@@ -76,20 +76,26 @@ action_in (Raise Rollback) = Memᴰ.tail (Memᴰ.tail (Memᴰ.tail (Memᴰ.head 
 -- ---- what is found, by the answer: there is one, and the length of its text, or there is none
 
 module _ {A : Type 0} (text : A → List ℕ) where
-  pub found_some : (o : Option A) (p : A × ℕ) → option_map (with_length text) o ≡ Some p → (o ≡ Some p.0) × (p.1 ≡ length (text p.0))
+  found_some : (o : Option A) (p : A × ℕ) → option_map (with_length text) o ≡ Some p → (o ≡ Some p.0) × (p.1 ≡ length (text p.0))
   found_some None p h = absurd (none-some _ h)
   found_some (Some x) p h =
       let same : (x, length (text x)) ≡ p = ap (λ (o : Option (A × ℕ)). unwrap_or o p) h in
       let front : x ≡ p.0 = ap (λ (q : A × ℕ). q.0) same in
       (ap Some front, sym (ap (λ (q : A × ℕ). q.1) same) ∙ ap (λ (y : A). length (text y)) front)
 
+pub level_found_lem : (o : Option Level) (p : Level × ℕ) → option_map (with_length level_text) o ≡ Some p → (o ≡ Some p.0) × (p.1 ≡ length (level_text p.0))
+level_found_lem = found_some level_text
+
+pub action_found_lem : (o : Option Action) (p : Action × ℕ) → option_map (with_length action_text) o ≡ Some p → (o ≡ Some p.0) × (p.1 ≡ length (action_text p.0))
+action_found_lem = found_some action_text
+
 pub found_none : {A B : Type 0} (f : A → B) (o : Option A) → option_map f o ≡ None → o ≡ None
 found_none f None h = refl
 found_none f (Some x) h = absurd (none-some _ (sym h))
 
-pub line_found : (o : Option Entry) (l : Line) → option_map line_of o ≡ Some l → (o ≡ Some (entry l.level l.action)) × (l.len ≡ length (line_text (entry l.level l.action)))
-line_found None l h = absurd (none-some _ h)
-line_found (Some e) l h =
+pub line_found_lem : (o : Option Entry) (l : Line) → option_map line_of o ≡ Some l → (o ≡ Some (entry l.level l.action)) × (l.len ≡ length (line_text (entry l.level l.action)))
+line_found_lem None l h = absurd (none-some _ h)
+line_found_lem (Some e) l h =
     let made : line_of e ≡ l = ap (λ (o : Option Line). unwrap_or o l) h in
     let same : e ≡ entry l.level l.action = ap₂ entry (ap (λ (m : Line). m.level) made) (ap (λ (m : Line). m.action) made) in
     (ap Some same, sym (ap (λ (m : Line). m.len) made) ∙ ap (λ (f : Entry). length (line_text f)) same)

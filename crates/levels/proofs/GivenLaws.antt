@@ -14,14 +14,14 @@ use Rattle.spec.specs.Raise.{at_level, at_all, with_level}
 use Rattle.levels.specs.Lines.{completed, given_by}
 
 -- the action of a level
-pub given_level : (es : List Entry) (l : Level) → at_level (given_by es) l ≡ given_action es l
+pub given_by_lem : (es : List Entry) (l : Level) → at_level (given_by es) l ≡ given_action es l
 unfolding given_by
-given_level es Debug = refl
-given_level es Log = refl
-given_level es Info = refl
-given_level es Notice = refl
-given_level es Warning = refl
-given_level es Exception = refl
+given_by_lem es Debug = refl
+given_by_lem es Log = refl
+given_by_lem es Info = refl
+given_by_lem es Notice = refl
+given_by_lem es Warning = refl
+given_by_lem es Exception = refl
 
 -- no line, and one line more
 pub given_start : given_by [] ≡ at_all None

@@ -1,23 +1,25 @@
 -- The message in a content: where a `'` literal closes, and the words up to a comma. Assumes nothing.
-use mathlib.Core.Path.{◌≡◌, refl, ap, ◌∙◌}
+use Rattle.std.specs.Prelude.{Some, None}
+use mathlib.Core.Path.{◌≡◌, refl, sym, ap, ◌∙◌}
 use mathlib.Core.Bool.{false, cond, not, ◌&&◌}
 use mathlib.Core.List.{List, [], ◌∷◌}
 use Prim.Native.Nat.{ℕ, suc, ◌+◌, ◌≤◌, ◌<◌, zero-le, suc-le-suc}
 use native.Mathlib.Omega.{arith}
-use borrow.Author.Tests.{eq-eqb, ne_eqb, eqb-true, eqb-false}
-use lib.Dec.{eqb}
+use borrow.Author.Tests.{eq-eqb, ne_eqb, eqb-true, eqb-false, ltb-true, ltb-false}
+use lib.Dec.{eqb, ltb}
 use lib.ListN.{length, take, drop, get_or, length-take, length-drop, drop_of_length-le}
+use lib.Seq.{length-take-le}
 use Rattle.spec.proofs.BytesLaws.{bytes_lives, front_bytes, bytes_while, bytes_take, bytes_drop}
 use Rattle.spec.proofs.RefusalBounds.{bytes_length}
 use Rattle.spec.proofs.AheadLaws.{drop_one, drop_two, tail_one}
-use Rattle.spec.proofs.Choice.{by, cond_case, cond_le, and_left}
+use Rattle.spec.proofs.Choice.{by, cond_case, cond_le, and_left, made_some, made_none}
 use Rattle.spec.proofs.MessagePlaces.{no_comma}
 use Rattle.spec.proofs.SpanLaws.{seen}
-use Rattle.spec.proofs.WalkLaws.{while_length}
+use Rattle.spec.proofs.WalkLaws.{while_length, while_take}
 use Rattle.spec.specs.Lists.{take_while}
 use Rattle.spec.specs.Map.{Marked, byte, bytes, lives, of_byte}
 use Rattle.spec.specs.Raise.{close_len, message}
-use Rattle.messages.specs.Readings.{literal_len}
+use Rattle.messages.specs.Readings.{literal_len, nonzero}
 use Rattle.runs.specs.Sets.{trimmed}
 use Rattle.runs.proofs.RunLaws.{trimmed_le, trim_bytes}
 
@@ -39,6 +41,10 @@ later_more k m n =
 pub later_none : (n : ℕ) → n ≡ later 0 n
 unfolding later
 later_none n = by (eqb n 0) (λ e. rw e (eqb-true n 0 e)) (λ e. rw e (omega arith))
+
+-- a quote stands within the text
+pub quote_within : (xs : List ℕ) (i : ℕ) → get_or xs i 0 ≡ 39 → i < length xs
+quote_within xs i h = seen xs i 38 h
 
 module _ (a b : ℕ) (xs : List ℕ) where
   close_doubled : a ≡ 39 → b ≡ 39 → close_len (lives (a ∷ b ∷ xs)) ≡ later 2 (close_len (lives xs))
@@ -62,35 +68,47 @@ module _ (xs : List ℕ) (i : ℕ) where
     ahead : close_len (lives (drop i xs)) ≡ close_len (lives (get_or xs i 0 ∷ get_or xs (i + 1) 0 ∷ drop (i + 2) xs))
     ahead = ap (λ (l : List ℕ). close_len (lives l)) (drop_two xs i h)
 
-    pub close_pair : get_or xs i 0 ≡ 39 → get_or xs (i + 1) 0 ≡ 39 → close_from xs i ≡ close_from xs (i + 2)
-    close_pair p q = ap (later i) (ahead ∙ close_doubled _ _ _ p q) ∙ later_more i 2 (close_len (lives (drop (i + 2) xs)))
-
-    pub close_here : get_or xs i 0 ≡ 39 → (get_or xs (i + 1) 0 ≡ 39 → ⊥) → close_from xs i ≡ i + 1
+    single : get_or xs i 0 ≡ 39 → (get_or xs (i + 1) 0 ≡ 39 → ⊥) → close_from xs i ≡ i + 1
     unfolding later
-    close_here p q = ap (later i) (ahead ∙ close_single _ _ _ p q)
+    single p q = ap (later i) (ahead ∙ close_single _ _ _ p q)
 
-    pub close_on : (get_or xs i 0 ≡ 39 → ⊥) → close_from xs i ≡ close_from xs (i + 1)
-    close_on p =
+    other : (get_or xs i 0 ≡ 39 → ⊥) → close_from xs i ≡ close_from xs (i + 1)
+    other p =
         ap (later i) (ahead ∙ (close_other _ _ _ p ∙ ap (λ (l : List ℕ). later 1 (close_len (lives l))) (tail_one xs i h)))
         ∙ later_more i 1 (close_len (lives (drop (i + 1) xs)))
 
+  -- at the last byte
   module _ (h : i + 1 ≡ length xs) where
     last : drop i xs ≡ get_or xs i 0 ∷ []
     last =
         let z : length xs ≤ i + 1 = omega arith in
         drop_one xs i 0 (omega arith) ∙ ap (λ (l : List ℕ). get_or xs i 0 ∷ l) (drop_of_length-le xs z)
 
-    pub close_last : get_or xs i 0 ≡ 39 → close_from xs i ≡ i + 1
+    last_single : get_or xs i 0 ≡ 39 → close_from xs i ≡ i + 1
     unfolding close_len lives later
-    close_last p = rw last (simp (eq-eqb (get_or xs i 0) 39 p))
+    last_single p = rw last (simp (eq-eqb (get_or xs i 0) 39 p))
 
-    pub close_not : (get_or xs i 0 ≡ 39 → ⊥) → close_from xs i ≡ 0
+    last_other : (get_or xs i 0 ≡ 39 → ⊥) → close_from xs i ≡ close_from xs (i + 1)
     unfolding close_len lives later
-    close_not p = rw last (simp (ne_eqb (get_or xs i 0) 39 p))
+    last_other p =
+        let z : length xs ≤ i + 1 = omega arith in
+        rw (last, drop_of_length-le xs z) (simp (ne_eqb (get_or xs i 0) 39 p))
 
   pub close_none : length xs ≤ i → close_from xs i ≡ 0
   unfolding close_len lives later
   close_none h = rw (drop_of_length-le xs h)
+
+  pub close_pair : get_or xs i 0 ≡ 39 → get_or xs (i + 1) 0 ≡ 39 → close_from xs i ≡ close_from xs (i + 2)
+  close_pair p q =
+      ap (later i) (ahead (quote_within xs (i + 1) q) ∙ close_doubled _ _ _ p q) ∙ later_more i 2 (close_len (lives (drop (i + 2) xs)))
+
+  pub close_here : i < length xs → get_or xs i 0 ≡ 39 → (get_or xs (i + 1) 0 ≡ 39 → ⊥) → close_from xs i ≡ i + 1
+  close_here h p q =
+      by (ltb (i + 1) (length xs)) (λ e. single (ltb-true _ _ e) p q) (λ e. last_single (omega (arith, ltb-false (i + 1) (length xs) e)) p)
+
+  pub close_on : i < length xs → (get_or xs i 0 ≡ 39 → ⊥) → close_from xs i ≡ close_from xs (i + 1)
+  close_on h p =
+      by (ltb (i + 1) (length xs)) (λ e. other (ltb-true _ _ e) p) (λ e. last_other (omega (arith, ltb-false (i + 1) (length xs) e)) p)
 
 -- the marks do not matter
 close_bytes : (t : List Marked) → close_len t ≡ close_len (lives (bytes t))
@@ -144,14 +162,26 @@ message_is t xs e =
     (λ q. rw (q, ne_eqb (1 + m) 0 (λ z. omega arith)) (bytes_take (1 + m) t ∙ ap (take (1 + m)) e))
     (λ q. rw q (trim_bytes (take_while (of_byte no_comma) t) ∙ ap trimmed (bytes_while no_comma t ∙ ap (take_while no_comma) e))))
 
+-- a length that is given is the number, and it is not 0
+nonzero_some : (k n : ℕ) → nonzero k ≡ Some n → (eqb k 0 ≡ false) × (k ≡ n)
+nonzero_some k n = made_some (eqb k 0) k n
+
+pub literal_within : (xs : List ℕ) (n : ℕ) → nonzero (literal_len xs) ≡ Some n → n ≡ length (take n xs)
+literal_within xs n h = sym (length-take-le n xs (omega (arith, literal_le xs, (nonzero_some (literal_len xs) n h).1)))
+
 module _ (t : List Marked) (xs : List ℕ) (e : bytes t ≡ xs) where
   -- a closed literal in front is the message
-  pub message_literal : (literal_len xs ≡ 0 → ⊥) → bytes (message t) ≡ take (literal_len xs) xs
-  message_literal h = message_is t xs e ∙ rw (ne_eqb (literal_len xs) 0 h)
+  pub message_literal : (n : ℕ) → nonzero (literal_len xs) ≡ Some n → bytes (message t) ≡ take n xs
+  message_literal n h =
+      let s = nonzero_some (literal_len xs) n h in
+      message_is t xs e ∙ rw (s.0, s.1) refl
 
-  -- else it is the trimmed text up to the first comma
-  pub message_words : literal_len xs ≡ 0 → bytes (message t) ≡ trimmed (take_while no_comma xs)
-  message_words h = message_is t xs e ∙ rw (eq-eqb (literal_len xs) 0 h)
+  -- else it is the trimmed text up to the first comma, at k
+  pub message_words : (k : ℕ) → nonzero (literal_len xs) ≡ None → k ≡ length (take_while no_comma xs) → bytes (message t) ≡ trimmed (take k xs)
+  message_words k h q =
+      message_is t xs e
+      ∙ (rw (made_none (eqb (literal_len xs) 0) (literal_len xs) h) refl
+      ∙ ap trimmed (while_take no_comma xs ∙ ap (λ (n : ℕ). take n xs) (sym q)))
 
 -- it is no longer than the text
 pub message_le : (xs : List ℕ) → length (message_in xs) ≤ length xs

@@ -1,19 +1,18 @@
 -- A RAISE read off its bytes: its level, and with each level its end and what it becomes. Assumes nothing.
-use Rattle.std.specs.Prelude.{Option, Some, None}
+use Rattle.std.specs.Prelude.{Some, None}
 use mathlib.Core.Path.{◌≡◌, refl, sym, ap, ◌∙◌}
-use mathlib.Core.Bool.{Bool, true, false, cond, not}
+use mathlib.Core.Bool.{Bool, false, cond, not}
 use mathlib.Core.List.{List, []}
-use Prim.Native.Nat.{ℕ, ◌+◌, ◌-◌, ◌≤◌, min}
+use Prim.Native.Nat.{ℕ, ◌+◌, ◌-◌, ◌≤◌, ◌<◌, min}
 use native.Mathlib.Omega.{arith}
 use borrow.Author.Tests.{leb-true, leb-false}
 use lib.Dec.{leb}
 use lib.ListN.{length, take, drop, drop_of_length-le}
 use lib.Seq.{take_all, take-length}
-use Rattle.spec.proofs.Apart.{apart}
 use Rattle.spec.proofs.BytesLaws.{bytes_lives, bytes_take, bytes_drop, while_length_bytes}
 use Rattle.spec.proofs.Choice.{by}
-use Rattle.spec.proofs.WalkLaws.{starts_case}
-use Rattle.spec.specs.Bytes.{ascii, upper, prefix_by}
+use Rattle.spec.proofs.AheadLaws.{rest_of}
+use Rattle.spec.proofs.RefusalBounds.{bytes_length}
 use Rattle.spec.specs.Lists.{take_while}
 use Rattle.spec.specs.Map.{Marked, bytes, lives, of_byte}
 use Rattle.spec.specs.Search.{starts_ignoring_case}
@@ -21,10 +20,11 @@ use Rattle.spec.specs.Parts.{trim}
 use Rattle.spec.specs.Outcome.{accepted, forget}
 use Rattle.spec.specs.Raise.{level_words, level_in, ends_level, is_exception, level_len, content_of, action_fate, fate_text, raised_at}
 use Rattle.spec.specs.declared.Level.{Level}
-use Rattle.spec.specs.declared.Level.TheVariants.{Exception}
+use Rattle.spec.specs.declared.Level.TheVariants.{Debug, Log, Info, Notice, Warning, Exception}
 use Rattle.spec.specs.declared.RaiseType.{RaiseType}
 use Rattle.spec.specs.declared.Action.{Action}
 use Rattle.spec.specs.declared.Action.TheVariants.{Drop, Raise}
+use Rattle.messages.specs.declared.RaiseFate.{RaiseFate}
 use Rattle.messages.specs.declared.RaiseFate.TheVariants.{Passed}
 use Rattle.messages.specs.Readings.{level_end, content_in, raised_as, fate_of, fate_in, FateWithin, Reads}
 use Rattle.runs.specs.Sets.{trimmed}
@@ -34,36 +34,37 @@ use Rattle.messages.proofs.UsingLaws.{raise_marks}
 
 -- ---- the level
 
-module _ (t : List Marked) (xs : List ℕ) (e : bytes t ≡ xs) where
-  pub level_first : prefix_by upper (ascii "EXCEPTION") xs ≡ true → level_in level_words t ≡ Some Exception
-  unfolding level_in level_words
-  level_first p = simp (starts_case, e, p)
-
-  pub level_rest : prefix_by upper (ascii "EXCEPTION") xs ≡ false → level_in level_words t ≡ level_in (drop 1 level_words) t
-  unfolding level_in level_words
-  level_rest p = rw (starts_case (ascii "EXCEPTION") t, e, p)
-
 -- where a level ends
-pub exception_ends : (l : Level) (xs : List ℕ) → is_exception l ≡ true → level_end l xs ≡ 15
-unfolding level_len
-exception_ends l xs e = rw e refl
+pub not_exception : (l : Level) → (l ≡ Exception → ⊥) → is_exception l ≡ false
+not_exception Exception h = absurd (h refl)
+not_exception Debug h = refl
+not_exception Log h = refl
+not_exception Info h = refl
+not_exception Notice h = refl
+not_exception Warning h = refl
 
-pub other_ends : (l : Level) (xs : List ℕ) → is_exception l ≡ false
+pub other_ends : (l : Level) (xs : List ℕ) → (l ≡ Exception → ⊥)
     → level_end l xs ≡ 6 + length (take_while (λ (c : ℕ). not (ends_level c)) (drop 6 xs))
 unfolding level_len
-other_ends l xs e =
+other_ends l xs h =
     let f : ℕ → Bool = λ c. not (ends_level c) in
-    rw e (ap (λ (n : ℕ). 6 + n) (while_length_bytes f (lives (drop 6 xs)) ∙ ap (λ (u : List ℕ). length (take_while f u)) (bytes_lives (drop 6 xs))))
+    rw (not_exception l h)
+    (ap (λ (n : ℕ). 6 + n) (while_length_bytes f (lives (drop 6 xs)) ∙ ap (λ (u : List ℕ). length (take_while f u)) (bytes_lives (drop 6 xs))))
 
 -- the offsets of a fate, whatever the action
 pub fate_within : (a : Action) (lo s e hi : ℕ) → lo ≤ s → s ≤ e → e ≤ hi → FateWithin (fate_of a s e) lo hi
 fate_within Drop lo s e hi p q r = tt
 fate_within (Raise w) lo s e hi p q r = (p, q, r)
 
--- nothing stands behind the separator
-pub level_none : (t : List Marked) → length t ≤ 6 → level_in level_words (drop 6 t) ≡ None
+-- the level behind the separator, where a text reaches behind it, and where not
+pub level_none : (t : List Marked) (xs : List ℕ) → bytes t ≡ xs → length xs < 6 → level_in level_words (drop 6 t) ≡ None
 unfolding level_in level_words starts_ignoring_case
-level_none t h = rw (drop_of_length-le t h)
+level_none t xs e h =
+    let z : length t ≤ 6 = omega (arith, bytes_length t, ap length e) in
+    rw (drop_of_length-le t z)
+
+pub level_bytes : (t : List Marked) (xs ys : List ℕ) → bytes t ≡ xs → ys ≡ take (length xs - 6) (drop 6 xs) → bytes (drop 6 t) ≡ ys
+level_bytes t xs ys e h = bytes_drop 6 t ∙ (ap (drop 6) e ∙ (sym (rest_of xs 6) ∙ sym h))
 
 -- ---- what each level becomes
 
@@ -111,16 +112,20 @@ module _ (t : List Marked) (xs : List ℕ) (e : bytes t ≡ xs) where
       ∙ (ap (λ (u : List ℕ). length (take_while f u)) same ∙ sym (while_length_bytes f (lives (drop 6 xs)))) in
       ap (λ (n : ℕ). 6 + cond (is_exception l) 9 n) run
 
-  -- a level at which the statement has this action: its content lies from the level's end on
-  pub reads_level : (act : Level → Action) (l : Level) (k n : ℕ)
+  -- a level at which the statement has the action a: its content lies from the level's end k on, and has m bytes
+  pub reads_level : (act : Level → Action) (l : Level) (a : Action) (k m n : ℕ) (f : RaiseFate)
       → k ≡ level_end l xs
-      → n ≡ min (k + length (content_in (drop k xs)) + 1) (length xs)
-      → Reads act t (Some l) xs (record { end = n; fate = fate_of (act l) k (k + length (content_in (drop k xs))) })
+      → m ≡ length (content_in (take (length xs - k) (drop k xs)))
+      → n ≡ min (k + m + 1) (length xs)
+      → f ≡ fate_of a k (k + m)
+      → act l ≡ a
+      → Reads act t (Some l) xs (record { end = n; fate = f })
   unfolding raised_at
-  reads_level act l k n p h =
+  reads_level act l a k m n f p c h g q =
+      let c' : m ≡ length (content_in (drop k xs)) = rw rest_of at c in
       record {
-        text = rw (level_ends l ∙ sym p, content_at k) (becomes (act l));
-        ends = rw (level_ends l ∙ sym p, content_at k) h;
+        text = rw (level_ends l ∙ sym p, content_at k, g, ← q, c') (becomes (act l));
+        ends = rw (level_ends l ∙ sym p, content_at k) (rw c' at h);
       }
     where
       u : List Marked

@@ -1,13 +1,17 @@
 -- A RAISE that is not dropped, by the bytes of its content: the clause behind USING, or the message. Assumes nothing.
+use Rattle.std.specs.Borrow.{Bor}
+use Rattle.std.specs.Option.{ok_or}
+use Rattle.std.specs.Prelude.{Option, Some, None}
 use mathlib.Core.Path.{◌≡◌, refl, sym, ap, ◌∙◌}
 use mathlib.Core.Bool.{Bool, true, false, cond, ◌&&◌}
 use mathlib.Core.List.{List, ◌++◌}
-use Prim.Native.Nat.{ℕ, ◌+◌}
+use Prim.Native.Nat.{ℕ, ◌+◌, ◌-◌, ◌≤◌, ◌<◌}
 use native.Mathlib.Omega.{arith}
-use borrow.Author.Tests.{eq-eqb, ne_eqb, leb-true, leb-false}
+use borrow.Author.Tests.{eq-eqb, ne_eqb, le-leb, lt-leb, leb-true, leb-false}
 use lib.Dec.{eqb, leb}
-use lib.ListN.{length, drop, get_or, length-drop}
+use lib.ListN.{length, take, drop, get_or, length-drop}
 use lib.Seq.{drop-drop}
+use Rattle.spec.proofs.AheadLaws.{rest_of}
 use Rattle.spec.proofs.BytesLaws.{bytes_lives, bytes_append, bytes_drop}
 use Rattle.spec.proofs.Choice.{by}
 use Rattle.spec.proofs.ListLaws.{empty_length}
@@ -19,10 +23,13 @@ use Rattle.spec.specs.Lists.{is_empty, drop_while}
 use Rattle.spec.specs.Map.{Marked, bytes, lives, front_byte, of_byte}
 use Rattle.spec.specs.Search.{starts_ignoring_case}
 use Rattle.spec.specs.Outcome.{using_clause, accepted, refused, Rewriting, forget}
-use Rattle.spec.specs.Raise.{message, rewritten, refused_clause, using_fate, raise_fate, raise_word, raise_text, fate_text}
+use Rattle.spec.specs.Raise.{message, action_fate, rewritten, refused_clause, using_fate, raise_fate, raise_word, raise_text, fate_text}
 use Rattle.spec.specs.declared.RaiseType.{RaiseType}
-use Rattle.messages.specs.Readings.{raise_front, raising}
-use Rattle.messages.proofs.MessageLaws.{message_in, message_is}
+use Rattle.spec.specs.Parts.{trim}
+use Rattle.runs.specs.Sets.{trimmed}
+use Rattle.runs.proofs.RunLaws.{trim_bytes}
+use Rattle.messages.specs.Readings.{raise_front, raising, raised_as, raised_in, using_in}
+use Rattle.messages.proofs.MessageLaws.{message_in, message_is, message_le}
 
 -- the text of a message
 rewritten_text : (w : RaiseType) (m : List Marked) → forget (fate_text (rewritten w m)) ≡ accepted (raising w (bytes m))
@@ -102,19 +109,31 @@ module _ (w : RaiseType) (t : List Marked) (xs : List ℕ) (e : bytes t ≡ xs) 
         rw (at_a, at_b, at_c, starts_at (ascii "MESSAGE") a, front_at b, front_at c, rest_empty c (length (message (drop c t))), long, e)
         (chosen w fits (message (drop c t)) xs ∙ rw found refl)
 
-    pub no_message : prefix_by upper (ascii "MESSAGE") (drop a xs) ≡ false → becomes w t ≡ refused (using_clause xs)
-    no_message p = using_is ∙ simp p
+  -- the same by the tests in their order, as far as they pass
+  module _ (a : ℕ) (pa : a ≡ end_from is_w xs 5) where
+    pub no_message : prefix_by upper (ascii "MESSAGE") (take (length xs - a) (drop a xs)) ≡ false → becomes w t ≡ refused (using_clause xs)
+    no_message p = using_is a _ _ _ pa refl refl refl ∙ simp (rw rest_of at p)
 
-    module _ (p : prefix_by upper (ascii "MESSAGE") (drop a xs) ≡ true) where
-      pub no_equals : eqb (get_or xs b 0) 61 ≡ false → becomes w t ≡ refused (using_clause xs)
-      no_equals q = using_is ∙ simp (p, q)
+    module _ (p : prefix_by upper (ascii "MESSAGE") (take (length xs - a) (drop a xs)) ≡ true) (b : ℕ) (pb : b ≡ end_from is_w xs (a + 7)) where
+      pub no_equals : (get_or xs b 0 ≡ 61 → ⊥) → becomes w t ≡ refused (using_clause xs)
+      no_equals q = using_is a b _ _ pa pb refl refl ∙ simp (rw rest_of at p, ne_eqb (get_or xs b 0) 61 q)
 
-      module _ (q : eqb (get_or xs b 0) 61 ≡ true) where
-        pub no_quote : eqb (get_or xs c 0) 39 ≡ false → becomes w t ≡ refused (using_clause xs)
-        no_quote r = using_is ∙ simp (p, q, r)
+      module _ (q : get_or xs b 0 ≡ 61) (c : ℕ) (pc : c ≡ end_from is_w xs (b + 1)) where
+        pub no_quote : (get_or xs c 0 ≡ 39 → ⊥) → becomes w t ≡ refused (using_clause xs)
+        no_quote r = using_is a b c _ pa pb pc refl ∙ simp (rw rest_of at p, eq-eqb (get_or xs b 0) 61 q, ne_eqb (get_or xs c 0) 39 r)
 
-        pub at_quote : eqb (get_or xs c 0) 39 ≡ true → becomes w t ≡ cond (leb (length xs) (end_from is_w xs (c + length m))) (accepted (raising w m)) (refused (using_clause xs))
-        at_quote r = using_is ∙ simp (p, q, r)
+        module _ (r : get_or xs c 0 ≡ 39) (m : List ℕ) (pm : (u : List Marked) → bytes u ≡ take (length xs - c) (drop c xs) → m ≡ bytes (message u)) (k : ℕ) (pk : k ≡ end_from is_w xs (c + length m)) where
+          at_quote : becomes w t ≡ cond (leb (length xs) k) (accepted (raising w m)) (refused (using_clause xs))
+          at_quote =
+              let ys = drop c xs in
+              let said : m ≡ message_in ys = pm (lives ys) (bytes_lives ys ∙ sym (rest_of xs c)) ∙ message_is (lives ys) ys (bytes_lives ys) in
+              using_is a b c m pa pb pc said ∙ simp (rw rest_of at p, eq-eqb (get_or xs b 0) 61 q, eq-eqb (get_or xs c 0) 39 r, sym pk)
+
+          pub more_behind : k < length xs → becomes w t ≡ refused (using_clause xs)
+          more_behind h = at_quote ∙ rw (lt-leb _ _ h) refl
+
+          pub message_last : length xs ≤ k → becomes w t ≡ accepted (raising w m)
+          message_last h = at_quote ∙ rw (le-leb _ _ h) refl
 
   -- a content that starts with USING, and one that does not
   pub raise_is : forget (fate_text (raise_fate w t)) ≡ cond (prefix_by upper (ascii "USING") xs) (becomes w t) (accepted (raising w (message_in xs)))
@@ -129,3 +148,33 @@ raise_marks w t u e =
     raise_is w t (bytes u) e
     ∙ (rw (using_is w t (bytes u) e _ _ _ _ refl refl refl refl ∙ sym (using_is w u (bytes u) refl _ _ _ _ refl refl refl refl)) refl
     ∙ sym (raise_is w u (bytes u) refl))
+
+-- a RAISE by the trimmed text of its content xs
+module _ (w : RaiseType) (xs : List ℕ) (text : Bor (List ℕ)) (e : text.now ≡ trimmed xs) where
+  trimmed_here : bytes (trim (lives xs)) ≡ text.now
+  trimmed_here = trim_bytes (lives xs) ∙ (ap trimmed (bytes_lives xs) ∙ sym e)
+
+  same_answer : (r : Option (Bor (List ℕ))) → using_in w text.now r ≡ raised_in w (ok_or r text)
+  same_answer None = refl
+  same_answer (Some m) = refl
+
+  -- what the clause behind USING comes to, where it starts with it
+  pub raised_clause : (r : Option (Bor (List ℕ))) → prefix_by upper (ascii "USING") text.now ≡ true
+      → ((t : List Marked) → bytes t ≡ text.now → becomes w t ≡ using_in w text.now r) → raised_as w xs ≡ raised_in w (ok_or r text)
+  unfolding raised_as action_fate
+  raised_clause r p f =
+      raise_is w (trim (lives xs)) text.now trimmed_here ∙ rw p (f (trim (lives xs)) trimmed_here ∙ same_answer r)
+
+  -- else its message
+  pub raised_message : (m : List ℕ) → prefix_by upper (ascii "USING") text.now ≡ false
+      → ((t : List Marked) → bytes t ≡ text.now → m ≡ bytes (message t)) → raised_as w xs ≡ accepted (raising w m)
+  unfolding raised_as action_fate
+  raised_message m p f =
+      let ys = text.now in
+      let said : m ≡ message_in ys = f (lives ys) (bytes_lives ys) ∙ message_is (lives ys) ys (bytes_lives ys) in
+      raise_is w (trim (lives xs)) ys trimmed_here ∙ rw p (ap (λ (l : List ℕ). accepted (raising w l)) (sym said))
+
+-- a message is no longer than the text
+pub message_short : (ys m : List ℕ) → ((t : List Marked) → bytes t ≡ ys → m ≡ bytes (message t)) → length m ≤ length ys
+message_short ys m f =
+    omega (arith, message_le ys, ap length (f (lives ys) (bytes_lives ys) ∙ message_is (lives ys) ys (bytes_lives ys)))

@@ -1,6 +1,7 @@
 -- What a reading of a RAISE says: the definition's level, fate and length, by offsets in the text that was read. Assumes
 -- nothing.
-use Rattle.std.specs.Prelude.{◌≡◌, Bool, false, cond, not, ◌&&◌, List, [], ◌++◌, ℕ, ◌+◌, ◌-◌, ◌≤◌, min, eqb, length, take, drop, get_or, Option, Some, None}
+use Rattle.std.specs.Prelude.{◌≡◌, Bool, false, cond, not, ◌&&◌, List, [], ◌++◌, ℕ, ◌+◌, ◌-◌, ◌≤◌, min, eqb, length, take, drop, get_or, Option, Some, None, Result, Ok, Err}
+use Rattle.std.specs.Borrow.{Bor}
 use Rattle.spec.specs.Bytes.{ascii}
 use Rattle.spec.specs.Lists.{take_while}
 use Rattle.spec.specs.Map.{Marked, lives, marked_text, is_live_byte}
@@ -35,6 +36,10 @@ ends_statement (Code n) b = eqb b 59
 unfoldable pub content_in : List ℕ → List Marked
 content_in xs = take_while (λ (x : Marked). not (is_live_byte 59 x)) (marked_text xs)
 
+-- a length of which 0 stands for none
+abbrev pub nonzero : ℕ → Option ℕ
+nonzero n = cond (eqb n 0) None (Some n)
+
 -- the length of the closed `'` literal in front, 0 if there is none
 unfoldable pub literal_len : List ℕ → ℕ
 literal_len xs =
@@ -53,9 +58,25 @@ raising w m = raise_front w ++ (m ++ ascii ");")
 unfoldable pub raised_as : RaiseType → List ℕ → Rewriting
 raised_as w xs = forget (fate_text (action_fate (Raise w) (lives xs)))
 
--- the same by a part of the content: the clause that is refused, or the message
-abbrev pub raised_in : RaiseType → Bool → List ℕ → Rewriting
-raised_in w stops part = cond stops (refused (using_clause part)) (accepted (raising w part))
+-- the same by a part of the content: the message, or the clause that is refused
+abbrev pub raised_in : RaiseType → Result (Bor (List ℕ)) (Bor (List ℕ)) → Rewriting
+raised_in w (Ok message) = accepted (raising w message.now)
+raised_in w (Err clause) = refused (using_clause clause.now)
+
+-- that part
+abbrev pub part_in : Result (Bor (List ℕ)) (Bor (List ℕ)) → List ℕ
+part_in (Ok message) = message.now
+part_in (Err clause) = clause.now
+
+-- the same by the message of a clause behind USING, if it has one to take
+abbrev pub using_in : RaiseType → List ℕ → Option (Bor (List ℕ)) → Rewriting
+using_in w clause (Some message) = accepted (raising w message.now)
+using_in w clause None = refused (using_clause clause)
+
+-- that message, else the clause
+abbrev pub part_or : List ℕ → Option (Bor (List ℕ)) → List ℕ
+part_or clause (Some message) = message.now
+part_or clause None = clause
 
 -- the fate of a statement with this action, by where its content lies
 abbrev pub fate_of : Action → ℕ → ℕ → RaiseFate

@@ -1,14 +1,14 @@
 // Pass 5's reading of a RAISE: its level, its statement's content, and the message in it.
 #![tactic(auto)]
 
-ghost use Rattle.std.specs.Prelude.{◌≡◌, List, ◌+◌, ◌≤◌, ◌<◌, min, length, drop, Some};
+ghost use Rattle.std.specs.Prelude.{◌≡◌, List, ◌+◌, ◌≤◌, ◌<◌, length, drop, Some};
 ghost use Rattle.spec.specs.Map.{Marked, bytes, lives};
 ghost use Rattle.spec.specs.Outcome.{forget};
-ghost use Rattle.spec.specs.Raise.{close_len, message, using_fate, level_words, level_in, is_exception, action_of, fate_text};
+ghost use Rattle.spec.specs.Raise.{close_len, message, using_fate, level_words, level_in, action_of, fate_text};
 ghost use Rattle.spec.specs.declared.Level.{Level};
 ghost use Rattle.spec.specs.declared.RaiseType.{RaiseType};
 ghost use Rattle.spec.specs.declared.Action.{Action};
-ghost use Rattle.messages.specs.Readings.{level_reach, level_end, ends_statement, content_in, literal_len, raised_as, raised_in, fate_of, FateWithin, Reads};
+ghost use Rattle.messages.specs.Readings.{level_reach, level_end, ends_statement, content_in, literal_len, raised_as, raised_in, part_in, using_in, part_or, nonzero, fate_of, FateWithin, Reads};
 
 use classes::byte_at;
 use runs::{Set, run_end, trim};
@@ -37,39 +37,27 @@ pub struct RaiseRead {
     pub fate: RaiseFate,
 }
 
-// The level in front other than EXCEPTION, in any letter case.
-fn other_level_at(rest: &[u8]) -> Option<Level>
-    ensures value { (t : List Marked) → bytes t ≡ rest.now → result ≡ level_in (drop 1 level_words) t }
-    ensures result_value { level_reach result ≡ 0 }
-{
-    if starts_ignoring_case(rest, b"NOTICE") {
-        Some(Level::Notice)
-    } else if starts_ignoring_case(rest, b"WARNING") {
-        Some(Level::Warning)
-    } else if starts_ignoring_case(rest, b"DEBUG") {
-        Some(Level::Debug)
-    } else if starts_ignoring_case(rest, b"LOG") {
-        Some(Level::Log)
-    } else if starts_ignoring_case(rest, b"INFO ") {
-        Some(Level::Info)
-    } else if starts_ignoring_case(rest, b"INFO\n") {
-        Some(Level::Info)
-    } else if starts_ignoring_case(rest, b"INFO;") {
-        Some(Level::Info)
-    } else {
-        None
-    }
-}
-
 // The level in front, in any letter case.
+#[tactic(auto, using(spec::proofs::WalkLaws::starts_case, spec::proofs::WalkLaws::prefix_by_len), unfolding(spec::specs::Raise::level_in, spec::specs::Raise::level_words))]
 fn level_at(rest: &[u8]) -> Option<Level>
     ensures value { (t : List Marked) → bytes t ≡ rest.now → result ≡ level_in level_words t }
     ensures result_in_bounds { level_reach result ≤ length rest.now }
 {
-    if starts_ignoring_case(rest, b"EXCEPTION") {
+    let is = |word: &[u8]| starts_ignoring_case(rest, word);
+    if is(b"EXCEPTION") {
         Some(Level::Exception)
+    } else if is(b"NOTICE") {
+        Some(Level::Notice)
+    } else if is(b"WARNING") {
+        Some(Level::Warning)
+    } else if is(b"DEBUG") {
+        Some(Level::Debug)
+    } else if is(b"LOG") {
+        Some(Level::Log)
+    } else if is(b"INFO ") || is(b"INFO\n") || is(b"INFO;") {
+        Some(Level::Info)
     } else {
-        other_level_at(rest)
+        None
     }
 }
 
@@ -77,132 +65,107 @@ fn level_at(rest: &[u8]) -> Option<Level>
 fn ends_statement(s: Span, b: u8) -> bool
     ensures { result ≡ ends_statement s b }
 {
-    match s {
-        Span::Verbatim(_) => false,
-        Span::Dollar(_) => false,
-        Span::Code(_) => b == b';',
-    }
+    matches!(s, Span::Code(_)) && b == b';'
 }
 
 // How long the content is of a statement that has `rest` behind its level.
+#[tactic(auto, using(crate::proofs::ContentLaws::content_over, crate::proofs::ContentLaws::content_on, crate::proofs::ContentLaws::content_stops, spans::proofs::StepLaws::step_taken, spans::proofs::StepLaws::step_done))]
 fn content_len(rest: &[u8]) -> usize
     ensures { result ≡ length (content_in rest.now) }
 {
     let mut cursor = Cursor { at: 0 };
-    loop {
-        let from = cursor.at;
-        let step = cursor.step(rest);
-        let Some((s, next)) = step else {
-            return from;
-        };
-        if ends_statement(s, byte_at(rest, from)) {
-            return from;
+    while let Some((s, next)) = cursor.step(rest) {
+        if ends_statement(s, byte_at(rest, cursor.at)) {
+            return cursor.at;
         }
         cursor = next;
     }
+    cursor.at
 }
 
-// From behind an opening `'`, the length through the quote that closes the literal, 0 if none does.
-fn close_len(rest: &[u8]) -> usize
-    ensures { result ≡ close_len (lives rest.now) }
+// From behind an opening `'`, the length through the quote that closes the literal, if one does. By an index: a turn takes one
+// byte or two.
+#[tactic(auto, using(crate::proofs::MessageLaws::close_pair, crate::proofs::MessageLaws::close_here, crate::proofs::MessageLaws::close_on, crate::proofs::MessageLaws::close_none, crate::proofs::MessageLaws::later_none, crate::proofs::MessageLaws::quote_within))]
+fn close_len(rest: &[u8]) -> Option<usize>
+    ensures { result ≡ nonzero (close_len (lives rest.now)) }
 {
-    let n = rest.len();
     let mut i: usize = 0;
-    while i + 1 < n {
-        if rest[i] == b'\'' {
-            if rest[i + 1] == b'\'' {
-                i += 2;
-            } else {
-                return i + 1;
-            }
-        } else {
+    while i < rest.len() {
+        if rest[i] != b'\'' {
             i += 1;
+        } else if byte_at(rest, i + 1) == b'\'' {
+            i += 2;
+        } else {
+            return Some(i + 1);
         }
     }
-    if i < n {
-        if rest[i] == b'\'' {
-            return n;
-        }
-    }
-    0
+    None
 }
 
-// The length of the closed `'` literal in front, 0 if there is none.
-fn literal_len(content: &[u8]) -> usize
+// The length of the closed `'` literal in front, if there is one.
+#[tactic(auto, using(spec::proofs::AheadLaws::rest_of, crate::proofs::MessageLaws::close_within), unfolding(crate::specs::Readings::literal_len))]
+fn literal_len(content: &[u8]) -> Option<usize>
     requires { length content.now ≤ 65536 }
-    ensures { result ≡ literal_len content.now }
+    ensures { result ≡ nonzero (literal_len content.now) }
 {
-    if byte_at(content, 0) == b'\'' {
-        let n = close_len(&content[1..]);
-        if n == 0 { 0 } else { 1 + n }
-    } else {
-        0
-    }
+    let [b'\'', behind @ ..] = content else {
+        return None;
+    };
+    Some(1 + close_len(behind)?)
 }
 
 // The message of a content: the closed literal in front, else the trimmed text up to the first comma.
+#[tactic(auto, using(crate::proofs::MessageLaws::message_literal, crate::proofs::MessageLaws::message_words, crate::proofs::MessageLaws::literal_within))]
 pub fn extract_first_string_literal<'a>(content: &'a [u8]) -> &'a [u8]
     requires { length content.now ≤ 65536 }
     ensures { (t : List Marked) → bytes t ≡ content.now → result.now ≡ bytes (message t) }
 {
-    let k = literal_len(content);
-    if k == 0 {
-        let words = &content[..run_end(content, Set::Except(b','), 0)];
-        trim(words)
-    } else {
-        &content[..k]
+    match literal_len(content) {
+        Some(n) => &content[..n],
+        None => trim(&content[..run_end(content, Set::Except(b','), 0)]),
     }
 }
 
-// The message of a content that starts with USING: behind MESSAGE and `=`, if it starts with `'` and has only W behind it. Else
-// the content is refused.
-fn using_message<'a>(content: &'a [u8], refused: &mut bool) -> &'a [u8]
+// The message of a content that starts with USING: behind MESSAGE and `=`, if it starts with `'` and has only W behind it.
+#[tactic(auto, using(spec::proofs::AheadLaws::rest_of, crate::proofs::MessageLaws::quote_within, crate::proofs::UsingLaws::message_short))]
+fn using_message<'a>(content: &'a [u8]) -> Option<&'a [u8]>
     requires in_bounds { 5 ≤ length content.now }
     requires content_len_bound { length content.now ≤ 65536 }
-    ensures t_value { (w : RaiseType) (t : List Marked) → bytes t ≡ content.now → forget (fate_text (using_fate w t (drop 5 t))) ≡ raised_in w refused.new result.now }
-    ensures result_in_bounds { length result.now ≤ length content.now }
+    ensures t_value { (w : RaiseType) (t : List Marked) → bytes t ≡ content.now → forget (fate_text (using_fate w t (drop 5 t))) ≡ using_in w content.now result }
+    ensures result_in_bounds { length (part_or content.now result) ≤ length content.now }
 {
-    *refused = true;
     let a = run_end(content, Set::W, 5);
     if !starts_ignoring_case(&content[a..], b"MESSAGE") {
-        return content;
+        return None;
     }
     let b = run_end(content, Set::W, a + 7);
     if byte_at(content, b) != b'=' {
-        return content;
+        return None;
     }
     let from = run_end(content, Set::W, b + 1);
     if byte_at(content, from) != b'\'' {
-        return content;
+        return None;
     }
     let message = extract_first_string_literal(&content[from..]);
     if run_end(content, Set::W, from + message.len()) < content.len() {
-        return content;
+        return None;
     }
-    *refused = false;
-    message
+    Some(message)
 }
 
 // The message of a RAISE that is not dropped, or the clause that is refused: a part of the statement's content.
-pub fn raise_message<'a>(content: &'a [u8], refused: &mut bool) -> &'a [u8]
+#[tactic(auto, using(runs::proofs::RunLaws::trimmed_le, spec::proofs::WalkLaws::prefix_by_len, crate::proofs::UsingLaws::raised_clause, crate::proofs::UsingLaws::raised_message, crate::proofs::UsingLaws::message_short))]
+pub fn raise_message<'a>(content: &'a [u8]) -> Result<&'a [u8], &'a [u8]>
     requires { length content.now ≤ 65536 }
-    ensures content_value { (w : RaiseType) → raised_as w content.now ≡ raised_in w refused.new result.now }
-    ensures result_in_bounds { length result.now ≤ length content.now }
+    ensures content_value { (w : RaiseType) → raised_as w content.now ≡ raised_in w result }
+    ensures result_in_bounds { length (part_in result) ≤ length content.now }
 {
     let text = trim(content);
     if starts_ignoring_case(text, b"USING") {
-        using_message(text, refused)
+        using_message(text).ok_or(text)
     } else {
-        *refused = false;
-        extract_first_string_literal(text)
+        Ok(extract_first_string_literal(text))
     }
-}
-
-// Behind the `;` at `stop`, or the end.
-fn behind(stop: usize, n: usize) -> usize
-    ensures { result ≡ min (stop + 1) n }
-{
-    if stop < n { stop + 1 } else { n }
 }
 
 // The fate of a statement with this action, whose content lies from `start` to `stop`.
@@ -215,47 +178,45 @@ fn fate_of(action: Action, start: usize, stop: usize) -> RaiseFate
     }
 }
 
-// Whether a level is EXCEPTION.
-fn is_exception(level: Level) -> bool
-    ensures { result ≡ is_exception level }
-{
-    match level {
-        Level::Exception => true,
-        Level::Debug => false,
-        Level::Log => false,
-        Level::Info => false,
-        Level::Notice => false,
-        Level::Warning => false,
-    }
-}
-
 // Where the level ends, from the RAISE on: EXCEPTION has its nine letters, the others run to W or `;`.
+#[tactic(auto, unfolding(spec::specs::Raise::level_len))]
 fn level_end(rest: &[u8], level: Level) -> usize
     requires { 6 + level_reach (Some level) ≤ length rest.now }
     ensures value { result ≡ level_end level rest.now }
     ensures lower_bound { 6 ≤ result }
     ensures upper_bound { result ≤ length rest.now }
 {
-    if is_exception(level) {
-        15
-    } else {
-        run_end(rest, Set::NotWNor(b';'), 6)
+    match level {
+        Level::Exception => 15,
+        _ => run_end(rest, Set::NotWNor(b';'), 6),
     }
 }
 
 // A RAISE of this level, from the RAISE on, with this action.
+#[tactic(auto, using(spec::proofs::AheadLaws::rest_of, crate::proofs::ContentLaws::content_le, crate::proofs::ReadingLaws::fate_within))]
 fn read_statement(rest: &[u8], level: Level, action: Action) -> RaiseRead
     requires level_in_bounds { 6 + level_reach (Some level) ≤ length rest.now }
     requires rest_len_bound { length rest.now ≤ 65536 }
     ensures reads { (act : Level → Action) (t : List Marked) → bytes t ≡ rest.now → act level ≡ action → Reads act t (Some level) rest.now result }
     ensures fate_within { FateWithin result.fate 6 result.end }
+    ensures end_in_bounds { result.end ≤ length rest.now }
+    ensures goes_on { 0 < length rest.now → 0 < result.end }
 {
     let k = level_end(rest, level);
     let stop = k + content_len(&rest[k..]);
     RaiseRead {
-        end: behind(stop, rest.len()),
+        end: (stop + 1).min(rest.len()),
         fate: fate_of(action, k, stop),
     }
+}
+
+// The level behind RAISE and its separator.
+#[tactic(auto, using(crate::proofs::ReadingLaws::level_none))]
+fn level_behind(rest: &[u8]) -> Option<Level>
+    ensures value { (t : List Marked) → bytes t ≡ rest.now → result ≡ level_in level_words (drop 6 t) }
+    ensures level_in_bounds { (l : Level) → result ≡ Some l → 6 + level_reach (Some l) ≤ length rest.now }
+{
+    level_at(rest.get(6..)?)
 }
 
 // The RAISE at the front of `rest`.
@@ -263,17 +224,13 @@ pub fn read_raise(rest: &[u8], actions: Actions) -> RaiseRead
     requires { length rest.now ≤ 65536 }
     ensures reads { (t : List Marked) → bytes t ≡ rest.now → Reads (action_of actions) t (level_in level_words (drop 6 t)) rest.now result }
     ensures fate_within { FateWithin result.fate 6 result.end }
+    ensures end_in_bounds { result.end ≤ length rest.now }
+    ensures goes_on { 0 < length rest.now → 0 < result.end }
 {
-    if rest.len() < 6 {
-        return RaiseRead {
-            end: rest.len(),
-            fate: RaiseFate::Passed,
-        };
-    }
-    match level_at(&rest[6..]) {
+    match level_behind(rest) {
         Some(l) => read_statement(rest, l, actions.get(l)),
         None => RaiseRead {
-            end: 6,
+            end: rest.len().min(6),
             fate: RaiseFate::Passed,
         },
     }

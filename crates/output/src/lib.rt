@@ -9,9 +9,6 @@ ghost use Rattle.spec.specs.Requote.{doubled, single_quoted};
 // The bytes of each lent byte buffer that a call fills: the most that a pass's result may have.
 pub const BUFFER_SIZE: usize = 65536;
 
-// The length that stands for every longer one.
-pub const TOO_LONG: usize = BUFFER_SIZE + 1;
-
 // One byte.
 #[tactic(auto, using(crate::proofs::StoreLaws::store_laws))]
 pub fn put(out: &mut [u8], n: usize, b: u8) -> usize

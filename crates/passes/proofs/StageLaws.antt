@@ -5,7 +5,7 @@ use mathlib.Core.Path.{◌≡◌, refl, sym, ap, ◌∙◌}
 use mathlib.Core.List.{List, []}
 use Prim.Native.Nat.{ℕ, ◌≤◌}
 use native.Mathlib.Omega.{arith}
-use borrow.Author.Tests.{ltb-false, leb-true, leb-false, lt-ltb, le-ltb}
+use borrow.Author.Tests.{leb-true, leb-false, lt-ltb, le-ltb}
 use lib.Dec.{leb, ltb}
 use lib.ListN.{length, take, length-take}
 use lib.Seq.{sets, take_at, take_all, take-length, length-take-le}
@@ -56,39 +56,30 @@ front_copied d d' f k a b e = front_stored d d' (take k f) k (length-take-le k f
 
 -- ---- one pass, within the buffer size or refusal 6
 
-pub limited_gives : (o : Outcome (List Marked)) (p : Result ℕ Refusal) (d e : List ℕ) → p ≡ pass_answer o → Leaves o d e → length d ≡ 65536
-    → Gives (result_of [] (limited (forget o))) (finished (limited_answer p)) e
-unfolding result_of limited forget buffer_size
-limited_gives (accepted t) p d e a l h =
-    let n = bytes_length t in
-    by (ltb 65536 (length t))
-    (λ q. record { answered = rw (a, n, q) refl; held = rw (n, q) refl })
-    (λ q.
-    let fits = ltb-false 65536 (length t) q in
-    record {
-      answered = rw (a, n, q) (ap (λ (k : ℕ). Ok (record { length = k; records = 0 })) (sym n));
-      held = rw (n, q) (front_stored d e (bytes t) (length (bytes t)) refl (omega arith) l);
-    })
-limited_gives (refused f) p d e a l h = record { answered = rw a refl; held = l }
-
--- the same of pass 4, which counts no further than one past the buffer size
-pub counted_gives : (ys d e : List ℕ) (k : ℕ)
-    → k ≡ counted (length ys)
+-- a pass that counts no further than the buffer size
+pub counted_gives : (ys d e : List ℕ) (p : Result ℕ Refusal)
+    → p ≡ counted (length ys)
     → (length ys ≤ 65536 → e ≡ sets d 0 ys)
     → length d ≡ 65536
-    → Gives (result_of [] (limited (accepted ys))) (finished (limited_answer (Ok k))) e
+    → Gives (result_of [] (limited (accepted ys))) (finished p) e
 unfolding result_of limited buffer_size counted
-counted_gives ys d e k a s h =
+counted_gives ys d e p a s h =
     by (leb (length ys) 65536)
     (λ q.
     let fits = leb-true (length ys) 65536 q in
-    let n : k ≡ length ys = a ∙ rw q refl in
     let t = le-ltb 65536 (length ys) fits in
-    record { answered = rw (n, t) refl; held = rw t (front_stored d e ys (length ys) refl (omega arith) (s fits)) })
+    record { answered = rw (a, q, t) refl; held = rw t (front_stored d e ys (length ys) refl (omega arith) (s fits)) })
     (λ q.
-    let n : k ≡ 65537 = a ∙ rw q refl in
     let t = lt-ltb 65536 (length ys) (leb-false (length ys) 65536 q) in
-    record { answered = rw (n, t) refl; held = rw t refl })
+    record { answered = rw (a, q, t) refl; held = rw t refl })
+
+-- a pass that counts on, or refuses
+pub limited_gives : (o : Outcome (List Marked)) (p q : Result ℕ Refusal) (d e : List ℕ) → p ≡ pass_answer o → q ≡ limited_answer p → Leaves o d e → length d ≡ 65536
+    → Gives (result_of [] (limited (forget o))) (finished q) e
+unfolding result_of limited forget
+limited_gives (accepted t) p q d e a b l h =
+    counted_gives (bytes t) d e q (rw a at b ∙ ap counted (sym (bytes_length t))) (λ _. l) h
+limited_gives (refused f) p q d e a b l h = record { answered = rw (b, a) refl; held = l }
 
 -- ---- from one pass to the next
 
@@ -135,7 +126,7 @@ gives_copied w p r d out g a s =
 -- pass 4 refuses by 6 alone, which hands no bytes back
 pub too_long_gives : (ys : List ℕ) (q : Refusal) (d out : List ℕ) (r : Result Accepted Refusal)
     → Gives (result_of [] (limited (select_pass ys))) (finished (Err q)) d
-    → r ≡ finished (Err q)
+    → r ≡ Err q
     → Gives (result_of [] (limited (select_pass ys))) r out
 unfolding result_of limited select_pass
 too_long_gives ys q d out r g a =

@@ -1,7 +1,7 @@
 -- What the passes answer and leave. Assumes nothing.
-use Rattle.std.specs.Prelude.{◌≡◌, cond, List, ℕ, ltb, length, take, Result, Ok, Err}
+use Rattle.std.specs.Prelude.{◌≡◌, List, ℕ, length, take, Result, Ok, Err}
 use Rattle.spec.specs.Answers.{CallResult}
-use Rattle.spec.specs.declared.Refusal.TheVariants.{ResultTooLong}
+use Rattle.set_lines.specs.Writes.{counted}
 use Rattle.spec.specs.declared.Refusal.{Refusal}
 use Rattle.spec.specs.declared.Accepted.{Accepted}
 
@@ -17,5 +17,5 @@ finished (Err r) = Err r
 
 -- refusal 6 if the result exceeds the buffer size
 abbrev pub limited_answer : Result ℕ Refusal → Result ℕ Refusal
-limited_answer (Ok k) = cond (ltb 65536 k) (Err ResultTooLong) (Ok k)
+limited_answer (Ok k) = counted k
 limited_answer (Err r) = Err r

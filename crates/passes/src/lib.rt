@@ -7,20 +7,23 @@ ghost use Rattle.spec.specs.Body.{assign_pass, select_pass, raise_pass, limited,
 ghost use Rattle.spec.specs.Answers.{refusal_numbers, call_numbers, result_of, body_result, zeroed_to};
 ghost use Rattle.passes.specs.Gives.{Gives, finished, limited_answer};
 ghost use Rattle.std.proofs.lemmas.List.Edits.{sets};
-ghost use Rattle.spec.specs.Map.{marked_text, bytes};
+ghost use Rattle.spec.specs.Map.{marked, marked_text, bytes};
+ghost use Rattle.spec.specs.SelectInto.{quote_walk};
 ghost use Rattle.spec.specs.Elsif.{elsif};
 
 use assignments::transform_assignments;
 use elsif::transform_elsif;
-use output::{BUFFER_SIZE, fill, put_all};
+use output::{fill, put_all};
 use quotes::map_quotes;
 use raise::transform_raise_statements;
 use requote::requote;
 use scanner::map_text;
 use select_into::transform_select_into;
+use set_lines::within_buffer;
 use spec::{Accepted, Actions, Refusal, RefusalNumbers};
 
 // The k bytes at the front of `from` go to the front of `out`.
+#[tactic(auto, using(crate::proofs::StageLaws::front_copied))]
 fn copy_front(out: &mut [u8], from: &[u8], k: usize)
     requires out_len { length out.old ≡ 65536 }
     requires from_len { length from.now ≡ 65536 }
@@ -44,10 +47,7 @@ fn output_length(r: Result<Accepted, Refusal>) -> usize
 fn limit(p: Result<usize, Refusal>) -> Result<usize, Refusal>
     ensures { result ≡ limited_answer p }
 {
-    match p {
-        Ok(k) if BUFFER_SIZE < k => Err(Refusal::ResultTooLong),
-        _ => p,
-    }
+    within_buffer(p?)
 }
 
 // The call's answer where the passes end in p.
@@ -71,6 +71,28 @@ fn finish(out: &mut [u8], from: &[u8], p: Result<usize, Refusal>) -> Result<Acce
     r
 }
 
+// The text's map, written at the front of the buffer.
+#[tactic(auto, using(crate::proofs::StageLaws::front_map))]
+fn mapped<'a>(text: &[u8], map: &'a mut [u8]) -> &'a [u8]
+    requires { length text.now ≤ length map.old }
+    ensures same_len { length result.now ≡ length text.now }
+    ensures marks { marked text.now result.now ≡ marked_text text.now }
+{
+    map_text(text, map);
+    &map[..text.len()]
+}
+
+// The same of its map of quotes.
+#[tactic(auto, using(crate::proofs::StageLaws::front_quotes))]
+fn quotes_mapped<'a>(text: &[u8], map: &'a mut [u8]) -> &'a [u8]
+    requires { length text.now ≤ length map.old }
+    ensures same_len { length result.now ≡ length text.now }
+    ensures marks { marked text.now result.now ≡ quote_walk 0 text.now }
+{
+    map_quotes(text, map);
+    &map[..text.len()]
+}
+
 // Pass 2 of a text; `map` takes its map.
 fn elsif_pass(text: &[u8], map: &mut [u8], out: &mut [u8]) -> usize
     requires text_len_bound { length text.now ≤ 65536 }
@@ -78,36 +100,33 @@ fn elsif_pass(text: &[u8], map: &mut [u8], out: &mut [u8]) -> usize
     ensures value { result ≡ length (bytes (elsif (marked_text text.now))) }
     ensures out_after { out.new ≡ sets out.old 0 (bytes (elsif (marked_text text.now))) }
 {
-    let n = text.len();
-    map_text(text, map);
-    transform_elsif(text, &map[..n], out)
+    transform_elsif(text, mapped(text, map), out)
 }
 
 // Pass 3 of a text; `map` takes its map.
+#[tactic(auto, using(crate::proofs::StageLaws::limited_gives), unfolding(spec::specs::Body::assign_pass))]
 fn assign_pass(text: &[u8], map: &mut [u8], out: &mut [u8]) -> Result<usize, Refusal>
     requires text_len_bound { length text.now ≤ 65536 }
     requires text_in_bounds { length text.now ≤ length map.old }
     requires out_len { length out.old ≡ 65536 }
     ensures { Gives (result_of [] (limited (assign_pass text.now))) (finished result) out.new }
 {
-    let n = text.len();
-    map_text(text, map);
-    limit(transform_assignments(text, &map[..n], out))
+    limit(transform_assignments(text, mapped(text, map), out))
 }
 
 // Pass 4 of a text; `map` takes its map of quotes.
+#[tactic(auto, using(crate::proofs::StageLaws::counted_gives), unfolding(spec::specs::Body::select_pass))]
 fn select_pass(text: &[u8], map: &mut [u8], out: &mut [u8]) -> Result<usize, Refusal>
     requires text_len_bound { length text.now ≤ 65536 }
     requires text_in_bounds { length text.now ≤ length map.old }
     requires out_len { length out.old ≡ 65536 }
     ensures { Gives (result_of [] (limited (select_pass text.now))) (finished result) out.new }
 {
-    let n = text.len();
-    map_quotes(text, map);
-    limit(Ok(transform_select_into(text, &map[..n], out)))
+    transform_select_into(text, quotes_mapped(text, map), out)
 }
 
 // Pass 5 of a text; `map` takes its map.
+#[tactic(auto, using(crate::proofs::StageLaws::limited_gives), unfolding(spec::specs::Body::raise_pass))]
 fn raise_pass(
     text: &[u8],
     actions: Actions,
@@ -119,9 +138,7 @@ fn raise_pass(
     requires out_len { length out.old ≡ 65536 }
     ensures { Gives (result_of [] (limited (raise_pass (action_of actions) text.now))) (finished result) out.new }
 {
-    let n = text.len();
-    map_text(text, map);
-    limit(transform_raise_statements(text, &map[..n], actions, out))
+    limit(transform_raise_statements(text, mapped(text, map), actions, out))
 }
 
 // All five passes over the text: each reads the result of the one before, in the buffer where that one left it.
@@ -144,11 +161,8 @@ fn run_passes(
     let Ok(n) = assigned else {
         return finish(output, spare, assigned);
     };
-    let selected = select_pass(&spare[..n], work, output);
-    let Ok(k) = selected else {
-        // Pass 4 refuses by 6 alone, which hands no bytes back.
-        return finish(output, spare, selected);
-    };
+    // Pass 4 refuses by 6 alone, which hands no bytes back.
+    let k = select_pass(&spare[..n], work, output)?;
     let raised = raise_pass(&output[..k], actions, work, spare);
     finish(output, spare, raised)
 }

@@ -8,7 +8,9 @@ ghost use Rattle.spec.specs.Answers.{map_exit, regions_answer, keyword_answer, b
 ghost use Rattle.spec.specs.Levels.{table_of, no_table};
 ghost use Rattle.closed.specs.Answer.{closed_answer};
 ghost use Rattle.plpgsql_rewriter.specs.Four.{narrow, four, four_found, four_filled, four_called};
+ghost use Rattle.searches.specs.Words.{word_found, word_bytes};
 
+use searches::Word;
 use spec::{Accepted, Refusal, RefusalNumbers};
 
 // A number in 32 bits; a larger one is the largest.
@@ -53,6 +55,18 @@ fn of_filled(f: Result<usize, Refusal>) -> [u32; 4]
 {
     match f {
         Ok(n) => four(0, 0, 0, n),
+        Err(r) => of_search_refusal(r),
+    }
+}
+
+// The four numbers of a search for a word.
+#[tactic(auto, unfolding(crate::specs::Four::narrow))]
+fn of_word(found: Result<Option<Word<'_>>, Refusal>) -> [u32; 4]
+    ensures { result ≡ four (search_numbers (word_found found.entry)) (length (word_bytes found.entry)) }
+{
+    match found {
+        Ok(Some(word)) => four(0, 1, word.place, word.bytes.len()),
+        Ok(None) => four(0, 0, 0, 0),
         Err(r) => of_search_refusal(r),
     }
 }
@@ -119,14 +133,7 @@ pub fn plpgsql_next_word_in_code(text: &[u8], map: &mut [u8], from: usize, answe
     ensures map_after { map.new ≡ map_exit text.now map.old [] }
     ensures answer_after { answer.new ≡ four (search_numbers (word_answer text.now map.old from)) (length (word_part text.now map.old from)) }
 {
-    let mut three = [0u32, 0u32, 0u32];
-    let word = searches::next_word_in_code(text, map, from, &mut three);
-    *answer = [
-        three[0],
-        three[1],
-        narrowed(three[2] as usize),
-        narrowed(word.len()),
-    ];
+    *answer = of_word(searches::next_word_in_code(text, map, from));
 }
 
 // `split_in_code`; the fourth number counts the pieces.

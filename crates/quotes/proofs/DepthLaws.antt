@@ -2,17 +2,17 @@
 -- Assumes nothing.
 use Rattle.std.specs.Prelude.{Option, Some, None}
 use mathlib.Core.Path.{◌≡◌, refl, sym, ap, ◌∙◌}
-use mathlib.Core.Bool.{Bool, true, false, cond, not, ◌&&◌}
+use mathlib.Core.Bool.{Bool, true, false, cond, ◌&&◌}
 use mathlib.Core.List.{List, [], ◌∷◌, reverse}
 use Prim.Native.Nat.{ℕ, zero, suc, ◌+◌, ◌-◌, ◌≤◌, ◌<◌}
 use native.Mathlib.Omega.{arith}
 use lib.Dec.{eqb, eqb-suc-zero}
 use lib.ListN.{length, take, drop, get_or, length-take, length-reverse}
-use lib.Seq.{drop-drop, take_all}
+use lib.Seq.{take_all}
 use Rattle.spec.proofs.Choice.{cond_le}
 use Rattle.spec.proofs.MapLaws.{marked_length}
-use Rattle.spec.proofs.WalkLaws.{marked_step, marked_back, mark_live_byte, front_live_lem, front_byte_lem, byte_before, starts_case_at, passes_at, first_end, first_hit, first_miss}
-use Rattle.spec.specs.Bytes.{upper, is_ident, prefix_by}
+use Rattle.spec.proofs.WalkLaws.{marked_step, marked_back, mark_live_byte, byte_before, passes_at, first_end, first_hit, first_miss}
+use Rattle.spec.specs.Bytes.{is_ident}
 use Rattle.spec.specs.Map.{Marked, live, quoted, mark, marked, front_byte}
 use Rattle.spec.specs.Search.{first, byte_here, word_here}
 use Rattle.spec.specs.SelectInto.{depth_after, depth_of, top_word_here, comma_here, place_or}
@@ -61,19 +61,10 @@ module _ (xs ms : List ℕ) where
   -- ---- a keyword
 
   -- the byte before i
-  byte_back : (i : ℕ) → i ≤ length xs → front_byte (reverse (take i (marked xs ms))) ≡ cond (eqb i 0) 0 (get_or xs (i - 1) 0)
+  pub byte_back : (i : ℕ) → i ≤ length xs → front_byte (reverse (take i (marked xs ms))) ≡ cond (eqb i 0) 0 (get_or xs (i - 1) 0)
   unfolding front_byte
   byte_back zero h = refl
   byte_back (suc i) h = rw eqb-suc-zero (byte_before xs ms (suc i) (omega arith) h)
-
-  -- w stands at i as a word: what is to be asked of the bytes and the map; m is the map byte, b the byte before, a the one
-  -- behind
-  pub word_here_lem : (w : List ℕ) (i m b a : ℕ) → i < length xs → m ≡ get_or ms i 0 → b ≡ cond (eqb i 0) 0 (get_or xs (i - 1) 0) → a ≡ get_or xs (i + length w) 0
-      → word_here is_ident w (front_byte (reverse (take i (marked xs ms)))) (drop i (marked xs ms))
-      ≡ (eqb m 0 && (prefix_by upper w (drop i xs) && (not (is_ident b) && not (is_ident a))))
-  unfolding word_here
-  word_here_lem w i m b a h e f g =
-      rw (e, f, g, front_live_lem xs ms i h, starts_case_at w xs ms i, byte_back i (omega arith), drop-drop (length w) i (marked xs ms), front_byte_lem xs ms (i + length w)) refl
 
   -- the search for a keyword outside parentheses, d being open at i
   module _ (w : List ℕ) (i : ℕ) where

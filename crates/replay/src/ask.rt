@@ -17,19 +17,6 @@ pub struct Counts {
     pub starts: usize,
 }
 
-// The numbers of the next word.
-fn next_word(question: Question<'_>, map: &mut [u8]) -> Numbers {
-    let mut three = [0u32; 3];
-    let word = searches::next_word_in_code(question.text, map, question.from, &mut three);
-    let [number, found, place] = three;
-    Numbers {
-        number: number as usize,
-        found: found as usize,
-        place: place as usize,
-        length: word.len(),
-    }
-}
-
 // Any search. `bytes` is lent as the map or the output.
 pub fn ask(kind: Kind, question: Question<'_>, bytes: &mut [u8], starts: &mut [u32]) -> Numbers {
     let Question { text, needle, from } = question;
@@ -39,7 +26,7 @@ pub fn ask(kind: Kind, question: Question<'_>, bytes: &mut [u8], starts: &mut [u
         Kind::Keyword => searches::find_keyword(text, bytes, needle, from).into(),
         Kind::Byte => searches::find_in_code(text, bytes, byte).into(),
         Kind::Needle => searches::find_str_in_code(text, bytes, needle).into(),
-        Kind::NextWord => next_word(question, bytes),
+        Kind::NextWord => searches::next_word_in_code(text, bytes, from).into(),
         Kind::Split => searches::split_in_code(text, bytes, starts, byte).into(),
         Kind::Requote => searches::requote_dollar_literals(text, bytes).into(),
         Kind::RequotedLength => searches::requoted_length(text).into(),

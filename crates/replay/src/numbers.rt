@@ -1,4 +1,5 @@
 // The numbers that an answer stands for: number, found, place, and the length of what was found or written.
+use searches::Word;
 use spec::{Refusal, RefusalNumbers};
 
 #[derive(Clone, Copy, Default, PartialEq)]
@@ -34,6 +35,21 @@ impl From<Result<Option<usize>, Refusal>> for Numbers {
             Ok(Some(place)) => Numbers {
                 found: 1,
                 place,
+                ..Numbers::default()
+            },
+            Ok(None) => Numbers::default(),
+            Err(refusal) => refusal.into(),
+        }
+    }
+}
+
+impl From<Result<Option<Word<'_>>, Refusal>> for Numbers {
+    fn from(search: Result<Option<Word<'_>>, Refusal>) -> Numbers {
+        match search {
+            Ok(Some(word)) => Numbers {
+                found: 1,
+                place: word.place,
+                length: word.bytes.len(),
                 ..Numbers::default()
             },
             Ok(None) => Numbers::default(),

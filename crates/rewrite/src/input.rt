@@ -1,5 +1,5 @@
 // The text on standard input, and the table in a file.
-ghost use Rattle.std.specs.Prelude.{◌≤◌, length};
+ghost use Rattle.std.specs.Prelude.{◌≤◌, IfOk, length};
 
 use std::io;
 use std::io::Read;
@@ -19,7 +19,9 @@ fn append(text: &mut [u8], n: usize, more: &[u8]) -> usize
 
 // Reads the file to its end and gives the text. Bytes that the buffer has no room for are read and dropped, so that whoever
 // writes them sees no error. A proved loop has to end, so its turns are bounded by a number that no input uses up.
-pub fn read_text<'a>(file: &mut impl Read, text: &'a mut [u8]) -> io::Result<&'a [u8]> {
+pub fn read_text<'a>(file: &mut impl Read, text: &'a mut [u8]) -> io::Result<&'a [u8]>
+    ensures { IfOk result (λ read. length read.now ≤ length text.old) }
+{
     let mut chunk = [0u8; 4096];
     let mut n = 0;
     for _turn in 0..u64::MAX {

@@ -1,4 +1,6 @@
 // The table of levels, in the file that the argument names.
+ghost use Rattle.std.specs.Prelude.{◌≤◌, IfOk, IfSome, length};
+
 use crate::failure::{Reported, report};
 use crate::input::read_text;
 use std::env::{Env, FillError};
@@ -7,7 +9,9 @@ use std::io;
 use std::rt::Files;
 
 // Opens the file and reads the table from it.
-fn open_and_read<'a>(rt: &impl Files, path: &str, table: &'a mut [u8]) -> io::Result<&'a [u8]> {
+fn open_and_read<'a>(rt: &impl Files, path: &str, table: &'a mut [u8]) -> io::Result<&'a [u8]>
+    ensures { IfOk result (λ read. length read.now ≤ length table.old) }
+{
     let mut file = File::open(rt, path)?;
     read_text(&mut file, table)
 }
@@ -26,7 +30,9 @@ fn bad_name(rt: &impl Eprint, why: &str) -> Reported {
 pub fn read_table<'a>(
     rt: &(impl Env + Files + Eprint),
     table: &'a mut [u8],
-) -> Result<Option<&'a [u8]>, Reported> {
+) -> Result<Option<&'a [u8]>, Reported>
+    ensures { IfOk result (λ told. IfSome told (λ read. length read.now ≤ length table.old)) }
+{
     let mut path = [0u8; 4096];
     let n = match rt.arg(1, &mut path) {
         Ok(n) => n,

@@ -12,19 +12,31 @@ use lib.Seq.{drop-drop}
 use Rattle.spec.proofs.ByteSets.{sign_not_word}
 use Rattle.spec.proofs.Choice.{by}
 use Rattle.spec.proofs.MapLaws.{marked_length}
-use Rattle.spec.proofs.WalkLaws.{prefix_by_len, prefix_hit, starts_case_at, passes_at, front_live_lem, front_byte_lem, byte_before, first_hit, first_miss}
+use Rattle.spec.proofs.WalkLaws.{prefix_by_len, prefix_hit, prefix_miss, prefix_whole, starts_case_at, passes_at, front_live_lem, front_byte_lem, byte_before, first_hit, first_miss}
 use Rattle.spec.proofs.FirstLaws.{none_first}
 use Rattle.spec.specs.Bytes.{is_word, upper, prefix_by}
 use Rattle.spec.specs.Map.{marked, front_byte}
 use Rattle.spec.specs.Search.{first, word_here, keyword_here}
 use Rattle.scanner.specs.Edges.{edges}
 
--- one byte more of a word compared with the text at offset i
+-- a word that stands at offset i fits the text
+pub prefix_fits : (w xs : List ℕ) (i : ℕ) → i < length xs → prefix_by upper w (drop i xs) ≡ true → i + length w ≤ length xs
+prefix_fits w xs i h e = omega (arith, prefix_by_len upper w (drop i xs) e, length-drop i xs)
+
+-- a word's rest stands behind offset i from its byte j on: one byte more
 pub next_byte : (f : ℕ → ℕ) (w xs : List ℕ) (i j : ℕ) → j < length w → i + j < length xs → f (get_or xs (i + j) 0) ≡ f (get_or w j 0)
     → prefix_by f (drop j w) (drop (i + j) xs) ≡ prefix_by f (drop (j + 1) w) (drop (i + (j + 1)) xs)
 next_byte f w xs i j a b e =
     let k : i + (j + 1) ≡ i + j + 1 = omega arith in
     rw k (prefix_hit f w xs j (i + j) a b e)
+
+-- a word that no byte of a set touches, by the bytes and the map; p is the byte before
+pub word_here_lem : (set : ℕ → Bool) (w xs ms : List ℕ) (p i : ℕ) → i < length xs
+    → word_here set w p (drop i (marked xs ms))
+    ≡ (eqb (get_or ms i 0) 0 && (prefix_by upper w (drop i xs) && (not (set p) && not (set (get_or xs (i + length w) 0)))))
+unfolding word_here
+word_here_lem set w xs ms p i h =
+    rw (drop-drop (length w) i (marked xs ms), front_live_lem xs ms i h, starts_case_at w xs ms i, front_byte_lem xs ms (i + length w)) refl
 
 -- a word byte before offset i
 word_back : (xs ms : List ℕ) (i : ℕ) → i ≤ length xs
@@ -47,13 +59,9 @@ regroup false m b c = refl
 module _ (xs ms w : List ℕ) where
   -- whether a keyword stands at i, by the bytes and the map
   pub key_here : (i : ℕ) → i < length xs → passes_at (keyword_here w) (marked xs ms) i ≡ (edges xs ms (length w) i && prefix_by upper w (drop i xs))
-  unfolding keyword_here word_here edges
+  unfolding keyword_here edges
   key_here i h =
-      let b = word_back xs ms i (omega arith) in
-      let l = front_live_lem xs ms i h in
-      let s = starts_case_at w xs ms i in
-      let r = front_byte_lem xs ms (i + length w) in
-      rw (drop-drop (length w) i (marked xs ms), l, s, b, r)
+      rw (word_here_lem is_word w xs ms (front_byte (reverse (take i (marked xs ms)))) i h, word_back xs ms i (omega arith))
       (regroup (eqb (get_or ms i 0) 0) (prefix_by upper w (drop i xs))
       (not (cond (eqb i 0) false (is_word (get_or xs (i - 1) 0)))) (not (is_word (get_or xs (i + length w) 0))))
 
@@ -62,6 +70,19 @@ module _ (xs ms w : List ℕ) where
 
   pub key_off : (i : ℕ) → i < length xs → prefix_by upper w (drop i xs) ≡ false → first (keyword_here w) i (marked xs ms) ≡ first (keyword_here w) (i + 1) (marked xs ms)
   key_off i h e = first_miss (keyword_here w) (marked xs ms) i (rw marked_length h) (key_here i h ∙ (ap (λ (b : Bool). edges xs ms (length w) i && b) e ∙ and-false (edges xs ms (length w) i)))
+
+  -- the first byte of the word differs
+  pub key_initial : (i : ℕ) → 0 < length w → i < length xs → (upper (get_or xs i 0) ≡ upper (get_or w 0 0) → ⊥) → first (keyword_here w) i (marked xs ms) ≡ first (keyword_here w) (i + 1) (marked xs ms)
+  key_initial i e h n = key_off i h (prefix_miss upper w xs 0 i e h n)
+
+  -- a later byte differs, the rest from it on being what is left to compare
+  pub key_differs : (i j : ℕ) → prefix_by upper w (drop i xs) ≡ prefix_by upper (drop j w) (drop (i + j) xs) → j < length w → i + j < length xs
+      → (upper (get_or xs (i + j) 0) ≡ upper (get_or w j 0) → ⊥) → first (keyword_here w) i (marked xs ms) ≡ first (keyword_here w) (i + 1) (marked xs ms)
+  key_differs i j e a b n = key_off i (omega arith) (e ∙ prefix_miss upper w xs j (i + j) a b n)
+
+  -- all its bytes are compared
+  pub key_whole : (i j : ℕ) → prefix_by upper w (drop i xs) ≡ prefix_by upper (drop j w) (drop (i + j) xs) → length w ≤ j → prefix_by upper w (drop i xs) ≡ true
+  key_whole i j e h = e ∙ prefix_whole upper w xs j (i + j) h
 
   pub key_hit : (i : ℕ) → i < length xs → edges xs ms (length w) i ≡ true → prefix_by upper w (drop i xs) ≡ true → first (keyword_here w) i (marked xs ms) ≡ Some i
   key_hit i h e m = first_hit (keyword_here w) (marked xs ms) i (rw marked_length h) (key_here i h ∙ simp (e, m))

@@ -1,4 +1,6 @@
+pub mod PrefixLaws
 pub mod KeywordLaws
+pub mod OffsetLaws
 pub mod ByteLaws
 pub mod SpanWalkLaws
 pub mod WordLaws

@@ -1,7 +1,7 @@
 -- Walks from span to span: a turn and the end of the map's, and of the search for a dollar literal that is not closed.
 -- Assumes nothing.
-use mathlib.Core.Path.{◌≡◌, ap, ◌∙◌}
-use mathlib.Core.Bool.{false, ◌||◌}
+use mathlib.Core.Path.{◌≡◌, refl, ap, ◌∙◌}
+use mathlib.Core.Bool.{true, false, ◌||◌}
 use mathlib.Core.List.{List, ◌∷◌, ◌++◌}
 use Prim.Native.Nat.{ℕ, ◌+◌, ◌-◌, ◌≤◌}
 use native.Mathlib.Omega.{arith}
@@ -41,11 +41,17 @@ module _ (xs : List ℕ) (at : ℕ) (s : Span) (to : ℕ) (t : Stepped xs at s t
       sets_more d d' _ (replicate (to - at) (span_flag s)) (map_of (drop to xs)) at to map_ahead e n
 
   -- a turn of `has_unterminated`
-  pub unclosed_ahead : has_unterminated_dollar_quote (drop at xs) ≡ (is_unclosed s || has_unterminated_dollar_quote (drop to xs))
+  unclosed_ahead : has_unterminated_dollar_quote (drop at xs) ≡ (is_unclosed s || has_unterminated_dollar_quote (drop to xs))
   unclosed_ahead =
       rw (t.front, ← t.behind)
       (by_front (λ (l : List ℕ). has_unterminated_dollar_quote l ≡ (is_unclosed (span_at l) || has_unterminated_dollar_quote (drop (span_len (span_at l)) l)))
       unclosed_step (drop at xs) (omega (arith, t.before, length-drop at xs)))
+
+  pub unclosed_here : is_unclosed s ≡ true → has_unterminated_dollar_quote (drop at xs) ≡ true
+  unclosed_here e = unclosed_ahead ∙ rw e refl
+
+  pub unclosed_behind : is_unclosed s ≡ false → has_unterminated_dollar_quote (drop at xs) ≡ has_unterminated_dollar_quote (drop to xs)
+  unclosed_behind e = unclosed_ahead ∙ rw e refl
 
 module _ (xs : List ℕ) (at : ℕ) (h : length xs ≤ at) where
   -- all is stored

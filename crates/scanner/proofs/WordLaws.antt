@@ -3,16 +3,18 @@
 use mathlib.Core.Path.{◌≡◌, refl, sym, ap, ◌∙◌}
 use mathlib.Core.Bool.{Bool, true, false, ◌&&◌}
 use mathlib.Core.List.{List}
-use Prim.Native.Nat.{ℕ, ◌+◌, ◌-◌, ◌≤◌, ◌<◌}
+use Prim.Native.Nat.{ℕ, zero, suc, ◌+◌, ◌-◌, ◌≤◌, ◌<◌}
 use native.Mathlib.Omega.{arith}
-use borrow.Author.Tests.{eq-eqb, ne_eqb}
 use lib.Dec.{eqb}
 use lib.ListN.{length, take, drop, get_or, length-drop}
 use lib.Seq.{drop-drop}
+use Rattle.std.specs.List.{range_with_len, take_while as library_take_while}
+use Rattle.std.proofs.lemmas.List.Sums.{take_while-cons}
 use Rattle.spec.specs.Bytes.{upper, prefix_by}
 use Rattle.spec.specs.Lists.{take_while}
 use Rattle.spec.specs.Map.{Marked, live, byte, mark, marked, bytes}
 use Rattle.spec.specs.Search.{is_skipped, is_word_mark, next_word, is_word_text}
+use Rattle.spec.proofs.Choice.{by}
 use Rattle.spec.proofs.MapLaws.{marked_length}
 use Rattle.spec.proofs.RunPlaces as places
 use Rattle.spec.proofs.WalkLaws.{map_take, marked_at_lem, bytes_drop, starts_case, while_take, while_drop, while_length}
@@ -39,6 +41,19 @@ module _ (f : Marked → Bool) (xs ms : List ℕ) where
 
       pub end_here : f (mark m (get_or xs i 0)) ≡ false → end_from i ≡ i
       end_here q = runs.end_here f (marked xs ms) i (live 0) (rw marked_length h) (here false q)
+
+  -- the same as a run over the offsets from i on, of which n are left
+  abbrev pub passes : ℕ → Bool
+  passes i = f (mark (get_or ms i 0) (get_or xs i 0))
+
+  pub run_of_range : (n i : ℕ) → length xs - i ≡ n → i + length (library_take_while passes (range_with_len i n)) ≡ end_from i
+  run_of_range zero i h = omega (arith, end_past i (omega arith))
+  run_of_range (suc n) i h =
+      let more = run_of_range n (i + 1) (omega arith) in
+      rw take_while-cons
+      (by (passes i)
+      (λ e. rw e (omega (arith, more, end_step i (get_or ms i 0) (omega arith) refl e)))
+      (λ e. rw e (omega (arith, end_here i (get_or ms i 0) (omega arith) refl e))))
 
 -- ---- the next word
 
@@ -68,12 +83,6 @@ module _ (xs ms : List ℕ) (from s e : ℕ) (hs : s ≡ end_from is_skipped xs 
       omega (arith, while_length is_word_mark (drop s (marked xs ms)), length-drop s (marked xs ms), marked_length xs ms)
 
   -- comparing it compares its length, then that part of the text
-  word_is : (w : List ℕ) → is_word_text w (next_word (drop from (marked xs ms))) ≡ (eqb (e - s) (length w) && prefix_by upper w (take (e - s) (drop s xs)))
+  pub word_is : (w : List ℕ) → is_word_text w (next_word (drop from (marked xs ms))) ≡ (eqb (e - s) (length w) && prefix_by upper w (take (e - s) (drop s xs)))
   unfolding is_word_text
   word_is w = rw (word_text_lem, starts_case, word_length, word_bytes) refl
-
-  pub word_hit : (w : List ℕ) → e - s ≡ length w → is_word_text w (next_word (drop from (marked xs ms))) ≡ prefix_by upper w (take (e - s) (drop s xs))
-  word_hit w h = word_is w ∙ simp (eq-eqb (e - s) (length w) h)
-
-  pub word_miss : (w : List ℕ) → (e - s ≡ length w → ⊥) → is_word_text w (next_word (drop from (marked xs ms))) ≡ false
-  word_miss w h = word_is w ∙ simp (ne_eqb (e - s) (length w) h)

@@ -3,7 +3,8 @@
 #![tactic(auto)]
 
 ghost use Rattle.std.specs.Prelude.{◌≡◌, [], ◌∷◌, ◌≤◌, ◌+◌, ◌&&◌, leb, length};
-ghost use Rattle.spec.specs.Answers.{map_check, map_exit, if_passed, yes_no, regions_answer, keyword_answer, byte_answer, needle_answer, word_answer, word_part, search_numbers, search_list, refusal_numbers, handler_answer, unterminated_answer, split_check, split_answer, split_map_exit, split_exit, requoted_length_answer, requote_answer, requote_exit};
+ghost use Rattle.spec.specs.Answers.{map_check, map_exit, if_passed, yes_no, regions_answer, keyword_answer, byte_answer, needle_answer, word_answer, word_part, handler_answer, unterminated_answer, split_check, split_answer, split_map_exit, split_exit, requoted_length_answer, requote_answer, requote_exit};
+ghost use Rattle.searches.specs.Words.{word_found, word_bytes};
 
 use checks::check_texts;
 use requote::{requote, requoted_len};
@@ -11,7 +12,7 @@ use scanner::{
     find_byte_in, find_keyword_in, find_str_in, has_handler_in, has_unterminated, map_text,
     split_in, word_end, word_start,
 };
-use spec::{Refusal, RefusalNumbers};
+use spec::Refusal;
 
 // The most bytes that a search's text may have.
 const SEARCH_LIMIT: usize = 65536;
@@ -83,47 +84,36 @@ pub fn find_str_in_code(
     Ok(find_str_in(text, map, needle, 0))
 }
 
-// The three numbers of an answer.
-fn put_answer(answer: &mut [u32; 3], number: u32, found: u32, place: u32)
-    ensures { answer.new ≡ number ∷ found ∷ place ∷ [] }
-{
-    *answer = [number, found, place];
+// A word of live text: its offset, and its bytes, which are a part of the caller's text.
+#[derive(Clone, Copy)]
+pub struct Word<'a> {
+    pub place: usize,
+    pub bytes: &'a [u8],
 }
 
-// The numbers of a refused search.
-fn put_refusal(answer: &mut [u32; 3], r: Refusal)
-    requires { (refusal_numbers r).place ≤ 65536 }
-    ensures { answer.new ≡ (refusal_numbers r).number ∷ 0 ∷ (refusal_numbers r).place ∷ [] }
-{
-    let n = RefusalNumbers::from(r);
-    put_answer(answer, n.number, 0, n.place as u32);
-}
-
-// The next word of live text at or after `from`: that part of the caller's text, empty if there is none. The answer's
-// numbers are the number, the found flag and the place.
+// The next word of live text at or after `from`.
+#[tactic(auto, using(crate::proofs::CheckedLaws::passed_marks), unfolding(spec::specs::Answers::word_answer, spec::specs::Answers::word_part))]
 pub fn next_word_in_code<'a>(
     text: &'a [u8],
     map: &mut [u8],
     from: usize,
-    answer: &mut [u32; 3],
-) -> &'a [u8]
-    ensures result_value { result.now ≡ word_part text.now map.old from }
+) -> Result<Option<Word<'a>>, Refusal>
+    ensures value { word_found result ≡ word_answer text.now map.old from }
+    ensures bytes { word_bytes result ≡ word_part text.now map.old from }
     ensures map_after { map.new ≡ map_exit text.now map.old [] }
-    ensures answer_after { answer.new ≡ search_list (search_numbers (word_answer text.now map.old from)) }
 {
-    let check = map_checked(text, map, b"");
-    let Err(r) = check else {
-        let start = word_start(text, map, from);
-        let end = word_end(text, map, start);
-        if start < end {
-            put_answer(answer, 0, 1, start as u32);
-            return &text[start..end];
-        }
-        put_answer(answer, 0, 0, 0);
-        return &text[..0];
-    };
-    put_refusal(answer, r);
-    &text[..0]
+    map_checked(text, map, b"")?;
+    let start = word_start(text, map, from);
+    let end = word_end(text, map, start);
+    if start < end {
+        let bytes = &text[start..end];
+        Ok(Some(Word {
+            place: start,
+            bytes,
+        }))
+    } else {
+        Ok(None)
+    }
 }
 
 // Whether a live EXCEPTION has WHEN as its next live word.

@@ -1,15 +1,16 @@
 -- A statement that is cut by its keywords, as bytes. Assumes nothing.
-use Rattle.std.specs.Prelude.{Option, Some, None}
+use Rattle.std.specs.Prelude.{Option, Some, None, unwrap_or}
 use mathlib.Core.Path.{◌≡◌, refl, sym, ap, ◌∙◌}
 use mathlib.Core.Bool.{true, false}
 use mathlib.Core.List.{List, ◌++◌, reverse}
-use Prim.Native.Nat.{ℕ, ◌+◌, ◌-◌, ◌≤◌, zero-le}
+use Prim.Native.Nat.{ℕ, ◌+◌, ◌-◌, ◌≤◌, zero-le, min}
 use native.Mathlib.Omega.{arith}
-use lib.Dec.{eqb}
-use lib.ListN.{length, take, drop, length-drop}
-use lib.Seq.{drop-length, length-take-le}
+use borrow.Author.Tests.{ltb-true, ltb-false}
+use lib.Dec.{eqb, ltb}
+use lib.ListN.{length, take, drop, length-drop, length-take}
+use lib.Seq.{drop-length}
 use Rattle.spec.proofs.BytesLaws.{bytes_append, bytes_end}
-use Rattle.spec.proofs.Choice.{and_left}
+use Rattle.spec.proofs.Choice.{by, and_left}
 use Rattle.spec.proofs.FirstLaws.{first_least}
 use Rattle.spec.proofs.LengthLaws.{word_in}
 use Rattle.spec.proofs.MapLaws.{marked_bytes, marked_length}
@@ -39,7 +40,7 @@ word_within w xs ms i j e =
     let m = starts_length w (drop j t) (word_in is_ident w p (drop j t) h) in
     omega (arith, length-drop j t, r.inside, marked_length xs ms)
 
-pub place_bound : (f : Option ℕ) (n m : ℕ) → place_or f 0 ≤ m → n ≤ m → place_or f n ≤ m
+pub place_bound : (f : Option ℕ) (n m : ℕ) → place_or f 0 ≤ m → n ≤ m → unwrap_or f n ≤ m
 place_bound (Some i) n m h k = h
 place_bound None n m h k = k
 
@@ -47,19 +48,25 @@ pub found_bound : (p : Test) (xs ms : List ℕ) (i : ℕ) (f : Option ℕ) → f
 found_bound p xs ms i (Some j) e = omega (arith, first_within p (marked xs ms) i j (sym e), marked_length xs ms)
 found_bound p xs ms i None e = zero-le
 
+-- the WITH that was found if it stands before SELECT, else SELECT
+pub front_least : (f : Option ℕ) (s : ℕ) → min (unwrap_or f s) s ≡ front_place f s
+unfolding front_place
+front_least None s = omega arith
+front_least (Some w) s = by (ltb w s) (λ e. rw e (omega (arith, ltb-true w s e))) (λ e. rw e (omega (arith, ltb-false w s e)))
+
+-- the place that was found, or n
+pub place_told : (f : Option ℕ) (n : ℕ) → unwrap_or f n ≡ place_or f n
+place_told (Some i) n = refl
+place_told None n = refl
+
+-- a part and its map
+pub part_mapped : (xs ms : List ℕ) (a k : ℕ) → length xs ≤ length ms → length (take k (drop a xs)) ≤ length (take k (drop a ms))
+part_mapped xs ms a k h =
+    omega (arith, length-take k (drop a xs), length-take k (drop a ms), length-drop a xs, length-drop a ms)
+
 -- ---- the parts of a statement
 
 module _ (xs ms : List ℕ) where
-  -- the bytes from a up to b, where c is the greater of both
-  pub part_marked : (a b c : ℕ) → c ≡ a + (b - a) → marked (take (c - a) (drop a xs)) (take (c - a) (drop a ms)) ≡ part a b (marked xs ms)
-  part_marked a b c e =
-      let k : c - a ≡ b - a = omega arith in
-      marked_part a (c - a) xs ms ∙ ap (λ (n : ℕ). take n (drop a (marked xs ms))) k
-
-  pub part_mapped : (a c : ℕ) → length xs ≤ length ms → a ≤ c → c ≤ length xs → length (take (c - a) (drop a xs)) ≤ length (take (c - a) (drop a ms))
-  part_mapped a c h k m =
-      omega (arith, length-take-le (c - a) (drop a xs) (omega (arith, length-drop a xs)), length-take-le (c - a) (drop a ms) (omega (arith, length-drop a ms)))
-
   from_bytes : (f : Option ℕ) → bytes (from_part f (marked xs ms)) ≡ from_text (drop (place_or f (length xs)) xs)
   unfolding from_part from_text trim_end bytes drop_end
   from_bytes (Some i) =
@@ -103,26 +110,24 @@ module _ (xs ms : List ℕ) where
         (lines_bytes (part front s t) (from_part f t) (indentation (take front t)) cols vars (listed_trimmed (part (s + 6) i t))
         ∙ ap (λ (h : Shared). lines_text h cols vars) (shared_bytes front s f))))
 
-    -- the columns and variables by the offsets that `put_cut` computes
-    module _ (b d p : ℕ) (eb : b ≡ s + 6 + (i - (s + 6))) (ed : d ≡ i + 4 + (p - (i + 4))) (ep : p ≡ place_or f (length xs - 1)) where
-      cols_same : listed (marked (take (b - (s + 6)) (drop (s + 6) xs)) (take (b - (s + 6)) (drop (s + 6) ms))) ≡ cols
-      cols_same = ap listed (part_marked (s + 6) i b eb)
+    -- the columns and variables with their maps, as `put_cut` cuts them out
+    module _ (c cm v vm : List ℕ) (p : ℕ)
+        (ec : c ≡ take (i - (s + 6)) (drop (s + 6) xs)) (ecm : cm ≡ take (i - (s + 6)) (drop (s + 6) ms))
+        (ev : v ≡ take (p - (i + 4)) (drop (i + 4) xs)) (evm : vm ≡ take (p - (i + 4)) (drop (i + 4) ms))
+        (ep : p ≡ unwrap_or f (length xs - 1)) where
+      cols_same : listed (marked c cm) ≡ cols
+      cols_same = rw (ec, ecm) (ap listed (marked_part (s + 6) (i - (s + 6)) xs ms))
 
-      vars_same : listed (marked (take (d - (i + 4)) (drop (i + 4) xs)) (take (d - (i + 4)) (drop (i + 4) ms))) ≡ vars
+      vars_same : listed (marked v vm) ≡ vars
       vars_same =
-          ap listed
-          (part_marked (i + 4) p d ed
-          ∙ ap (λ (n : ℕ). part (i + 4) n (marked xs ms)) (ep ∙ ap (λ (n : ℕ). place_or f (n - 1)) (sym (marked_length xs ms))))
+          rw (ev, evm, ep)
+          (ap listed
+          (marked_part (i + 4) (unwrap_or f (length xs - 1) - (i + 4)) xs ms
+          ∙ ap (λ (n : ℕ). part (i + 4) n (marked xs ms)) (place_told f (length xs - 1) ∙ ap (λ (n : ℕ). place_or f (n - 1)) (sym (marked_length xs ms)))))
 
-      abbrev cols_at : List (List Marked)
-      cols_at = listed (marked (take (b - (s + 6)) (drop (s + 6) xs)) (take (b - (s + 6)) (drop (s + 6) ms)))
-
-      abbrev vars_at : List (List Marked)
-      vars_at = listed (marked (take (d - (i + 4)) (drop (i + 4) xs)) (take (d - (i + 4)) (drop (i + 4) ms)))
-
-      pub cut_copied : pair_up cols_at vars_at ≡ false → xs ≡ bytes (select_cut s i f (marked xs ms))
+      pub cut_copied : pair_up (listed (marked c cm)) (listed (marked v vm)) ≡ false → xs ≡ bytes (select_cut s i f (marked xs ms))
       cut_copied e = sym (cut_same (rw (cols_same, vars_same) at e))
 
-      pub cut_written : (n g : ℕ) → n ≡ front → g ≡ place_or f (length xs) → pair_up cols_at vars_at ≡ true
-          → pairs_text xs n s g cols_at vars_at ≡ bytes (select_cut s i f (marked xs ms))
-      cut_written n g en eg e = rw (en, eg, cols_same, vars_same) (sym (cut_pairs (rw (cols_same, vars_same) at e)))
+      pub cut_written : (n g : ℕ) → n ≡ front → g ≡ unwrap_or f (length xs) → pair_up (listed (marked c cm)) (listed (marked v vm)) ≡ true
+          → pairs_text xs n s g (listed (marked c cm)) (listed (marked v vm)) ≡ bytes (select_cut s i f (marked xs ms))
+      cut_written n g en eg e = rw (en, eg, place_told f (length xs), cols_same, vars_same) (sym (cut_pairs (rw (cols_same, vars_same) at e)))

@@ -2,7 +2,7 @@
 use mathlib.Core.Path.{◌≡◌, refl, sym, ap, ◌∙◌}
 use mathlib.Core.Bool.{Bool, true, false, not, ◌&&◌, ◌||◌, and-false}
 use mathlib.Core.List.{List, [], ◌∷◌}
-use Prim.Native.Nat.{ℕ, suc, ◌+◌, ◌-◌}
+use Prim.Native.Nat.{ℕ, suc}
 use native.Mathlib.Omega.{arith}
 use borrow.Author.Tests.{eq-eqb, ne_eqb}
 use lib.Dec.{eqb}
@@ -17,13 +17,6 @@ use Rattle.quotes.specs.declared.Item.{Item}
 use Rattle.std.specs.Prelude.{Option, Some, None, is_some}
 
 -- ---- what `next_item` gave
-
-module _ (t : List Marked) (i : ℕ) (r : Option Item) (f : FirstItem t i r) where
-  pub item_part : (p : Item) → r ≡ Some p → Listed t i p.start p.len p.next
-  item_part p e = rw e at f
-
-  pub item_over : r ≡ None → listed (drop i t) ≡ []
-  item_over e = rw e at f
 
 module _ (t : List Marked) (i a k n : ℕ) (h : Listed t i a k n) where
   pub more_parts : not (is_empty (listed (drop i t))) ≡ true
@@ -68,11 +61,22 @@ unfolding any of_byte bytes
 any_bytes f [] = refl
 any_bytes f (x ∷ t) = ap (λ (b : Bool). f (byte x) || b) (any_bytes f t)
 
--- the bytes of a part, by its end
-pub any_part : (f : ℕ → Bool) (xs ms : List ℕ) (a k : ℕ) → any f (take (a + k - a) (drop a xs)) ≡ any (of_byte f) (take k (drop a (marked xs ms)))
-any_part f xs ms a k =
-    let e : a + k - a ≡ k = omega arith in
-    rw e (ap (any f) (sym (bytes_part a k xs ms)) ∙ sym (any_bytes f (take k (drop a (marked xs ms)))))
+-- whether W stands in a part from i on: in the first one, behind it, or in none
+abbrev pub has_w : List (List Marked) → Bool
+has_w = any (λ (v : List Marked). any (of_byte is_w) v)
+
+module _ (xs ms : List ℕ) (i a k n : ℕ) (h : Listed (marked xs ms) i a k n) where
+  part_bytes : any (of_byte is_w) (take k (drop a (marked xs ms))) ≡ any is_w (take k (drop a xs))
+  part_bytes = any_bytes is_w (take k (drop a (marked xs ms))) ∙ ap (any is_w) (bytes_part a k xs ms)
+
+  pub w_here : any is_w (take k (drop a xs)) ≡ true → has_w (listed (drop i (marked xs ms))) ≡ true
+  w_here e = any_hit (λ (v : List Marked). any (of_byte is_w) v) _ _ _ h.front (part_bytes ∙ e)
+
+  pub w_behind : any is_w (take k (drop a xs)) ≡ false → has_w (listed (drop i (marked xs ms))) ≡ has_w (listed (drop n (marked xs ms)))
+  w_behind e = any_miss (λ (v : List Marked). any (of_byte is_w) v) _ _ _ h.front (part_bytes ∙ e)
+
+pub w_nowhere : (l : List (List Marked)) → l ≡ [] → has_w l ≡ false
+w_nowhere l e = any_none (λ (v : List Marked). any (of_byte is_w) v) l e
 
 -- ---- pairs
 

@@ -36,6 +36,17 @@ module _ (t : List Marked) (o more : Option Target) where
   tells_next (Some p) h w = absurd (false≢true (sym h))
   tells_next None h w = ap (λ (o : Option Target). or_else o more) w.target
 
+  -- the same by what the first tells
+  pub tells_some : (p : TargetPlaces) → Tells t o (Some p) → Tells t (or_else o more) (Some p)
+  tells_some p w = tells_first (Some p) refl w
+
+  pub tells_none : (r : Option TargetPlaces) → Tells t o None → Tells t more r → Tells t (or_else o more) r
+  tells_none r w v = rw (tells_next None refl w) v
+
+-- no place tells that there is no target
+pub tells_nothing : (t : List Marked) (o : Option Target) → o ≡ None → Tells t o None
+tells_nothing t o e = record { target = e; inside = tt }
+
 -- a qualifier from q up to the `.` at k and a name from s up to m, as a target's offsets and lengths
 pub parts_inside : (q k s m l : ℕ) → s ≡ k + 1 → q ≤ k → s ≤ m → m ≤ l → Inside l (Some (places q (k - q) s (m - s)))
 parts_inside q k s m l e a b d = (omega arith, omega arith)

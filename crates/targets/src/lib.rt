@@ -100,21 +100,18 @@ fn qualified_name_before(statement: &[u8], operator: usize) -> Option<TargetPlac
 }
 
 // The target of the first live `:=` that has one.
+#[tactic(auto, using(spec::proofs::MapLaws::marked_bytes, spec::proofs::MapLaws::marked_length, spec::proofs::FirstLaws::nonempty_word, spec::proofs::WalkLaws::first_within, crate::proofs::TargetNameLaws::tells_some, crate::proofs::TargetNameLaws::tells_none, crate::proofs::TargetNameLaws::tells_nothing, crate::proofs::WalrusLaws::assign_none, crate::proofs::WalrusLaws::assign_at), unfolding(spec::specs::Assignments::assign_here))]
 fn qualified_walrus_target(statement: &[u8], map: &[u8]) -> Option<TargetPlaces>
     ensures { Tells (marked statement.now map.now) (assign_target [] (marked statement.now map.now)) result }
 {
     let mut from: usize = 0;
-    loop {
-        let found = find_str_in(statement, map, b":=", from);
-        let Some(at) = found else {
-            return None;
-        };
-        let before = qualified_name_before(statement, at);
-        if before.is_some() {
-            return before;
+    while let Some(at) = find_str_in(statement, map, b":=", from) {
+        if let Some(places) = qualified_name_before(statement, at) {
+            return Some(places);
         }
         from = at + 1;
     }
+    None
 }
 
 // The target `q.n` from `from` on with a lone `=` behind it; N may stand before q and before `=`.
@@ -148,6 +145,7 @@ fn qualified_name_at_with_equals(statement: &[u8], from: usize) -> Option<Target
 }
 
 // The marking word of a place in the table.
+#[tactic(auto, unfolding(crate::specs::Words::entries, crate::specs::Words::blank))]
 fn marking_of(k: usize) -> Marking
     requires { k < 6 }
     ensures { result ≡ get_or entries k blank }
@@ -156,22 +154,14 @@ fn marking_of(k: usize) -> Marking
 }
 
 // Whether the marking word e stands at i, with no word byte behind it.
+#[tactic(auto, using(spec::proofs::AheadLaws::rest_of, scanner::proofs::KeywordLaws::prefix_fits))]
 fn is_word_at(statement: &[u8], e: Marking, i: usize) -> bool
     requires i_in_bounds { i ≤ length statement.now }
     requires len_bound { e.len ≤ 5 }
     ensures { result ≡ (prefix_by upper (take e.len e.word) (drop i statement.now) && not (is_word (get_or statement.now (i + e.len) 0))) }
 {
-    let word = e.word;
-    let n = e.len;
-    if starts_ignoring_case(&statement[i..], &word[..n]) {
-        if is_word_byte(byte_at(statement, i + n)) {
-            false
-        } else {
-            true
-        }
-    } else {
-        false
-    }
+    starts_ignoring_case(&statement[i..], &e.word[..e.len])
+        && !is_word_byte(byte_at(statement, i + e.len))
 }
 
 // The marking word that stands live at i; `before` is the byte before.
@@ -190,15 +180,11 @@ fn marking_at(statement: &[u8], map: &[u8], before: u8, i: usize) -> Option<(Mar
     if !is_word_byte(statement[i]) {
         return None;
     }
-    let mut k: usize = 0;
-    while k < 6 {
+    for k in 0..MARKINGS.len() {
         let e = marking_of(k);
         if is_word_at(statement, e, i) {
-            let mark = e.mark;
-            let len = e.len;
-            return Some((mark, len));
+            return Some((e.mark, e.len));
         }
-        k += 1;
     }
     None
 }
@@ -221,12 +207,13 @@ fn cases_after(mark: Mark, cases: usize) -> usize
 {
     match mark {
         Mark::OpensCase => cases + 1,
-        Mark::ClosesCase => if cases == 0 { 0 } else { cases - 1 },
+        Mark::ClosesCase => cases.saturating_sub(1),
         Mark::OpensStatement => cases,
     }
 }
 
 // The target just past what is met at i, where no CASE is open.
+#[tactic(auto, using(crate::proofs::TargetNameLaws::tells_nothing))]
 fn target_behind(
     statement: &[u8],
     met: Option<(Mark, usize)>,
@@ -236,13 +223,12 @@ fn target_behind(
     requires { i + len_met met ≤ length statement.now }
     ensures { (t : List Marked) → bytes t ≡ statement.now → Tells t (target_met met cases (drop i t)) result }
 {
-    match met {
-        Some((mark, len)) => target_past(statement, mark, len, cases, i),
-        None => None,
-    }
+    let (mark, len) = met?;
+    target_past(statement, mark, len, cases, i)
 }
 
 // The same for a mark and its word's length.
+#[tactic(auto, using(crate::proofs::TargetNameLaws::tells_nothing))]
 fn target_past(
     statement: &[u8],
     mark: Mark,
@@ -254,54 +240,47 @@ fn target_past(
     ensures { (t : List Marked) → bytes t ≡ statement.now → Tells t (target_past mark len cases (drop i t)) result }
 {
     match mark {
-        Mark::OpensCase => None,
-        Mark::ClosesCase => None,
-        Mark::OpensStatement => if cases == 0 {
-            qualified_name_at_with_equals(statement, i + len)
-        } else {
-            None
-        },
+        Mark::OpensStatement if cases == 0 => qualified_name_at_with_equals(statement, i + len),
+        _ => None,
     }
 }
 
 // The first target behind a marking word: one walk that carries the number of open CASEs and the byte before.
+#[tactic(auto, using(spec::proofs::MapLaws::marked_bytes, crate::proofs::TargetNameLaws::tells_some, crate::proofs::TargetNameLaws::tells_none, crate::proofs::TargetNameLaws::tells_nothing, crate::proofs::MarkingLaws::cases_le, crate::proofs::MarkingLaws::walk_end, crate::proofs::MarkingLaws::walk_step))]
 fn marked_target(statement: &[u8], map: &[u8]) -> Option<TargetPlaces>
     ensures { Tells (marked statement.now map.now) (marked_target 0 0 (marked statement.now map.now)) result }
 {
     let mut cases: usize = 0;
     let mut before: u8 = 0;
-    let mut i: usize = 0;
-    while i < statement.len() {
+    for (i, b) in statement.iter().enumerate() {
         let met = marking_at(statement, map, before, i);
-        let found = target_behind(statement, met, cases, i);
-        if found.is_some() {
-            return found;
+        if let Some(places) = target_behind(statement, met, cases, i) {
+            return Some(places);
         }
         cases = cases_behind(met, cases);
-        before = statement[i];
-        i += 1;
+        before = *b;
     }
     None
 }
 
 // The target of a lone `=` at the front or just past a marking word.
+#[tactic(auto, using(spec::proofs::MapLaws::marked_bytes, crate::proofs::TargetNameLaws::tells_some, crate::proofs::TargetNameLaws::tells_none))]
 fn qualified_equals_target(statement: &[u8], map: &[u8]) -> Option<TargetPlaces>
     ensures { Tells (marked statement.now map.now) (or_else (equals_target (marked statement.now map.now)) (marked_target 0 0 (marked statement.now map.now))) result }
 {
-    let front = qualified_name_at_with_equals(statement, 0);
-    if front.is_some() {
-        return front;
+    if let Some(places) = qualified_name_at_with_equals(statement, 0) {
+        return Some(places);
     }
     marked_target(statement, map)
 }
 
 // The target that the statement assigns to: of `:=` first, then of a lone `=`.
+#[tactic(auto, using(crate::proofs::TargetNameLaws::tells_some, crate::proofs::TargetNameLaws::tells_none), unfolding(spec::specs::Assignments::statement_target))]
 pub fn qualified_assignment_target(statement: &[u8], map: &[u8]) -> Option<TargetPlaces>
     ensures { Tells (marked statement.now map.now) (statement_target (marked statement.now map.now)) result }
 {
-    let walrus = qualified_walrus_target(statement, map);
-    if walrus.is_some() {
-        return walrus;
+    if let Some(places) = qualified_walrus_target(statement, map) {
+        return Some(places);
     }
     qualified_equals_target(statement, map)
 }

@@ -20,7 +20,7 @@ use Rattle.assignments.proofs.put_statement.Goals.{In-Some}
 
 -- the target that the check found
 told : (c : goal.In-Some) →
-    Tells (marked c.args.text.now c.args.map.now) (statement_target (marked c.args.text.now c.args.map.now)) (Some c.in-Some.p)
+    Tells (marked c.args.text.now c.args.map.now) (statement_target (marked c.args.text.now c.args.map.now)) (Some c.in-Some.target)
 told c =
     let a = c.args in
     let h : Tells (marked a.text.now a.map.now) (statement_target (marked a.text.now a.map.now)) c.qualified_assignment_target.result = c.qualified_assignment_target.ensures in
@@ -37,8 +37,8 @@ pub put_qualified-requires : goal.put_qualified-requires
 put_qualified-requires c =
     let t = told (goal.at.put_qualified-requires c).In-Some in
     record {
-      b_value = t.inside.0;
-      m_in_bounds = omega (arith, t.inside.1, marked_length c.args.text.now c.args.map.now);
+      dot = t.inside.0;
+      name_in_bounds = omega (arith, t.inside.1, marked_length c.args.text.now c.args.map.now);
       statement_in_bounds = search rules;
     }
 
@@ -46,7 +46,7 @@ pub returns-in-Some : goal.returns-in-Some
 returns-in-Some c =
     let a = c.args in
     let xs = a.text.now in
-    let g = c.in-Some.p in
+    let g = c.in-Some.target in
     let t = told (goal.at.returns-in-Some c).In-Some in
     let i = t.inside in
     let n = marked_length xs a.map.now in
@@ -59,13 +59,13 @@ returns-in-Some c =
       leaves_from = rw tl c.put_qualified.ensures.out_after;
     }
 
-pub returns-in-None : goal.returns-in-None
-returns-in-None c =
+pub returns : goal.returns
+returns c =
     let a = c.args in
     let m = marked a.text.now a.map.now in
     let h : Tells m (statement_target m) c.qualified_assignment_target.result = c.qualified_assignment_target.ensures in
     let w = c.rewrite_assignment.ensures in
-    rw (told_none a.text.now a.map.now (rw c.in-None.is at h))
+    rw (told_none a.text.now a.map.now (rw c.in_default.is at h))
     record {
       value = ap Ok (w.counted ∙ ap (λ (k : ℕ). a.n + k) (bytes_length (assignment m)));
       leaves_from = w.stored;

@@ -11,30 +11,30 @@ use Rattle.spec.proofs.MapLaws.{marked_bytes, marked_length}
 use Rattle.assignments.proofs.AssignmentTextLaws.{assign_inside}
 use borrow.Author.Rules.{rules}
 use Rattle.assignments.proofs.rewrite_assignment.Goals as goal
-use Rattle.assignments.proofs.rewrite_assignment.Goals.{After-find_str_in-found}
+use Rattle.assignments.proofs.rewrite_assignment.Goals.{After-find_str_in}
 
 -- what the search for `:=` gives
-sought : (c : goal.After-find_str_in-found) → c.find_str_in-found.result ≡ first assign_here 0 (marked c.args.statement.now c.args.map.now)
+sought : (c : goal.After-find_str_in) → c.find_str_in.result ≡ first assign_here 0 (marked c.args.statement.now c.args.map.now)
 unfolding assign_here
-sought c = c.find_str_in-found.ensures ∙ nonempty_word (ascii ":=") _ (omega arith)
+sought c = c.find_str_in.ensures ∙ nonempty_word (ascii ":=") _ (omega arith)
 
 pub put_assignment-requires : goal.put_assignment-requires
 put_assignment-requires c =
     let a = c.args in
-    let i = assign_inside (marked a.statement.now a.map.now) _ (sym (sought (goal.at.put_assignment-requires c).After-find_str_in-found) ∙ c.in-Some.is) in
+    let i = assign_inside (marked a.statement.now a.map.now) _ (sym (sought (goal.at.put_assignment-requires c).After-find_str_in) ∙ c.in-Some.is) in
     record {
       at_in_bounds = omega (arith, marked_length a.statement.now a.map.now);
       statement_bound = search rules;
     }
 
-pub returns-in-Some : goal.returns-in-Some
+pub returns : goal.returns
 unfolding assignment
-returns-in-Some c =
+returns c =
     let a = c.args in
-    rw (sym (sought (goal.at.returns-in-Some c).After-find_str_in-found) ∙ c.in-Some.is) (c.put_assignment.ensures (marked a.statement.now a.map.now) (marked_bytes a.statement.now a.map.now))
+    rw (sym (sought (goal.at.returns c).After-find_str_in) ∙ c.in-Some.is) (c.put_assignment.ensures (marked a.statement.now a.map.now) (marked_bytes a.statement.now a.map.now))
 
-pub returns-in-None : goal.returns-in-None
+pub returns-in_default : goal.returns-in_default
 unfolding assignment assignment_at
-returns-in-None c =
+returns-in_default c =
     let a = c.args in
-    rw (sym (sought (goal.at.returns-in-None c).After-find_str_in-found) ∙ c.in-None.is, marked_bytes a.statement.now a.map.now) (record { counted = c.put_all.ensures.value; stored = c.put_all.ensures.out_after })
+    rw (sym (sought (goal.at.returns-in_default c).After-find_str_in) ∙ c.in_default.is, marked_bytes a.statement.now a.map.now) (record { counted = c.put_all.ensures.value; stored = c.put_all.ensures.out_after })

@@ -3,6 +3,7 @@
 -- `left_in` say what becomes of a statement, `turn_in` splits what is left at the next `;`. Assumes nothing.
 use Rattle.std.specs.Prelude.{Some, Ok}
 use native.Mathlib.Omega.{arith}
+use Rattle.std.proofs.lemmas.Result.{err_from_is_err_and}
 use mathlib.Core.Path.{◌≡◌, refl, sym, ◌∙◌}
 use mathlib.Core.List.{List, [], ◌∷◌}
 use Prim.Native.Nat.{ℕ, ◌+◌, ◌-◌, ◌≤◌, ◌<◌}
@@ -14,25 +15,22 @@ use Rattle.spec.specs.Outcome.{accepted, ◌⊕◌}
 use Rattle.spec.specs.Assignments.{statement as outcome, assignments}
 use Rattle.spec.proofs.AheadLaws.{rest_of}
 use Rattle.spec.proofs.MapLaws.{marked_length}
-use Rattle.spec.proofs.WalkLaws.{marked_drop, first_within}
+use Rattle.spec.proofs.WalkLaws.{marked_drop}
 use Rattle.spec.proofs.PartLaws.{marked_part}
 use Rattle.output.specs.Passes.{answer_from, LeavesFrom}
 use Rattle.output.proofs.OutcomeLaws.{Turn, turn_refused, turn_answer, turn_leaves}
-use Rattle.assignments.proofs.RestLaws.{statement_turn, turn_start, left_from, left_cut, left_last, statement_long}
+use Rattle.assignments.proofs.RestLaws.{semicolon_within, statement_turn, turn_start, left_from, left_cut, left_last, statement_long}
 use Rattle.assignments.proofs.transform_assignments.Goals as goal
-use Rattle.assignments.proofs.transform_assignments.Goals.{In-Some, After-put_statement-pass, In-Ok}
+use Rattle.assignments.proofs.transform_assignments.Goals.{In-Some, After-put_statement, In_ok-m}
 
 -- the next live `;` stands at the place found, within the text
 found_at : (c : goal.In-Some) →
     first (byte_here 59) c.loop-end.from (marked c.args.text.now c.args.map.now) ≡ Some c.in-Some.end
-found_at c = sym c.find_byte_in-found.ensures ∙ c.in-Some.is
+found_at c = sym c.find_byte_in.ensures ∙ c.in-Some.is
 
 within : (c : goal.In-Some) →
     (c.loop-end.from ≤ c.in-Some.end) × (c.in-Some.end < length c.args.text.now)
-within c =
-    let a = c.args in
-    let w = first_within (byte_here 59) (marked a.text.now a.map.now) _ _ (found_at c) in
-    (w.0, omega (arith, w.1, marked_length a.text.now a.map.now))
+within c = semicolon_within c.args.text.now c.args.map.now _ _ (found_at c)
 
 -- a part from the last `;` to the next one
 abbrev part_to : (from end : ℕ) {A : Type 0} → List A → List A
@@ -46,22 +44,22 @@ part_long : (from end : ℕ) {A : Type 0} (l : List A) → from ≤ end → end 
 part_long from end l a b = length-take-le _ (drop from l) (omega (arith, length-drop from l))
 
 -- what is made of it, and what is left
-answered : (c : goal.After-put_statement-pass) →
-    c.put_statement-pass.result ≡ answer_from c.loop-end.n (outcome (piece c.loop-end.from c.in-Some.end c.args.text.now c.args.map.now))
+answered : (c : goal.After-put_statement) →
+    c.put_statement.result ≡ answer_from c.loop-end.n (outcome (piece c.loop-end.from c.in-Some.end c.args.text.now c.args.map.now))
 answered c =
     let a = c.args in
     let from = c.loop-end.from in
     let end = c.in-Some.end in
-    let h : c.put_statement-pass.result ≡ answer_from c.loop-end.n (outcome (marked (part_to from end a.text.now) (part_to from end a.map.now))) = c.put_statement-pass.ensures.value in
+    let h : c.put_statement.result ≡ answer_from c.loop-end.n (outcome (marked (part_to from end a.text.now) (part_to from end a.map.now))) = c.put_statement.ensures.value in
     rw (marked_part from (end - from) a.text.now a.map.now) at h
 
-left_in : (c : goal.After-put_statement-pass) →
-    LeavesFrom c.loop-end.n (outcome (piece c.loop-end.from c.in-Some.end c.args.text.now c.args.map.now)) c.loop-end.out c.put_statement-pass.new.out
+left_in : (c : goal.After-put_statement) →
+    LeavesFrom c.loop-end.n (outcome (piece c.loop-end.from c.in-Some.end c.args.text.now c.args.map.now)) c.loop-end.out c.put_statement.new.out
 left_in c =
     let a = c.args in
     let from = c.loop-end.from in
     let end = c.in-Some.end in
-    let h : LeavesFrom c.loop-end.n (outcome (marked (part_to from end a.text.now) (part_to from end a.map.now))) c.loop-end.out c.put_statement-pass.new.out = c.put_statement-pass.ensures.leaves_from in
+    let h : LeavesFrom c.loop-end.n (outcome (marked (part_to from end a.text.now) (part_to from end a.map.now))) c.loop-end.out c.put_statement.new.out = c.put_statement.ensures.leaves_from in
     rw (marked_part from (end - from) a.text.now a.map.now) at h
 
 turn_in : (c : goal.In-Some)
@@ -76,17 +74,17 @@ turn_in c =
     rw (left_cut t c.loop-end.from _ (found_at c)) at r
 
 -- where it is text, its end
-done_at : (c : goal.In-Ok) →
-    Ok c.in-Ok.m ≡ answer_from c.loop-end.n (outcome (piece c.loop-end.from c.in-Some.end c.args.text.now c.args.map.now))
+done_at : (c : goal.In_ok-m) →
+    Ok c.in_ok-m.m ≡ answer_from c.loop-end.n (outcome (piece c.loop-end.from c.in-Some.end c.args.text.now c.args.map.now))
 done_at c =
     let a = c.args in
     let from = c.loop-end.from in
     let end = c.in-Some.end in
-    let h : c.put_statement-pass.result ≡ answer_from c.loop-end.n (outcome (marked (part_to from end a.text.now) (part_to from end a.map.now))) = c.put_statement-pass.ensures.value in
-    sym c.in-Ok.is ∙ (rw (marked_part from (end - from) a.text.now a.map.now) at h)
+    let h : c.put_statement.result ≡ answer_from c.loop-end.n (outcome (marked (part_to from end a.text.now) (part_to from end a.map.now))) = c.put_statement.ensures.value in
+    sym c.in_ok-m.was ∙ (rw (marked_part from (end - from) a.text.now a.map.now) at h)
 
-end_within : (c : goal.In-Ok) → c.loop-end.from ≤ c.in-Some.end → c.in-Some.end < length c.args.text.now →
-    c.in-Ok.m ≤ c.loop-end.n + (c.in-Some.end - c.loop-end.from) + 7
+end_within : (c : goal.In_ok-m) → c.loop-end.from ≤ c.in-Some.end → c.in-Some.end < length c.args.text.now →
+    c.in_ok-m.m ≤ c.loop-end.n + (c.in-Some.end - c.loop-end.from) + 7
 end_within c low high =
     let a = c.args in
     let from = c.loop-end.from in
@@ -97,77 +95,46 @@ end_within c low high =
 pub loop-end-init : goal.loop-end-init
 loop-end-init c = (omega arith, refl, omega arith, turn_start _ _)
 
-pub returns-in_default : goal.returns-in_default
-returns-in_default c =
+pub returns : goal.returns
+returns c =
     let a = c.args in
     let l = c.loop-end in
     let xs = a.text.now in
     let ms = a.map.now in
     let last : marked (take (length xs - l.from) (drop l.from xs)) (take (length ms - l.from) (drop l.from ms)) ≡ drop l.from (marked xs ms) =
     rw (rest_of xs l.from, rest_of ms l.from) (sym (marked_drop l.from xs ms)) in
-    let p : c.put_statement.result ≡ answer_from l.n (outcome (marked (take (length xs - l.from) (drop l.from xs)) (take (length ms - l.from) (drop l.from ms)))) = c.put_statement.ensures.value in
-    let q : LeavesFrom l.n (outcome (marked (take (length xs - l.from) (drop l.from xs)) (take (length ms - l.from) (drop l.from ms)))) l.out c.put_statement.new.out = c.put_statement.ensures.leaves_from in
+    let p : c.put_statement-2.result ≡ answer_from l.n (outcome (marked (take (length xs - l.from) (drop l.from xs)) (take (length ms - l.from) (drop l.from ms)))) = c.put_statement-2.ensures.value in
+    let q : LeavesFrom l.n (outcome (marked (take (length xs - l.from) (drop l.from xs)) (take (length ms - l.from) (drop l.from ms)))) l.out c.put_statement-2.new.out = c.put_statement-2.ensures.leaves_from in
     let r : Turn a.out.now 0 (assignments (marked xs ms)) l.out l.n (left_from (marked xs ms) l.from) = l.invariant.3 in
-    let s = rw (left_last (marked xs ms) l.from (sym c.find_byte_in-found.ensures ∙ c.in_default.is)) at r in
+    let s = rw (left_last (marked xs ms) l.from (sym c.find_byte_in.ensures ∙ c.in_default.is)) at r in
     record { value = rw last at p ∙ sym (turn_answer s); leaves = turn_leaves s _ (rw last at q) }
 
-pub slice_bounds-put_statement-count-in-loop-end : goal.slice_bounds-put_statement-count-in-loop-end
-slice_bounds-put_statement-count-in-loop-end c =
-    let w = within (goal.at.slice_bounds-put_statement-count-in-loop-end c).In-Some in omega arith
-
-pub slice_bounds-put_statement-start-in-loop-end : goal.slice_bounds-put_statement-start-in-loop-end
-slice_bounds-put_statement-start-in-loop-end c =
-    let w = within (goal.at.slice_bounds-put_statement-start-in-loop-end c).In-Some in omega arith
-
-pub slice_bounds-put_statement-end-in-loop-end : goal.slice_bounds-put_statement-end-in-loop-end
-slice_bounds-put_statement-end-in-loop-end c =
-    let w = within (goal.at.slice_bounds-put_statement-end-in-loop-end c).In-Some in omega arith
-
-pub slice_bounds-put_statement-count-in-loop-end-2 : goal.slice_bounds-put_statement-count-in-loop-end-2
-slice_bounds-put_statement-count-in-loop-end-2 c =
-    let w = within (goal.at.slice_bounds-put_statement-count-in-loop-end-2 c).In-Some in omega arith
-
-pub slice_bounds-put_statement-start-in-loop-end-2 : goal.slice_bounds-put_statement-start-in-loop-end-2
-slice_bounds-put_statement-start-in-loop-end-2 c =
-    let w = within (goal.at.slice_bounds-put_statement-start-in-loop-end-2 c).In-Some in omega arith
-
-pub slice_bounds-put_statement-end-in-loop-end-2 : goal.slice_bounds-put_statement-end-in-loop-end-2
-slice_bounds-put_statement-end-in-loop-end-2 c =
-    let w = within (goal.at.slice_bounds-put_statement-end-in-loop-end-2 c).In-Some in omega arith
-
-pub put_statement-pass-requires : goal.put_statement-pass-requires
-put_statement-pass-requires c =
-    let w = within (goal.at.put_statement-pass-requires c).In-Some in let k = part_long c.loop-end.from c.in-Some.end c.args.text.now w.0 (omega arith) in record {
+pub put_statement-requires : goal.put_statement-requires
+put_statement-requires c =
+    let w = within (goal.at.put_statement-requires c).In-Some in let k = part_long c.loop-end.from c.in-Some.end c.args.text.now w.0 (omega arith) in record {
       text_bound = omega arith;
       text_in_bounds = omega arith;
     }
 
-pub returns-in_default-pass : goal.returns-in_default-pass
-returns-in_default-pass c =
-    let refused = sym (answered (goal.at.returns-in_default-pass c).After-put_statement-pass) ∙ c.in_default-pass.is in
-    let r = turn_refused _ _ _ _ _ _ _ _ (turn_in (goal.at.returns-in_default-pass c).In-Some) refused in
+pub returns-in_err-m : goal.returns-in_err-m
+returns-in_err-m c =
+    let q = err_from_is_err_and c.from_residual.result c.from_residual.ensures.1 in
+    let refused = sym (answered (goal.at.returns-in_err-m c).After-put_statement) ∙ c.in_err-m.was in
+    let r = turn_refused _ _ _ _ _ _ _ _ (turn_in (goal.at.returns-in_err-m c).In-Some) refused in
     record {
-      value = answered (goal.at.returns-in_default-pass c).After-put_statement-pass ∙ sym (turn_answer r);
-      leaves = turn_leaves r _ (left_in (goal.at.returns-in_default-pass c).After-put_statement-pass);
+      value = rw (q.1, q.2) (sym refused ∙ sym (turn_answer r));
+      leaves = turn_leaves r _ (left_in (goal.at.returns-in_err-m c).After-put_statement);
     }
 
 pub put-n-requires : goal.put-n-requires
 put-n-requires c =
-    let w = within (goal.at.put-n-requires c).In-Some in omega (arith, end_within (goal.at.put-n-requires c).In-Ok w.0 w.1)
-
-pub overflow_add-from : goal.overflow_add-from
-overflow_add-from c =
-    let w = within (goal.at.overflow_add-from c).In-Some in omega (arith, c.requires.text_len_bound)
-
-pub loop-end-smaller : goal.loop-end-smaller
-loop-end-smaller c =
-    let w = within (goal.at.loop-end-smaller c).In-Some in omega arith
+    let w = within (goal.at.put-n-requires c).In-Some in omega (arith, end_within (goal.at.put-n-requires c).In_ok-m w.0 w.1)
 
 pub loop-end-preserved : goal.loop-end-preserved
 loop-end-preserved c =
     let w = within (goal.at.loop-end-preserved c).In-Some in (
       omega arith,
-      c.put-n.auto.out ∙ (c.put_statement-pass.auto.out ∙ c.loop-end.invariant.1),
-      omega (arith, end_within (goal.at.loop-end-preserved c).In-Ok w.0 w.1, c.put-n.ensures.value),
-      statement_turn _ _ _ _ _ _ _ _ _ _ (turn_in (goal.at.loop-end-preserved c).In-Some) (done_at (goal.at.loop-end-preserved c).In-Ok) (left_in (goal.at.loop-end-preserved c).After-put_statement-pass) c.put-n.ensures.value c.put-n.ensures.out_after,
+      c.put-n.auto.out ∙ (c.put_statement.auto.out ∙ c.loop-end.invariant.1),
+      omega (arith, end_within (goal.at.loop-end-preserved c).In_ok-m w.0 w.1, c.put-n.ensures.value),
+      statement_turn _ _ _ _ _ _ _ _ _ _ (turn_in (goal.at.loop-end-preserved c).In-Some) (done_at (goal.at.loop-end-preserved c).In_ok-m) (left_in (goal.at.loop-end-preserved c).After-put_statement) c.put-n.ensures.value c.put-n.ensures.out_after,
     )

@@ -1,36 +1,26 @@
--- `declarations::body_start` meets its contract. `body_from` computes once it is known what the search for BEGIN found;
--- a place found is within the text. Assumes nothing.
+-- `declarations::body_start` meets its contract. `body_from` is what stands from the place found on, or from 0; a place
+-- found is within the text. Assumes nothing.
 use native.Mathlib.Omega.{arith}
-use mathlib.Core.Path.{◌≡◌, refl, sym, ◌∙◌}
+use mathlib.Core.Path.{◌≡◌}
 use Rattle.spec.specs.Bytes.{ascii}
 use Rattle.spec.specs.Lists.{is_empty}
 use Rattle.spec.specs.Map.{marked}
 use Rattle.spec.specs.Search.{first, keyword_here}
-use Rattle.spec.specs.Declarations.{body_from}
 use Rattle.spec.proofs.MapLaws.{marked_length}
-use Rattle.spec.proofs.WalkLaws.{first_within}
+use Rattle.declarations.proofs.SectionLaws.{body_found, body_within}
 use Rattle.declarations.proofs.body_start.Goals as goal
-use Rattle.declarations.proofs.body_start.Goals.{After-find_keyword_in-begin}
+use Rattle.declarations.proofs.body_start.Goals.{After-find_keyword_in}
 
 -- what the search found
-word : (c : goal.After-find_keyword_in-begin) → c.find_keyword_in-begin.result ≡ first (keyword_here (ascii "BEGIN")) 0 (marked c.args.text.now c.args.map.now)
+word : (c : goal.After-find_keyword_in) → c.find_keyword_in.result ≡ first (keyword_here (ascii "BEGIN")) 0 (marked c.args.text.now c.args.map.now)
 unfolding is_empty
-word c = c.find_keyword_in-begin.ensures
-
-pub returns-in_default : goal.returns-in_default
-unfolding body_from
-returns-in_default c =
-    record {
-      text_value = rw (sym (word (goal.at.returns-in_default c).After-find_keyword_in-begin) ∙ c.in_default.is) refl;
-      upper_bound = omega arith;
-    }
+word c = c.find_keyword_in.ensures
 
 pub returns : goal.returns
-unfolding body_from
 returns c =
-    let a = c.args in
-    let e = sym (word (goal.at.returns c).After-find_keyword_in-begin) ∙ c.in-Some.is in
+    let xs = c.args.text.now in
+    let e = word (goal.at.returns c).After-find_keyword_in in
     record {
-      text_value = rw e refl;
-      upper_bound = omega (arith, (first_within (keyword_here (ascii "BEGIN")) (marked a.text.now a.map.now) 0 c.in-Some.b e).1, marked_length a.text.now a.map.now);
+      text_value = rw (c.unwrap_or.ensures, ← e) (body_found xs c.find_keyword_in.result);
+      upper_bound = omega (arith, c.unwrap_or.ensures, body_within (marked xs c.args.map.now) c.find_keyword_in.result e, marked_length xs c.args.map.now);
     }

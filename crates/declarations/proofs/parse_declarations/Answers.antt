@@ -23,7 +23,7 @@ unfolding records_in
 same c = ap records_of_section (marked_between c.args.text.now c.args.map.now c.find_section-s.result.from c.find_section-s.result.to) ∙ ap records_of_section c.find_section-s.ensures.found
 
 pub slice_bounds-parse_section-end : goal.slice_bounds-parse_section-end
-slice_bounds-parse_section-end c = inside c
+slice_bounds-parse_section-end c = inside (goal.at.slice_bounds-parse_section-end c).After-find_section-s
 
 pub slice_bounds-parse_section-end-2 : goal.slice_bounds-parse_section-end-2
 slice_bounds-parse_section-end-2 c = omega (arith, inside (goal.at.slice_bounds-parse_section-end-2 c).After-find_section-s)

@@ -7,7 +7,7 @@ use Prim.Native.Nat.{◌≤◌}
 use lib.ListN.{length}
 use Rattle.declared_parts.proofs.SpacedLaws.{spaced_le}
 use Rattle.declared_parts.proofs.BetweenLaws.{piece_le}
-use Rattle.declarations.proofs.WriteLaws.{name_le, texts}
+use Rattle.declarations.proofs.WriteLaws.{name_le, texts, ordered}
 use Rattle.declarations.proofs.put_texts.Goals as goal
 use Rattle.declarations.proofs.put_texts.Goals.{Start, After-name_of, After-piece-kind, After-piece-value}
 
@@ -44,11 +44,6 @@ put_spaced-kind_end-requires c =
     let k = known (goal.at.put_spaced-kind_end-requires c).Start in
     omega (arith, k.3, name_short (goal.at.put_spaced-kind_end-requires c).After-name_of, kind_short (goal.at.put_spaced-kind_end-requires c).After-piece-kind, c.put_all-name_end.ensures.value)
 
-pub number-requires-5 : goal.number-requires-5
-number-requires-5 c =
-    let k = known (goal.at.number-requires-5 c).Start in
-    record { k_bound = k.0; j_bound = omega arith; in_bounds = k.2 }
-
 pub put_value-end-requires : goal.put_value-end-requires
 put_value-end-requires c =
     let k = known (goal.at.put_value-end-requires c).Start in
@@ -58,13 +53,19 @@ pub returns : goal.returns
 returns c =
     let a = c.args in
     let t = texts a.text.now a.records.now a.k a.declared.now c.put_all-name_end.new.out c.put_spaced-kind_end.new.out c.put_value-end.new.out
-    a.n c.put_all-name_end.result c.put_spaced-kind_end.result c.put_value-end.result c.number-5.result
+    a.n c.put_all-name_end.result c.put_spaced-kind_end.result c.put_value-end.result c.mark_of.result
     c.name_of.result.now c.piece-kind.result.now c.piece-value.result.now
     c.name_of.ensures
     (c.piece-kind.ensures ∙ rw (c.number-2.ensures.value, c.number.ensures.value) refl)
-    c.number-5.ensures.value
+    c.mark_of.ensures
     (c.piece-value.ensures ∙ rw (c.number-4.ensures.value, c.number-3.ensures.value) refl)
     c.put_all-name_end.ensures.out_after c.put_all-name_end.ensures.value
     c.put_spaced-kind_end.ensures.out_after c.put_spaced-kind_end.ensures.value
     c.put_value-end.ensures.out_after c.put_value-end.ensures.value in
-    record { value = t.ends; declared_after = t.stored }
+    let o = ordered a.text.now a.records.now a.k a.n _ t.ends in
+    record {
+      value = t.ends;
+      ordered = (o.first, o.second, o.third);
+      last = o.last;
+      declared_after = t.stored;
+    }

@@ -3,13 +3,13 @@
 use native.Mathlib.Omega.{arith}
 use mathlib.Core.Path.{◌≡◌, sym, ◌∙◌}
 use Prim.Native.Nat.{◌≤◌, ◌-◌, ◌+◌, ◌*◌}
-use lib.ListN.{length, take, drop, length-drop}
-use lib.Seq.{sets, length-take-le}
+use lib.ListN.{length, take, drop}
+use lib.Seq.{sets}
 use Rattle.spec.specs.Bytes.{is_ident}
 use Rattle.spec.specs.Requote.{single_quoted}
 use Rattle.spec.specs.Declarations.{delimiter_of}
 use Rattle.runs.proofs.RunLaws.{end_le}
-use Rattle.declared_parts.proofs.WholeLaws.{delimiter_length, whole_long, whole_text, other_text}
+use Rattle.declared_parts.proofs.WholeLaws.{delimiter_length, whole_long, whole_text}
 use Rattle.declared_parts.proofs.put_requoted.Goals as goal
 use Rattle.declared_parts.proofs.put_requoted.Goals.{After-run_end-d, Then-is_whole}
 
@@ -38,13 +38,6 @@ slice_bounds-put_single_quoted-count c = omega (arith, fits (goal.at.slice_bound
 pub slice_bounds-put_single_quoted-start : goal.slice_bounds-put_single_quoted-start
 slice_bounds-put_single_quoted-start c = omega (arith, fits (goal.at.slice_bounds-put_single_quoted-start c).Then-is_whole)
 
-pub put_single_quoted-requires : goal.put_single_quoted-requires
-put_single_quoted-requires c =
-    let a = c.args in
-    let d = c.run_end-d.result + 1 in
-    let e : length (take (length a.text.now - d - d) (drop d a.text.now)) ≡ length a.text.now - d - d = length-take-le _ (drop d a.text.now) (omega (arith, length-drop d a.text.now)) in
-    omega arith
-
 pub returns-then-is_whole : goal.returns-then-is_whole
 returns-then-is_whole c =
     let a = c.args in
@@ -54,11 +47,3 @@ returns-then-is_whole c =
     let counted : p.result ≡ a.n + length (single_quoted (take (length a.text.now - d - d) (drop d a.text.now))) = p.ensures.value in
     let stored : p.new.out ≡ sets a.out.now a.n (single_quoted (take (length a.text.now - d - d) (drop d a.text.now))) = p.ensures.out_after in
     record { value = rw e counted; out_after = rw e stored }
-
-pub returns-else-is_whole : goal.returns-else-is_whole
-returns-else-is_whole c =
-    let a = c.args in
-    let d = c.run_end-d.result + 1 in
-    let p = c.put_all in
-    let e = other_text a.text.now d (long (goal.at.returns-else-is_whole c).After-run_end-d) (sym c.is_whole.ensures ∙ c.if-is_whole.false) in
-    record { value = rw e p.ensures.value; out_after = rw e p.ensures.out_after }

@@ -10,7 +10,7 @@ use Rattle.spec.proofs.LineLaws.{entry, text_size}
 use Rattle.spec.specs.Levels.{line_text, all_levels, all_actions}
 use Rattle.levels.specs.Lines.{ahead, level_text, action_text, action_ahead, line_of}
 use Rattle.levels.specs.declared.Line.{Line}
-use Rattle.levels.proofs.AheadLaws.{found_some, found_none, line_length, line_no_level, level_fits, line_no_action, line_whole}
+use Rattle.levels.proofs.AheadLaws.{level_found_lem, action_found_lem, found_none, line_length, line_no_level, level_fits, line_no_action, line_whole}
 use borrow.Author.Rules.{rules}
 use Rattle.levels.proofs.read_line.Goals as goal
 use Rattle.levels.proofs.read_line.Goals.{In_ok-level, After-action_ahead, In_ok-action}
@@ -18,7 +18,7 @@ use Rattle.levels.proofs.read_line.Goals.{In_ok-level, After-action_ahead, In_ok
 -- the level in front, and where it ends
 levelled : (c : goal.In_ok-level) →
     (ahead level_text all_levels c.args.text.now ≡ Some c.in_ok-level.level) × (c.in_ok-level.n ≡ length (level_text c.in_ok-level.level))
-levelled c = found_some level_text _ _ (sym c.level_ahead.ensures ∙ c.in_ok-level.was)
+levelled c = level_found_lem _ _ (sym c.level_ahead.ensures ∙ c.in_ok-level.was)
 
 within : (c : goal.In_ok-level) → c.in_ok-level.n ≤ length c.args.text.now
 within c = omega (arith, (levelled c).1, level_fits _ _ (levelled c).0)
@@ -36,7 +36,7 @@ behind c ends =
 acted : (c : goal.In_ok-action) → c.action_ahead.result ≡ action_ahead (drop (length (level_text c.in_ok-level.level)) c.args.text.now) →
     let rest = drop (length (level_text c.in_ok-level.level)) c.args.text.now in
     (ahead action_text all_actions rest ≡ Some c.in_ok-action.action) × (c.in_ok-action.m ≡ length (action_text c.in_ok-action.action))
-acted c said = found_some action_text _ _ (sym said ∙ c.in_ok-action.was)
+acted c said = action_found_lem _ _ (sym said ∙ c.in_ok-action.was)
 
 size : (c : goal.In_ok-action) → c.in_ok-level.n ≡ length (level_text c.in_ok-level.level) → c.in_ok-action.m ≡ length (action_text c.in_ok-action.action) →
     c.in_ok-level.n + c.in_ok-action.m ≡ length (line_text (entry c.in_ok-level.level c.in_ok-action.action))

@@ -16,8 +16,8 @@ use Rattle.spec.specs.declared.Action.{Action}
 use Rattle.spec.specs.declared.ByLevel.{ByLevel}
 use Rattle.levels.specs.Lines.{ahead, line_ahead, completed}
 use Rattle.levels.specs.declared.Line.{Line}
-use Rattle.levels.proofs.AheadLaws.{line_found, found_none}
-use Rattle.levels.proofs.GivenLaws.{given_start, given_level, given_more, completed_by}
+use Rattle.levels.proofs.AheadLaws.{line_found_lem, found_none}
+use Rattle.levels.proofs.GivenLaws.{given_start, given_by_lem, given_more, completed_by}
 use Rattle.levels.proofs.TurnLaws.{says_from, says_start, says_end, says_malformed, line_fits, says_repeated, says_on}
 use Rattle.levels.proofs.read_table.Goals as goal
 use Rattle.levels.proofs.read_table.Goals.{In-Some, After-get}
@@ -30,13 +30,13 @@ line_at xs at r h = rw rest_of at h
 lined : (c : goal.In-Some) →
     let e = entry c.in-Some.line.level c.in-Some.line.action in
     (ahead line_text all_entries (drop c.loop-at.at c.args.table.now) ≡ Some e) × (c.in-Some.line.len ≡ length (line_text e))
-lined c = line_found _ _ (sym (line_at c.args.table.now c.loop-at.at _ c.read_line.ensures) ∙ c.in-Some.is)
+lined c = line_found_lem _ _ (sym (line_at c.args.table.now c.loop-at.at _ c.read_line.ensures) ∙ c.in-Some.is)
 
 -- the action that its level has by then
 had : (c : goal.After-get) → c.get.result ≡ given_action c.loop-at.invariant.0 c.in-Some.line.level
 had c =
     let level = c.in-Some.line.level in
-    c.get.ensures ∙ (ap (λ (g : ByLevel (Option Action)). at_level g level) c.loop-at.invariant.2 ∙ given_level c.loop-at.invariant.0 level)
+    c.get.ensures ∙ (ap (λ (g : ByLevel (Option Action)). at_level g level) c.loop-at.invariant.2 ∙ given_by_lem c.loop-at.invariant.0 level)
 
 -- the line stands within the table
 within : (c : goal.In-Some) → c.loop-at.at + c.in-Some.line.len ≤ length c.args.table.now

@@ -6,29 +6,8 @@ use Rattle.spec.specs.Raise.{action_of}
 use Rattle.spec.specs.Body.{rewriting}
 use mathlib.Core.List.{[]}
 use lib.Seq.{length-take-le}
-use mathlib.Core.Path.{refl, sym, ap, ◌∙◌}
+use mathlib.Core.Path.{refl, ap, ◌∙◌}
 use Rattle.passes.proofs.run_body.Goals as goal
-
-pub slice_bounds-run_passes-end-2 : goal.slice_bounds-run_passes-end-2
-slice_bounds-run_passes-end-2 c = sym (length-take-le c.args.size c.args.output.now c.requires.size_in_bounds)
-
-pub slice_bounds-run_passes-end-4 : goal.slice_bounds-run_passes-end-4
-slice_bounds-run_passes-end-4 c = sym (length-take-le c.args.size c.args.work.now c.requires.size_in_bounds_2)
-
-pub slice_bounds-run_passes-end-6 : goal.slice_bounds-run_passes-end-6
-slice_bounds-run_passes-end-6 c =
-    sym (length-take-le c.args.size c.args.spare.now c.requires.size_in_bounds_3)
-
-pub run_passes-r-requires : goal.run_passes-r-requires
-run_passes-r-requires c =
-    let s = c.args in
-    let p = c.requires in
-    record {
-      text_len_bound = p.text_len_bound;
-      output_len = length-take-le s.size s.output.now p.size_in_bounds ∙ p.size_value;
-      work_len = length-take-le s.size s.work.now p.size_in_bounds_2 ∙ p.size_value;
-      spare_len = length-take-le s.size s.spare.now p.size_in_bounds_3 ∙ p.size_value;
-    }
 
 pub returns : goal.returns
 unfolding body_result

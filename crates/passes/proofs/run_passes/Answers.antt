@@ -3,7 +3,8 @@
 -- 3 and 5 left, and of pass 4, which refuses by 6 alone, nothing.
 -- Assumes nothing.
 use Rattle.std.specs.Prelude.{Ok}
-use mathlib.Core.Path.{◌≡◌, sym, ap, ◌∙◌}
+use Rattle.std.proofs.lemmas.Result.{err_from_is_err_and}
+use mathlib.Core.Path.{◌≡◌, refl, sym}
 use mathlib.Core.List.{[]}
 use Prim.Native.Nat.{◌≤◌}
 use native.Mathlib.Omega.{arith}
@@ -18,7 +19,7 @@ use Rattle.spec.specs.Answers.{result_of}
 use Rattle.passes.specs.Gives.{Gives, finished}
 use Rattle.passes.proofs.StageLaws.{requoted_front, spelled_front, given_fits, given_as, third_stops, fourth_stops, fifth_gives, gives_copied, too_long_gives}
 use Rattle.passes.proofs.run_passes.Goals as goal
-use Rattle.passes.proofs.run_passes.Goals.{After-requote-requoted, After-elsif_pass-spelled, After-assign_pass-assigned, After-select_pass-selected, After-raise_pass-raised, In-Ok, In-Ok-selected}
+use Rattle.passes.proofs.run_passes.Goals.{After-requote-requoted, After-elsif_pass-spelled, After-assign_pass-assigned, After-select_pass, After-raise_pass-raised, In-Ok, In_ok-k}
 
 -- the requoted text stands in `work`
 requoted_in : (c : goal.After-requote-requoted)
@@ -50,21 +51,21 @@ assigned_fits : (c : goal.In-Ok) → c.in-Ok.n ≤ 65536
 assigned_fits c = given_fits _ _ _ (assigned_done c) (omega arith)
 
 -- what pass 4 gives
-selected_gives : (c : goal.After-select_pass-selected)
-    → Gives (result_of [] (limited (select_pass (take c.in-Ok.n c.assign_pass-assigned.new.out)))) (finished c.select_pass-selected.result) c.select_pass-selected.new.out
-selected_gives c = c.select_pass-selected.ensures
+selected_gives : (c : goal.After-select_pass)
+    → Gives (result_of [] (limited (select_pass (take c.in-Ok.n c.assign_pass-assigned.new.out)))) (finished c.select_pass.result) c.select_pass.new.out
+selected_gives c = c.select_pass.ensures
 
 -- what pass 5 reads where pass 4 was done
-selected_done : (c : goal.In-Ok-selected)
-    → Gives (result_of [] (limited (select_pass (take c.in-Ok.n c.assign_pass-assigned.new.out)))) (finished (Ok c.in-Ok-selected.k)) c.select_pass-selected.new.out
-selected_done c = given_as _ _ _ _ c.select_pass-selected.ensures c.in-Ok-selected.is
+selected_done : (c : goal.In_ok-k)
+    → Gives (result_of [] (limited (select_pass (take c.in-Ok.n c.assign_pass-assigned.new.out)))) (finished (Ok c.in_ok-k.k)) c.select_pass.new.out
+selected_done c = given_as _ _ _ _ c.select_pass.ensures c.in_ok-k.was
 
-selected_fits : (c : goal.In-Ok-selected) → c.in-Ok-selected.k ≤ 65536
+selected_fits : (c : goal.In_ok-k) → c.in_ok-k.k ≤ 65536
 selected_fits c = given_fits _ _ _ (selected_done c) (omega arith)
 
 -- what pass 5 gives
 raised_gives : (c : goal.After-raise_pass-raised)
-    → Gives (result_of [] (limited (raise_pass (action_of c.args.actions) (take c.in-Ok-selected.k c.select_pass-selected.new.out)))) (finished c.raise_pass-raised.result) c.raise_pass-raised.new.out
+    → Gives (result_of [] (limited (raise_pass (action_of c.args.actions) (take c.in_ok-k.k c.select_pass.new.out)))) (finished c.raise_pass-raised.result) c.raise_pass-raised.new.out
 raised_gives c = c.raise_pass-raised.ensures
 
 pub slice_bounds-elsif_pass-end : goal.slice_bounds-elsif_pass-end
@@ -120,42 +121,35 @@ pub slice_bounds-select_pass-end-2 : goal.slice_bounds-select_pass-end-2
 slice_bounds-select_pass-end-2 c =
     sym (length-take-le c.in-Ok.n c.assign_pass-assigned.new.out (omega (arith, assigned_fits c)))
 
-pub select_pass-selected-requires : goal.select_pass-selected-requires
-select_pass-selected-requires c =
-    let n = length-take-le c.in-Ok.n c.assign_pass-assigned.new.out (omega (arith, assigned_fits (goal.at.select_pass-selected-requires c).In-Ok)) in
+pub select_pass-requires : goal.select_pass-requires
+select_pass-requires c =
+    let n = length-take-le c.in-Ok.n c.assign_pass-assigned.new.out (omega (arith, assigned_fits (goal.at.select_pass-requires c).In-Ok)) in
     record {
-      text_len_bound = omega (arith, assigned_fits (goal.at.select_pass-selected-requires c).In-Ok, n);
-      text_in_bounds = omega (arith, assigned_fits (goal.at.select_pass-selected-requires c).In-Ok, n);
+      text_len_bound = omega (arith, assigned_fits (goal.at.select_pass-requires c).In-Ok, n);
+      text_in_bounds = omega (arith, assigned_fits (goal.at.select_pass-requires c).In-Ok, n);
       out_len = omega arith;
     }
 
-pub finish-requires-in_default-selected : goal.finish-requires-in_default-selected
-finish-requires-in_default-selected c =
-    record {
-      out_len = omega arith;
-      from_len = omega arith;
-      p_bound = given_fits _ _ _ (selected_gives (goal.at.finish-requires-in_default-selected c).After-select_pass-selected) (omega arith);
-    }
-
-pub returns-in_default-selected : goal.returns-in_default-selected
-returns-in_default-selected c =
-    let g = given_as _ _ _ _ (selected_gives (goal.at.returns-in_default-selected c).After-select_pass-selected) c.in_default-selected.is in
-    let stops = fourth_stops (action_of c.args.actions) c.args.text.now (take c.elsif_pass-spelled.result c.elsif_pass-spelled.new.out) c.requires.text_len_bound (spelled_in (goal.at.returns-in_default-selected c).After-elsif_pass-spelled).1 _ _ (assigned_done (goal.at.returns-in_default-selected c).In-Ok) _ _ g in
-    rw stops (too_long_gives _ _ _ _ _ g (c.finish-in_default-selected.ensures.value ∙ ap finished c.in_default-selected.is))
+pub returns-in_err-k : goal.returns-in_err-k
+returns-in_err-k c =
+    let r = err_from_is_err_and c.from_residual.result c.from_residual.ensures.1 in
+    let g = given_as _ _ _ _ (selected_gives (goal.at.returns-in_err-k c).After-select_pass) c.in_err-k.was in
+    let stops = fourth_stops (action_of c.args.actions) c.args.text.now (take c.elsif_pass-spelled.result c.elsif_pass-spelled.new.out) c.requires.text_len_bound (spelled_in (goal.at.returns-in_err-k c).After-elsif_pass-spelled).1 _ _ (assigned_done (goal.at.returns-in_err-k c).In-Ok) _ _ g in
+    rw (stops, r.1, r.2) (too_long_gives _ _ _ _ _ g refl)
 
 pub slice_bounds-raise_pass-end : goal.slice_bounds-raise_pass-end
 slice_bounds-raise_pass-end c = omega (arith, selected_fits c)
 
 pub slice_bounds-raise_pass-end-2 : goal.slice_bounds-raise_pass-end-2
 slice_bounds-raise_pass-end-2 c =
-    sym (length-take-le c.in-Ok-selected.k c.select_pass-selected.new.out (omega (arith, selected_fits c)))
+    sym (length-take-le c.in_ok-k.k c.select_pass.new.out (omega (arith, selected_fits c)))
 
 pub raise_pass-raised-requires : goal.raise_pass-raised-requires
 raise_pass-raised-requires c =
-    let n = length-take-le c.in-Ok-selected.k c.select_pass-selected.new.out (omega (arith, selected_fits (goal.at.raise_pass-raised-requires c).In-Ok-selected)) in
+    let n = length-take-le c.in_ok-k.k c.select_pass.new.out (omega (arith, selected_fits (goal.at.raise_pass-raised-requires c).In_ok-k)) in
     record {
-      text_len_bound = omega (arith, selected_fits (goal.at.raise_pass-raised-requires c).In-Ok-selected, n);
-      text_in_bounds = omega (arith, selected_fits (goal.at.raise_pass-raised-requires c).In-Ok-selected, n);
+      text_len_bound = omega (arith, selected_fits (goal.at.raise_pass-raised-requires c).In_ok-k, n);
+      text_in_bounds = omega (arith, selected_fits (goal.at.raise_pass-raised-requires c).In_ok-k, n);
       out_len = omega arith;
     }
 
@@ -169,5 +163,5 @@ finish-requires-2 c =
 
 pub returns : goal.returns
 returns c =
-    let reached = fifth_gives (action_of c.args.actions) c.args.text.now (take c.elsif_pass-spelled.result c.elsif_pass-spelled.new.out) c.requires.text_len_bound (spelled_in (goal.at.returns c).After-elsif_pass-spelled).1 _ _ (assigned_done (goal.at.returns c).In-Ok) _ _ (selected_done (goal.at.returns c).In-Ok-selected) in
+    let reached = fifth_gives (action_of c.args.actions) c.args.text.now (take c.elsif_pass-spelled.result c.elsif_pass-spelled.new.out) c.requires.text_len_bound (spelled_in (goal.at.returns c).After-elsif_pass-spelled).1 _ _ (assigned_done (goal.at.returns c).In-Ok) _ _ (selected_done (goal.at.returns c).In_ok-k) in
     rw reached (gives_copied _ c.raise_pass-raised.result _ _ _ (raised_gives (goal.at.returns c).After-raise_pass-raised) c.finish-2.ensures.value c.finish-2.ensures.out_after)

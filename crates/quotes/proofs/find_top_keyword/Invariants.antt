@@ -1,8 +1,6 @@
 use Rattle.std.specs.Prelude.{None}
 use mathlib.Core.Path.{◌≡◌}
 use mathlib.Core.Bool.{cond}
-use Prim.Native.Nat.{◌-◌}
-use lib.ListN.{length}
 use Rattle.spec.specs.Lists.{is_empty}
 use Rattle.spec.specs.Map.{marked}
 use Rattle.spec.specs.Search.{first}
@@ -12,6 +10,3 @@ use Rattle.quotes.proofs.find_top_keyword.Given as goal
 
 abbrev pub invariant-loop-i : goal.invariant-loop-i
 invariant-loop-i l = (l.depth ≡ depth_at l.text l.map l.i) × (cond (is_empty l.word) None (first (top_word_here l.word) l.from (marked l.text l.map)) ≡ first (top_word_here l.word) l.i (marked l.text l.map))
-
-abbrev pub decreases-loop-i : goal.decreases-loop-i
-decreases-loop-i l = length l.text - l.i

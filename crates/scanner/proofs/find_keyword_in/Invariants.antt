@@ -1,7 +1,7 @@
 use Rattle.std.specs.Prelude.{None}
 use mathlib.Core.Path.{◌≡◌}
 use mathlib.Core.Bool.{cond}
-use Prim.Native.Nat.{◌+◌, ◌-◌, ◌≤◌}
+use Prim.Native.Nat.{◌+◌, ◌-◌}
 use lib.ListN.{drop}
 use Rattle.spec.specs.Bytes.{upper, prefix_by}
 use Rattle.spec.specs.Lists.{is_empty}
@@ -9,14 +9,11 @@ use Rattle.spec.specs.Map.{marked}
 use Rattle.spec.specs.Search.{first, keyword_here}
 use Rattle.scanner.proofs.find_keyword_in.Given as goal
 
-abbrev pub invariant-loop-j : goal.invariant-loop-j
-invariant-loop-j l = (l.j ≤ l.n) × (prefix_by upper l.word (drop l.at l.text) ≡ prefix_by upper (drop l.j l.word) (drop (l.at + l.j) l.text))
-
-abbrev pub decreases-loop-j : goal.decreases-loop-j
-decreases-loop-j l = l.n - l.j
-
 abbrev pub invariant-offsets : goal.invariant-offsets
 invariant-offsets l = cond (is_empty l.word) None (first (keyword_here l.word) l.from (marked l.text l.map)) ≡ first (keyword_here l.word) l.i (marked l.text l.map)
 
 abbrev pub decreases-offsets : goal.decreases-offsets
 decreases-offsets l = l.last + 1 - l.i
+
+abbrev pub invariant-loop-j : goal.invariant-loop-j
+invariant-loop-j l = prefix_by upper l.word (drop l.at l.text) ≡ prefix_by upper (drop l.j l.word) (drop (l.at + l.j) l.text)

@@ -1,18 +1,9 @@
 -- `set_lines::put_query` meets its contract. `stored_then` joins the stores of the four calls, one after the other.
 -- Assumes nothing.
-use native.Mathlib.Omega.{arith}
 use Rattle.set_lines.specs.Lines.{query_text}
 use Rattle.spec.specs.Bytes.{ascii}
 use Rattle.set_lines.proofs.PutLaws.{all_stored, stored_then}
 use Rattle.set_lines.proofs.put_query.Goals as goal
-
-pub put_all-c-requires : goal.put_all-c-requires
-put_all-c-requires c =
-    omega (arith, c.put_all-a.ensures.value, c.put_all-b.ensures.value, c.requires)
-
-pub put_spaced-requires : goal.put_spaced-requires
-put_spaced-requires c =
-    omega (arith, c.put_all-a.ensures.value, c.put_all-b.ensures.value, c.put_all-c.ensures.value, c.requires)
 
 pub returns : goal.returns
 unfolding query_text

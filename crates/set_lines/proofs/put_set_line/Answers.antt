@@ -1,24 +1,9 @@
 -- `set_lines::put_set_line` meets its contract. `stored_then` joins the stores of the six calls, one after the other;
 -- `query_length` bounds the subquery. Assumes nothing.
-use native.Mathlib.Omega.{arith}
 use Rattle.set_lines.specs.Lines.{line_text}
 use Rattle.spec.specs.Bytes.{ascii}
-use Rattle.set_lines.proofs.PutLaws.{all_stored, stored_then, query_length, limit_length}
+use Rattle.set_lines.proofs.PutLaws.{all_stored, stored_then}
 use Rattle.set_lines.proofs.put_set_line.Goals as goal
-
-pub put_query-d-requires : goal.put_query-d-requires
-put_query-d-requires c =
-    omega (arith, c.put_all-a.ensures.value, c.put_all-b.ensures.value, c.put_all-c.ensures.value, c.requires)
-
-pub put_limit-e-requires : goal.put_limit-e-requires
-put_limit-e-requires c =
-    let a = c.args in
-    omega (arith, c.put_all-a.ensures.value, c.put_all-b.ensures.value, c.put_all-c.ensures.value, c.put_query-d.ensures.count, query_length a.with.now a.from.now a.col.now, c.requires)
-
-pub put_all-requires : goal.put_all-requires
-put_all-requires c =
-    let a = c.args in
-    omega (arith, c.put_all-a.ensures.value, c.put_all-b.ensures.value, c.put_all-c.ensures.value, c.put_query-d.ensures.count, query_length a.with.now a.from.now a.col.now, c.put_limit-e.ensures.count, limit_length a.held, c.requires)
 
 pub returns : goal.returns
 unfolding line_text

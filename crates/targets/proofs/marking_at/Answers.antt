@@ -59,7 +59,7 @@ returns-then-not-is_word_byte c =
     }
 
 pub loop-k-init : goal.loop-k-init
-loop-k-init c = (omega arith, refl)
+loop-k-init c = refl
 
 pub is_word_at-requires : goal.is_word_at-requires
 is_word_at-requires c =
@@ -76,7 +76,7 @@ returns-then-is_word_at c =
     let p = prefix_by_len upper _ (drop a.i a.statement.now) (and_left (prefix_by upper (take (get_or entries k blank).len (get_or entries k blank).word) (drop a.i a.statement.now)) _ q) in
     let m = c.marking_of-e.ensures in
     record {
-      value = rw m (sym (c.loop-k.invariant.1 ∙ met_hit a.statement.now a.map.now a.before a.i (omega arith) (is_live (goal.at.returns-then-is_word_at c).Else-is_word_byte) (is_edge (goal.at.returns-then-is_word_at c).Else-is_word_byte) k (omega arith) q));
+      value = rw m (sym (c.loop-k.invariant ∙ met_hit a.statement.now a.map.now a.before a.i (omega arith) (is_live (goal.at.returns-then-is_word_at c).Else-is_word_byte) (is_edge (goal.at.returns-then-is_word_at c).Else-is_word_byte) k (omega arith) q));
       result_in_bounds = omega (arith, entry_size k (omega arith), length-drop a.i a.statement.now, ap (λ (e : Marking). e.len) m);
     }
 
@@ -84,12 +84,12 @@ pub loop-k-preserved : goal.loop-k-preserved
 loop-k-preserved c =
     let a = c.args in
     let k = c.loop-k.k in
-    (omega arith, c.loop-k.invariant.1 ∙ met_miss a.statement.now a.map.now a.before a.i (omega arith) (is_live (goal.at.loop-k-preserved c).Else-is_word_byte) (is_edge (goal.at.loop-k-preserved c).Else-is_word_byte) k (omega arith) (sym (tested (goal.at.loop-k-preserved c).After-is_word_at) ∙ c.if-is_word_at.false))
+    c.loop-k.invariant ∙ met_miss a.statement.now a.map.now a.before a.i (omega arith) (is_live (goal.at.loop-k-preserved c).Else-is_word_byte) (is_edge (goal.at.loop-k-preserved c).Else-is_word_byte) k (omega arith) (sym (tested (goal.at.loop-k-preserved c).After-is_word_at) ∙ c.if-is_word_at.false)
 
 pub returns : goal.returns
 returns c =
     let a = c.args in
     record {
-      value = sym (c.loop-k.invariant.1 ∙ met_none a.statement.now a.map.now a.before a.i (omega arith) (is_live (goal.at.returns c).Else-is_word_byte) (is_edge (goal.at.returns c).Else-is_word_byte) c.loop-k.k (omega arith));
+      value = sym (c.loop-k.invariant ∙ met_none a.statement.now a.map.now a.before a.i (omega arith) (is_live (goal.at.returns c).Else-is_word_byte) (is_edge (goal.at.returns c).Else-is_word_byte) c.loop-k.k (omega arith));
       result_in_bounds = omega arith;
     }

@@ -1,9 +1,0 @@
--- `quotes::byte_before` meets its contract. The test on i decides the definition's `cond`. Assumes nothing.
-use borrow.Author.Tests.{eq-eqb, ne_eqb}
-use Rattle.quotes.proofs.byte_before.Goals as goal
-
-pub returns-then-i-eq0 : goal.returns-then-i-eq0
-returns-then-i-eq0 c = simp (eq-eqb _ _ c.if-i-eq0.true)
-
-pub returns-else-i-eq0 : goal.returns-else-i-eq0
-returns-else-i-eq0 c = simp (ne_eqb _ _ c.if-i-eq0.false) c.byte_at.ensures
