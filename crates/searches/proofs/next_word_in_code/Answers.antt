@@ -26,30 +26,26 @@ slice_bounds-bytes-end c =
     let s = c.args in
     word_within s.text.now c.map_checked.new.map s.from c.word_start-start.result c.word_end-end.result c.word_start-start.ensures c.word_end-end.ensures c.if-start-end.true
 
-pub returns-then-start-end-clause-value : goal.returns-then-start-end-clause-value
-unfolding word_answer
-returns-then-start-end-clause-value c =
+pub returns-then-start-end : goal.returns-then-start-end
+unfolding word_answer word_part
+returns-then-start-end c =
     let s = c.args in
-    let at = (goal.at.returns-then-start-end-clause-value c).In_ok-map_checked in
-    rw (passed at, found_place s.text.now c.map_checked.new.map s.from c.word_start-start.result c.word_end-end.result (marks at) c.word_start-start.ensures c.word_end-end.ensures c.if-start-end.true) refl
+    let at = (goal.at.returns-then-start-end c).In_ok-map_checked in
+    let m = c.map_checked.new.map in
+    record {
+      value = rw (passed at, found_place s.text.now m s.from _ _ (marks at) c.word_start-start.ensures c.word_end-end.ensures c.if-start-end.true) refl;
+      bytes = rw (passed at) (found_text s.text.now m s.from _ _ (marks at) c.word_start-start.ensures c.word_end-end.ensures c.if-start-end.true);
+      map_after = c.map_checked.ensures.map_after;
+    }
 
-pub returns-then-start-end-clause-bytes : goal.returns-then-start-end-clause-bytes
-unfolding word_part
-returns-then-start-end-clause-bytes c =
+pub returns-else-start-end : goal.returns-else-start-end
+unfolding word_answer word_part
+returns-else-start-end c =
     let s = c.args in
-    let at = (goal.at.returns-then-start-end-clause-bytes c).In_ok-map_checked in
-    rw (passed at) (found_text s.text.now c.map_checked.new.map s.from c.word_start-start.result c.word_end-end.result (marks at) c.word_start-start.ensures c.word_end-end.ensures c.if-start-end.true)
-
-pub returns-else-start-end-clause-value : goal.returns-else-start-end-clause-value
-unfolding word_answer
-returns-else-start-end-clause-value c =
-    let s = c.args in
-    let at = (goal.at.returns-else-start-end-clause-value c).In_ok-map_checked in
-    rw (passed at, none_place s.text.now c.map_checked.new.map s.from c.word_start-start.result c.word_end-end.result (marks at) c.word_start-start.ensures c.word_end-end.ensures c.if-start-end.false) refl
-
-pub returns-else-start-end-clause-bytes : goal.returns-else-start-end-clause-bytes
-unfolding word_part
-returns-else-start-end-clause-bytes c =
-    let s = c.args in
-    let at = (goal.at.returns-else-start-end-clause-bytes c).In_ok-map_checked in
-    rw (passed at) (sym (none_text s.text.now c.map_checked.new.map s.from c.word_start-start.result c.word_end-end.result (marks at) c.word_start-start.ensures c.word_end-end.ensures c.if-start-end.false))
+    let at = (goal.at.returns-else-start-end c).In_ok-map_checked in
+    let m = c.map_checked.new.map in
+    record {
+      value = rw (passed at, none_place s.text.now m s.from _ _ (marks at) c.word_start-start.ensures c.word_end-end.ensures c.if-start-end.false) refl;
+      bytes = rw (passed at) (sym (none_text s.text.now m s.from _ _ (marks at) c.word_start-start.ensures c.word_end-end.ensures c.if-start-end.false));
+      map_after = c.map_checked.ensures.map_after;
+    }
