@@ -37,6 +37,9 @@ def functions(text):
     """Name, parameters and body of each function."""
     code = code_of(text)
     for m in re.finditer(r"\bfn (\w+)(?:<[^>{]*>)?\(([^)]*)\)", code):
+        # A trait's function may have no body.
+        if re.match(r"(?:[^{;\[]|\[[^\]]*\])*;", code[m.end():]):
+            continue
         yield m[1], " ".join(m[2].split()).rstrip(","), block(code, m.end())
 
 

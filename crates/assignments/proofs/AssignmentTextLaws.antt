@@ -1,68 +1,70 @@
 -- A statement with its first live `:=` at an offset: the parts of its rewriting. Assumes nothing.
-use Rattle.std.specs.Prelude.{Some}
+use Rattle.std.specs.Prelude.{Some, None}
 use mathlib.Core.Path.{◌≡◌, refl, sym, ap, ◌∙◌}
 use mathlib.Core.Bool.{true, false, cond, not, ◌&&◌}
-use mathlib.Core.List.{List, ◌++◌, reverse-reverse}
+use mathlib.Core.List.{List, [], ◌++◌, reverse-reverse}
 use Prim.Native.Nat.{ℕ, ◌+◌, ◌-◌, ◌≤◌}
 use native.Mathlib.Omega.{arith}
-use borrow.Author.Tests.{eq-eqb, ne_eqb}
 use lib.Dec.{eqb}
-use lib.ListN.{length, take, drop, get_or, length-append, length-drop}
-use lib.Seq.{sets}
+use lib.ListN.{length, take, drop, get_or, length-drop}
 use Rattle.spec.proofs.ListLaws.{empty_length}
 use Rattle.spec.proofs.BytesLaws.{bytes_take, bytes_drop, bytes_append, bytes_lives, bytes_end, front_bytes}
+use Rattle.spec.proofs.LengthLaws.{right_le}
+use Rattle.spec.proofs.MapLaws.{marked_bytes, marked_length}
 use Rattle.spec.proofs.RefusalBounds.{bytes_length}
 use Rattle.spec.specs.Bytes.{ascii, is_digit, is_ident, is_w}
 use Rattle.spec.specs.Lists.{is_empty, drop_end}
-use Rattle.spec.specs.Map.{Marked, bytes, lives, front_live, of_byte}
+use Rattle.spec.specs.Map.{Marked, marked, bytes, lives, front_live, of_byte}
 use Rattle.spec.specs.Search.{first, starts, needle_here}
-use Rattle.spec.specs.Assignments.{assign_here, right_side, starts_name, assignment_at}
+use Rattle.spec.specs.Assignments.{assign_here, right_side, starts_name, assignment_at, assignment}
 use Rattle.spec.specs.Parts.{trim}
 use Rattle.spec.proofs.Choice.{and_right}
 use Rattle.spec.proofs.FirstLaws.{first_least}
-use Rattle.spec.proofs.WalkLaws.{starts_exact}
-use Rattle.output.proofs.StoreLaws.{sets_append}
-use Rattle.spec.proofs.WalkLaws.{prefix_by_len}
+use Rattle.spec.proofs.WalkLaws.{starts_exact, prefix_by_len}
 use Rattle.spec.proofs.RunPlaces.{start_from, Behind, behind_at}
-use Rattle.runs.specs.Sets.{trimmed}
+use Rattle.output.proofs.WriterLaws.{wrote_then}
+use Rattle.output.specs.Written.{Wrote}
+use Rattle.output.specs.declared.Writer.{Writer}
+use Rattle.runs.specs.Sets.{in_set, trimmed}
+use Rattle.runs.specs.declared.Set.TheVariants.{W, Ident}
 use Rattle.runs.proofs.RunLaws.{start_whole, trim_bytes}
-use Rattle.assignments.specs.Written.{set_text, Writes}
+use Rattle.assignments.specs.Written.{set_text}
 
 -- a `:=` that is found stands within the text
-pub assign_inside : (t : List Marked) (i : ℕ) → first assign_here 0 t ≡ Some i → i + 2 ≤ length t
-unfolding assign_here needle_here
+pub assign_inside : (t : List Marked) (i : ℕ) → Some i ≡ first (needle_here (ascii ":=")) 0 t → i + 2 ≤ length t
+unfolding needle_here
 assign_inside t i e =
-    let l = first_least assign_here t 0 i e in
+    let l = first_least (needle_here (ascii ":=")) t 0 i (sym e) in
     let s = and_right (front_live (drop i t)) (starts (ascii ":=") (drop i t)) l.passes in
     let p = prefix_by_len (λ (b : ℕ). b) (ascii ":=") (bytes (drop i t)) (sym (starts_exact (ascii ":=") (drop i t)) ∙ s) in
     omega (arith, bytes_length (drop i t), length-drop i t, l.inside)
 
--- the parts one after the other, as `put_set` writes them
-pub set_written : (front name right d₀ d₁ d₂ d₃ d₄ d₅ : List ℕ) (n a b c d e : ℕ)
-    → a ≡ n + length front → d₁ ≡ sets d₀ n front
-    → b ≡ a + 4 → d₂ ≡ sets d₁ a (ascii "SET ")
-    → c ≡ b + length name → d₃ ≡ sets d₂ b name
-    → d ≡ c + 3 → d₄ ≡ sets d₃ c (ascii " = ")
-    → e ≡ d + length right → d₅ ≡ sets d₄ d right
-    → Writes (set_text front name right) n d₀ e d₅
-set_written front name right d₀ d₁ d₂ d₃ d₄ d₅ n a b c d e ha h₁ hb h₂ hc h₃ hd h₄ he h₅ =
-    record {
-      counted =
-          omega (
-            arith,
-            length-append front (ascii "SET " ++ (name ++ (ascii " = " ++ right))),
-            length-append name (ascii " = " ++ right),
-          );
-      stored =
-          h₅ ∙ rw (h₄, h₃, h₂, h₁, hd, hc, hb, ha)
-          (sym
-          (sets_append front (ascii "SET " ++ (name ++ (ascii " = " ++ right))) d₀ n
-          ∙ (sets_append (ascii "SET ") (name ++ (ascii " = " ++ right)) (sets d₀ n front) (n + length front)
-          ∙ (sets_append name (ascii " = " ++ right) (sets (sets d₀ n front) (n + length front) (ascii "SET ")) (n + length front + 4)
-          ∙ sets_append (ascii " = ") right
-          (sets (sets (sets d₀ n front) (n + length front) (ascii "SET ")) (n + length front + 4) name)
-          (n + length front + 4 + length name)))));
-    }
+-- the statement with the `:=` that is found, or without one
+module _ (t : List Marked) {a b : Writer} where
+  pub assignment_found : (i : ℕ) → Some i ≡ first (needle_here (ascii ":=")) 0 t → Wrote a (bytes (assignment_at (Some i) t)) b → Wrote a (bytes (assignment t)) b
+  unfolding assignment assign_here
+  assignment_found i e p = rw (← e) p
+
+  pub assignment_none : None ≡ first (needle_here (ascii ":=")) 0 t → Wrote a (bytes t) b → Wrote a (bytes (assignment t)) b
+  unfolding assignment assign_here assignment_at
+  assignment_none e p = rw (← e) p
+
+-- the parts one after the other
+pub set_wrote : (front name right : List ℕ) {a b c d e f : Writer} → Wrote a front b → Wrote b (ascii "SET ") c → Wrote c name d → Wrote d (ascii " = ") e → Wrote e right f
+    → Wrote a (set_text front name right) f
+set_wrote front name right p q r s u =
+    wrote_then front _ p (wrote_then (ascii "SET ") _ q (wrote_then name _ r (wrote_then (ascii " = ") right s u)))
+
+-- no byte, no item
+pub empty_bytes : (t : List Marked) (xs : List ℕ) → bytes t ≡ xs → is_empty t ≡ eqb (length xs) 0
+empty_bytes t xs e = empty_length t ∙ ap (λ (k : ℕ). eqb k 0) (sym (bytes_length t) ∙ ap length e)
+
+-- a right side is no longer than what stands behind the `:=`
+pub right_short : (xs r : List ℕ) → ((t : List Marked) → bytes t ≡ xs → bytes (right_side t) ≡ r) → length r ≤ length xs
+right_short xs r h =
+    let t = marked xs [] in
+    let b = h t (marked_bytes xs []) in
+    omega (arith, ap length b, bytes_length (right_side t), right_le t, marked_length xs [])
 
 -- ---- a marked text t that has the bytes xs
 
@@ -83,9 +85,9 @@ module _ (xs : List ℕ) (t : List Marked) (e : bytes t ≡ xs) where
   unfolding starts_name
   name_at = rw (front_bytes t, e) refl
 
--- ---- the name before W before i ends at m and starts at s
+-- ---- in the bytes xs of t, the name before W before i ends at m and starts at s
 
-module _ (xs : List ℕ) (t : List Marked) (e : bytes t ≡ xs) (i m s : ℕ) (w : i ≤ length xs) (hm : m ≡ start_from is_w xs i) (hs : s ≡ start_from is_ident xs m) where
+module _ (xs : List ℕ) (t : List Marked) (e : bytes t ≡ xs) (i m s : ℕ) (w : i ≤ length xs) (hm : m ≡ start_from (in_set W) xs i) (hs : s ≡ start_from (in_set Ident) xs m) where
   white : Behind is_w t m i
   white = behind_at is_w t xs e i m w hm
 
@@ -110,23 +112,21 @@ module _ (xs : List ℕ) (t : List Marked) (e : bytes t ≡ xs) (i m s : ℕ) (w
       )
       refl
 
-  pub name_bytes : bytes name ≡ take (m - s) (drop s xs)
+  name_bytes : bytes name ≡ take (m - s) (drop s xs)
   name_bytes = bytes_take (m - s) (drop s t) ∙ ap (λ (l : List ℕ). take (m - s) l) (bytes_drop s t ∙ ap (λ (l : List ℕ). drop s l) e)
 
-  pub no_name : starts_name name ≡ false → bytes (assignment_at (Some i) t) ≡ xs
-  no_name h = ap bytes (parts ∙ simp h) ∙ e
+  -- the right side has the bytes r, and the two make an assignment or not
+  module _ (r : List ℕ) (hr : (u : List Marked) → bytes u ≡ drop (i + 2) xs → bytes (right_side u) ≡ r) where
+    right_bytes : bytes right ≡ r
+    right_bytes = hr (drop (i + 2) t) (bytes_drop (i + 2) t ∙ ap (λ (l : List ℕ). drop (i + 2) l) e)
 
-  -- the right side has the bytes r
-  module _ (r : List ℕ) (hr : bytes right ≡ r) (n : starts_name name ≡ true) where
-    empty : is_empty right ≡ eqb (length r) 0
-    empty = empty_length right ∙ ap (λ (k : ℕ). eqb k 0) (sym (bytes_length right) ∙ ap length hr)
+    pub assignment_same : ((u v : List Marked) → bytes u ≡ take (m - s) (drop s xs) → bytes v ≡ r → false ≡ (starts_name u && not (is_empty v))) → bytes (assignment_at (Some i) t) ≡ xs
+    assignment_same h = ap bytes (parts ∙ rw (← h name right name_bytes right_bytes) refl) ∙ e
 
-    pub no_right : length r ≡ 0 → bytes (assignment_at (Some i) t) ≡ xs
-    no_right h = ap bytes (parts ∙ simp (n, empty, eq-eqb (length r) 0 h)) ∙ e
-
-    pub set_bytes : (length r ≡ 0 → ⊥) → bytes (assignment_at (Some i) t) ≡ set_text (take s xs) (take (m - s) (drop s xs)) r
-    set_bytes h =
-        let q : assignment_at (Some i) t ≡ take s t ++ (lives (ascii "SET ") ++ (name ++ (lives (ascii " = ") ++ right))) = parts ∙ simp (n, empty, ne_eqb (length r) 0 h) in
+    pub assignment_set : ((u v : List Marked) → bytes u ≡ take (m - s) (drop s xs) → bytes v ≡ r → true ≡ (starts_name u && not (is_empty v)))
+        → bytes (assignment_at (Some i) t) ≡ set_text (take s xs) (take (m - s) (drop s xs)) r
+    assignment_set h =
+        let q : assignment_at (Some i) t ≡ take s t ++ (lives (ascii "SET ") ++ (name ++ (lives (ascii " = ") ++ right))) = parts ∙ rw (← h name right name_bytes right_bytes) refl in
         ap bytes q
         ∙ rw (
           bytes_append (take s t) (lives (ascii "SET ") ++ (name ++ (lives (ascii " = ") ++ right))),
@@ -136,7 +136,7 @@ module _ (xs : List ℕ) (t : List Marked) (e : bytes t ≡ xs) (i m s : ℕ) (w
           bytes_lives (ascii "SET "),
           bytes_lives (ascii " = "),
           name_bytes,
-          hr,
+          right_bytes,
           bytes_take s t,
           e,
         )

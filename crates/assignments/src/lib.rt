@@ -1,17 +1,20 @@
 // Pass 3: assignments, statement by statement, and refusal 4.
 #![tactic(auto)]
 
-ghost use Rattle.std.specs.Prelude.{◌≡◌, List, ◌∷◌, ◌++◌, ◌+◌, ◌^◌, ◌≤◌, ◌<◌, length, take, drop, Some, Err};
-ghost use Rattle.spec.specs.Map.{Marked, marked, bytes};
+ghost use Rattle.std.specs.Prelude.{◌≡◌, not, ◌&&◌, List, ◌+◌, ◌^◌, ◌≤◌, ◌<◌, length, Some};
+ghost use Rattle.spec.specs.Lists.{is_empty};
+ghost use Rattle.spec.specs.Map.{Marked, bytes};
+ghost use Rattle.spec.specs.Outcome.{qualified_target, refused};
 ghost use Rattle.spec.specs.Assignments.{right_side, starts_name, assignment_at, assignment, statement, assignments};
-ghost use Rattle.output.specs.Passes.{pass_answer, Leaves, answer_from, LeavesFrom};
-ghost use Rattle.spec.specs.declared.Refusal.TheVariants.{QualifiedTarget};
-ghost use Rattle.assignments.specs.Written.{set_text, Writes};
+ghost use Rattle.output.specs.Passes.{pass_answer, Leaves, WroteOutcome};
+ghost use Rattle.output.specs.Written.{Wrote};
+ghost use Rattle.runs.specs.Places.{piece_at};
+ghost use Rattle.assignments.specs.Written.{set_text};
 
-use classes::{byte_at, in_range, is_ident_byte};
-use output::{put, put_all};
+use classes::{byte_at, is_ident_byte};
+use output::Writer;
 use runs::{Set, run_start, trim};
-use scanner::{find_byte_in, find_str_in};
+use scanner::MappedText;
 use spec::Refusal;
 use targets::{TargetPlaces, qualified_assignment_target};
 
@@ -25,112 +28,120 @@ fn right_side<'a>(text: &'a [u8]) -> &'a [u8]
 }
 
 // Whether a name starts with a letter or `_`.
-#[tactic(auto, using(crate::proofs::AssignmentTextLaws::name_at), unfolding(spec::specs::Bytes::is_digit))]
+#[tactic(auto, using(crate::proofs::AssignmentTextLaws::name_at), unfolding(spec::specs::Bytes::is_digit, spec::specs::Bytes::within))]
 fn starts_name(name: &[u8]) -> bool
     ensures { (t : List Marked) → bytes t ≡ name.now → result ≡ starts_name t }
 {
     let b = byte_at(name, 0);
-    is_ident_byte(b) && !in_range(b'0', b'9', b)
+    is_ident_byte(b) && !b.is_ascii_digit()
+}
+
+// Whether a name and a right side make an assignment: the name starts as one, and the right side is not empty.
+#[tactic(auto, using(crate::proofs::AssignmentTextLaws::empty_bytes))]
+fn is_assignment(name: &[u8], right: &[u8]) -> bool
+    ensures { (t u : List Marked) → bytes t ≡ name.now → bytes u ≡ right.now → result ≡ (starts_name t && not (is_empty u)) }
+{
+    starts_name(name) && !right.is_empty()
 }
 
 // `SET name = right` behind `front`.
-fn put_set(out: &mut [u8], n: usize, front: &[u8], name: &[u8], right: &[u8]) -> usize
-    requires { n + length front.now + length name.now + length right.now + 7 < 2 ^ 63 }
-    ensures { Writes (set_text front.now name.now right.now) n out.old result out.new }
+fn put_set(written: &mut Writer<'_>, front: &[u8], name: &[u8], right: &[u8])
+    requires { written.old.len + length front.now + length name.now + length right.now + 7 < 2 ^ 63 }
+    ensures { Wrote written.old (set_text front.now name.now right.now) written.new }
 {
-    let a = put_all(out, n, front);
-    let b = put_all(out, a, b"SET ");
-    let c = put_all(out, b, name);
-    let d = put_all(out, c, b" = ");
-    put_all(out, d, right)
+    written.put_all(front);
+    written.put_all(b"SET ");
+    written.put_all(name);
+    written.put_all(b" = ");
+    written.put_all(right);
 }
 
 // The statement with its first live `:=` at `at`.
-fn put_assignment(out: &mut [u8], n: usize, statement: &[u8], at: usize) -> usize
+#[tactic(auto, using(spec::proofs::RefusalBounds::bytes_length))]
+fn put_assignment(written: &mut Writer<'_>, statement: &MappedText<'_>, at: usize)
     requires at_in_bounds { at + 2 ≤ length statement.now }
-    requires statement_bound { n + length statement.now + 5 < 2 ^ 63 }
-    ensures { (t : List Marked) → bytes t ≡ statement.now → Writes (bytes (assignment_at (Some at) t)) n out.old result out.new }
+    requires statement_bound { written.old.len + length statement.now + 5 < 2 ^ 63 }
+    ensures { Wrote written.old (bytes (assignment_at (Some at) statement.now)) written.new }
 {
-    let name_end = run_start(statement, Set::W, at);
-    let name_start = run_start(statement, Set::Ident, name_end);
-    let name = &statement[name_start..name_end];
-    let right = right_side(&statement[at + 2..]);
-    if starts_name(name) {
-        if right.len() == 0 {
-            put_all(out, n, statement)
-        } else {
-            put_set(out, n, &statement[..name_start], name, right)
-        }
+    let bytes = statement.text();
+    let name_end = run_start(bytes, Set::W, at);
+    let name_start = run_start(bytes, Set::Ident, name_end);
+    let name = &bytes[name_start..name_end];
+    let right = right_side(&bytes[at + 2..]);
+    if is_assignment(name, right) {
+        put_set(written, &bytes[..name_start], name, right);
     } else {
-        put_all(out, n, statement)
+        written.put_all(bytes);
     }
 }
 
 // The statement as `SET name = right` if it is an assignment, else unchanged.
-fn rewrite_assignment(out: &mut [u8], n: usize, statement: &[u8], map: &[u8]) -> usize
-    requires { n + length statement.now + 5 < 2 ^ 63 }
-    ensures { Writes (bytes (assignment (marked statement.now map.now))) n out.old result out.new }
+#[tactic(auto, using(crate::proofs::AssignmentTextLaws::assign_inside, crate::proofs::AssignmentTextLaws::assignment_found, crate::proofs::AssignmentTextLaws::assignment_none, spec::proofs::RefusalBounds::bytes_length), unfolding(spec::specs::Lists::is_empty))]
+fn rewrite_assignment(written: &mut Writer<'_>, statement: &MappedText<'_>)
+    requires { written.old.len + length statement.now + 5 < 2 ^ 63 }
+    ensures { Wrote written.old (bytes (assignment statement.now)) written.new }
 {
-    let Some(at) = find_str_in(statement, map, b":=", 0) else {
-        return put_all(out, n, statement);
-    };
-    put_assignment(out, n, statement, at)
+    match statement.find_str(b":=", 0) {
+        Some(at) => put_assignment(written, statement, at),
+        None => written.put_all(statement.text()),
+    }
 }
 
 // Refusal 4: `q.n` at the front of the output, by the places of q and n in the statement.
-#[tactic(auto, using(crate::proofs::RestLaws::part_length))]
-fn put_qualified(out: &mut [u8], statement: &[u8], target: &TargetPlaces) -> Result<usize, Refusal>
-    requires dot { target.now.name_start ≡ target.now.qualifier_start + target.now.qualifier_len + 1 }
-    requires name_in_bounds { target.now.name_start + target.now.name_len ≤ length statement.now }
-    requires statement_in_bounds { length statement.now ≤ length out.old }
-    ensures value { result ≡ Err (QualifiedTarget target.now.qualifier_len (target.now.qualifier_len + 1 + target.now.name_len)) }
-    ensures out_after { take (target.now.qualifier_len + 1 + target.now.name_len) out.new ≡ take target.now.qualifier_len (drop target.now.qualifier_start statement.now) ++ (46 ∷ take target.now.name_len (drop target.now.name_start statement.now)) }
+fn put_qualified(
+    written: &mut Writer<'_>,
+    statement: &[u8],
+    target: TargetPlaces,
+) -> Result<(), Refusal>
+    requires dot { target.name.at ≡ target.qualifier.at + target.qualifier.len + 1 }
+    requires name_in_bounds { target.name.at + target.name.len ≤ length statement.now }
+    requires statement_in_bounds { length statement.now ≤ length written.old.out.now }
+    ensures { WroteOutcome written.old (refused (qualified_target (piece_at statement.now target.qualifier) (piece_at statement.now target.name))) written.new result }
 {
-    let p = put_all(
-        out,
-        0,
-        &statement[target.qualifier_start..][..target.qualifier_len],
-    );
-    let q = put(out, p, b'.');
-    let length = put_all(out, q, &statement[target.name_start..][..target.name_len]);
+    written.restart();
+    written.put_all(target.qualifier.of(statement));
+    written.put(b'.');
+    written.put_all(target.name.of(statement));
     Err(Refusal::QualifiedTarget {
-        qualifier: target.qualifier_len,
-        length,
+        qualifier: target.qualifier.len,
+        length: written.len,
     })
 }
 
-// One statement, checked before it is rewritten; n bytes of the result are written before it.
-fn put_statement(out: &mut [u8], n: usize, text: &[u8], map: &[u8]) -> Result<usize, Refusal>
-    requires text_bound { n + length text.now + 5 < 2 ^ 63 }
-    requires text_in_bounds { length text.now ≤ length out.old }
-    ensures value { result ≡ answer_from n (statement (marked text.now map.now)) }
-    ensures leaves_from { LeavesFrom n (statement (marked text.now map.now)) out.old out.new }
+// One statement, checked before it is rewritten.
+#[tactic(auto, using(crate::proofs::RestLaws::statement_empty, crate::proofs::RestLaws::statement_qualified, crate::proofs::RestLaws::statement_rewritten, spec::proofs::RefusalBounds::bytes_length))]
+fn put_statement(written: &mut Writer<'_>, text: &MappedText<'_>) -> Result<(), Refusal>
+    requires text_bound { written.old.len + length text.now + 5 < 2 ^ 63 }
+    requires text_in_bounds { length text.now ≤ length written.old.out.now }
+    ensures { WroteOutcome written.old (statement text.now) written.new result }
 {
     // An empty statement has neither a target nor a name: bodies of many `;` stay quick.
     if text.len() == 0 {
-        return Ok(n);
+        return Ok(());
     }
-    if let Some(target) = qualified_assignment_target(text, map) {
-        return put_qualified(out, text, &target);
+    if let Some(target) = qualified_assignment_target(text) {
+        return put_qualified(written, text.text(), target);
     }
-    Ok(rewrite_assignment(out, n, text, map))
+    rewrite_assignment(written, text);
+    Ok(())
 }
 
 // The text with its assignments rewritten, as far as `out` reaches; or refusal 4.
-#[tactic(auto, using(crate::proofs::RestLaws::semicolon_within))]
-pub fn transform_assignments(text: &[u8], map: &[u8], out: &mut [u8]) -> Result<usize, Refusal>
+#[tactic(auto, using(crate::proofs::RestLaws::left_whole, crate::proofs::RestLaws::semicolon_within, output::proofs::OutcomeLaws::turn_none))]
+pub fn transform_assignments(text: &MappedText<'_>, out: &mut [u8]) -> Result<usize, Refusal>
     requires text_len_bound { length text.now ≤ 65536 }
-    requires text_in_bounds { length text.now ≤ length map.now }
-    requires text_in_bounds_2 { length text.now ≤ length out.old }
-    ensures value { result ≡ pass_answer (assignments (marked text.now map.now)) }
-    ensures leaves { Leaves (assignments (marked text.now map.now)) out.old out.new }
+    requires text_in_bounds { length text.now ≤ length out.old }
+    ensures value { result ≡ pass_answer (assignments text.now) }
+    ensures leaves { Leaves (assignments text.now) out.old out.new }
 {
-    let mut n: usize = 0;
+    let mut written = Writer::new(out);
+    // By hand from one live `;` to the next: a turn takes a statement, and the library's walks take a byte.
     let mut from: usize = 0;
-    while let Some(end) = find_byte_in(text, map, b';', from) {
-        let m = put_statement(out, n, &text[from..end], &map[from..end])?;
-        n = put(out, m, b';');
+    while let Some(end) = text.find_byte(b';', from) {
+        put_statement(&mut written, &text.part(from, end))?;
+        written.put(b';');
         from = end + 1;
     }
-    put_statement(out, n, &text[from..], &map[from..])
+    put_statement(&mut written, &text.rest(from))?;
+    Ok(written.len)
 }

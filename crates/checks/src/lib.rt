@@ -4,16 +4,13 @@
 ghost use Rattle.std.specs.Prelude.{◌≡◌, Ok};
 ghost use Rattle.spec.specs.Answers.{first_high, ascii_check, check_of};
 
-use runs::{Set, run_end};
 use spec::Refusal;
 
 // The offset of the first byte over 127.
-#[tactic(auto, unfolding(spec::specs::Answers::first_high))]
 fn first_high(text: &[u8]) -> Option<usize>
     ensures { result ≡ first_high text.now }
 {
-    let n = run_end(text, Set::Ascii, 0);
-    if n < text.len() { Some(n) } else { None }
+    text.iter().position(|b| !b.is_ascii())
 }
 
 // Refusal 2 if a byte is over 127.

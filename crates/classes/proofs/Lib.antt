@@ -1,1 +1,2 @@
 pub mod PrefixLaws
+pub mod BackLaws

@@ -1,7 +1,9 @@
-// Bytes: document 01's byte sets, letter case, bytes of a text, and a lone `=`.
+// Bytes: document 01's byte sets, letter case, bytes of a text, and a lone `=`. Where a function's body is one method of the library
+// (`in_range`, `upper_of`, `starts_with`), what it adds is its equation, in the words of the definitions; `is_pair` is the definition
+// of that name.
 #![tactic(auto)]
 
-ghost use Rattle.std.specs.Prelude.{◌≡◌, List, ◌≤◌, length, get_or, drop};
+ghost use Rattle.std.specs.Prelude.{◌≡◌, List, cond, ◌-◌, ◌≤◌, eqb, length, get_or, drop};
 ghost use Rattle.spec.specs.Bytes.{within, is_ident, is_word, is_w, is_n, upper, is_pair, is_prefix};
 ghost use Rattle.spec.specs.Map.{Marked, bytes};
 ghost use Rattle.spec.specs.Assignments.{lone_equals};
@@ -62,11 +64,19 @@ pub fn is_pair(x: u8, y: u8, b: u8, d: u8) -> bool
     b == x && d == y
 }
 
-// The byte at i, or 0 past the end.
+// The byte at i, or 0 past the end. No `Option`: each caller compares it with a byte that is not 0 or asks for a set without 0, and
+// in a map 0 is live, as a missing byte is.
 pub fn byte_at(text: &[u8], i: usize) -> u8
     ensures { result ≡ get_or text.now i 0 }
 {
     text.get(i).copied().unwrap_or(0)
+}
+
+// The byte before i, or 0 at the front; no `Option`, as above.
+pub fn byte_before(text: &[u8], i: usize) -> u8
+    ensures { result ≡ cond (eqb i 0) 0 (get_or text.now (i - 1) 0) }
+{
+    i.checked_sub(1).map_or(0, |j| byte_at(text, j))
 }
 
 // Whether `pat` stands at the front of `text`.

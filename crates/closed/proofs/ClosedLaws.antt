@@ -1,62 +1,47 @@
 -- The parts of a closed body at an offset: its last byte, its spans, and each RAISE. Assumes nothing.
+use Rattle.std.specs.List.{list_all, range_with_len}
+use Rattle.std.proofs.lemmas.List.{drop_more, take_rest}
 use mathlib.Core.Path.{◌≡◌, refl, sym, ap, ◌∙◌}
-use mathlib.Core.Bool.{Bool, true, false, cond, not, ◌&&◌}
-use mathlib.Core.List.{List, [], ◌∷◌}
-use Prim.Native.Nat.{ℕ, suc, ◌+◌, ◌-◌, ◌≤◌, ◌<◌}
+use mathlib.Core.Bool.{Bool, true, false, not, ◌&&◌}
+use mathlib.Core.List.{List, [], ◌∷◌, reverse}
+use Prim.Native.Nat.{ℕ, zero, suc, ◌+◌, ◌-◌, ◌≤◌, ◌<◌}
 use native.Mathlib.Omega.{arith}
 use borrow.Author.Tests.{eq-eqb, ne_eqb}
 use lib.Dec.{eqb}
 use lib.ListN.{length, take, drop, get_or, length-drop, drop_of_length-le}
-use lib.Seq.{drop-drop, drop-nil}
-use Rattle.spec.specs.Bytes.{ascii, is_pair, is_ident, upper, prefix_by}
+use lib.Seq.{drop-drop, get_or-drop}
+use Rattle.spec.specs.Bytes.{ascii, is_pair, is_ident}
 use Rattle.spec.specs.Lists.{take_while, drop_while, any, all}
 use Rattle.spec.specs.Spans.{kind_at, opens_dollar, span_of, span_at, span_len, Lexeme, lexeme_at, lexemes_from, lexemes}
-use Rattle.spec.specs.Map.{Marked, live, byte, mark, marked, lives, front_byte, of_byte, is_live_byte}
+use Rattle.spec.specs.Map.{Marked, live, byte, bytes, is_live, front_byte, of_byte}
 use Rattle.spec.specs.Search.{word_here}
 use Rattle.spec.specs.Closed.{ends_live, is_plain_span, ends_word, is_followed, raises_followed}
 use Rattle.spec.specs.declared.Span.{Span}
-use Rattle.spec.proofs.AheadLaws.{rest_of}
-use Rattle.spec.proofs.Choice.{by, and_left, and_right}
-use Rattle.spec.proofs.MapLaws.{mark_byte, marked_length, marked_bytes}
+use Rattle.spec.proofs.BytesLaws.{bytes_drop, front_bytes}
+use Rattle.spec.proofs.Choice.{by}
+use Rattle.spec.proofs.LengthLaws.{word_in}
 use Rattle.spec.proofs.RunPlaces.{end_from, ahead_at}
 use Rattle.spec.proofs.SpanLaws.{lexemes_step}
-use Rattle.spec.proofs.MatchLaws.{prefix_at}
-use Rattle.spec.proofs.WalkLaws.{mark_live_byte, marked_at_lem, marked_step, marked_drop, front_byte_lem}
-use Rattle.scanner.proofs.KeywordLaws.{word_here_lem}
+use Rattle.spec.proofs.WalkLaws.{before_next, starts_length}
+use Rattle.scanner.proofs.ByteLaws.{live_byte}
 use Rattle.spans.proofs.StepLaws.{by_front, Stepped}
+use Rattle.closed.specs.Answer.{is_unfollowed_raise}
 
 -- ---- the last byte
 
-ends_last : (t : List Marked) (d : Marked) → 0 < length t → ends_live t ≡ is_live_byte 59 (get_or t (length t - 1) d)
+pub ends_last : (t : List Marked) → 0 < length t
+    → ends_live t ≡ (is_live (get_or t (length t - 1) (live 0)) && eqb (byte (get_or t (length t - 1) (live 0))) 59)
 unfolding ends_live
-ends_last [] d h = absurd (omega arith)
-ends_last (x ∷ []) d h = refl
-ends_last (x ∷ y ∷ t) d h =
+ends_last [] h = absurd (omega arith)
+ends_last (x ∷ []) h = live_byte 59 x
+ends_last (x ∷ y ∷ t) h =
     let n : length (x ∷ y ∷ t) - 1 ≡ suc (length (y ∷ t) - 1) = omega arith in
-    ends_last (y ∷ t) d (omega arith) ∙ sym (ap (λ (k : ℕ). is_live_byte 59 (get_or (x ∷ y ∷ t) k d)) n)
+    rw n (ends_last (y ∷ t) (omega arith))
 
--- the last byte and its map byte decide
-ends_at : (xs ms : List ℕ) → 0 < length xs
-    → ends_live (marked xs ms) ≡ (eqb (get_or ms (length xs - 1) 0) 0 && eqb (get_or xs (length xs - 1) 0) 59)
-ends_at xs ms h =
-    let n = marked_length xs ms in
-    ends_last (marked xs ms) (live 0) (omega arith)
-    ∙ (ap (λ (k : ℕ). is_live_byte 59 (get_or (marked xs ms) (k - 1) (live 0))) n
-    ∙ (ap (is_live_byte 59) (marked_at_lem xs ms (length xs - 1) (live 0) (omega arith))
-    ∙ mark_live_byte 59 (get_or ms (length xs - 1) 0) (get_or xs (length xs - 1) 0)))
-
--- m is the last byte's map byte
-module _ (xs ms : List ℕ) (m : ℕ) (h : 0 < length xs) (e : m ≡ get_or ms (length xs - 1) 0) where
-  pub ends_live_lem : m ≡ 0 → ends_live (marked xs ms) ≡ eqb (get_or xs (length xs - 1) 0) 59
-  ends_live_lem z = ends_at xs ms h ∙ rw (eq-eqb (get_or ms (length xs - 1) 0) 0 (sym e ∙ z)) refl
-
-  pub ends_quoted : (m ≡ 0 → ⊥) → ends_live (marked xs ms) ≡ false
-  ends_quoted z = ends_at xs ms h ∙ rw (ne_eqb (get_or ms (length xs - 1) 0) 0 (λ f. z (e ∙ f))) refl
-
-pub ends_none : (xs ms : List ℕ) → length xs ≡ 0 → ends_live (marked xs ms) ≡ false
-unfolding ends_live marked
-ends_none [] ms h = refl
-ends_none (c ∷ cs) ms h = absurd (omega arith)
+pub ends_none : (t : List Marked) → length t ≡ 0 → ends_live t ≡ false
+unfolding ends_live
+ends_none [] h = refl
+ends_none (x ∷ t) h = absurd (omega arith)
 
 -- ---- a span
 
@@ -114,14 +99,14 @@ module _ (xs : List ℕ) (at : ℕ) where
   pub step_part : (s : Span) (to : ℕ) → Stepped xs at s to
       → (to - at ≡ span_len (span_at (take (length xs - at) (drop at xs)))) × (to - at ≤ length (take (length xs - at) (drop at xs)))
   step_part s to t =
-      rw rest_of
+      rw take_rest
       (omega (arith, t.far, ap span_len t.front), omega (arith, t.within, length-drop at xs))
 
   -- that span, and the spans behind it
   plain_ahead : (s : Span) (to : ℕ) → Stepped xs at s to → (r : Bool) → r ≡ is_plain_span (lexeme_at (take (length xs - at) (drop at xs)))
       → all is_plain_span (lexemes (drop at xs)) ≡ (r && all is_plain_span (lexemes (drop to xs)))
   plain_ahead s to t r e =
-      let f : r ≡ is_plain_span (lexeme_at (drop at xs)) = rw rest_of at e in
+      let f : r ≡ is_plain_span (lexeme_at (drop at xs)) = rw take_rest at e in
       rw (f, ← t.behind)
       (by_front (λ (l : List ℕ). all is_plain_span (lexemes l) ≡ (is_plain_span (lexeme_at l) && all is_plain_span (lexemes (drop (span_len (span_at l)) l))))
       plain_step (drop at xs) (omega (arith, t.before, length-drop at xs)))
@@ -140,85 +125,70 @@ module _ (xs : List ℕ) (at : ℕ) where
 
 -- ---- a RAISE
 
--- a word that no byte of a set touches stands within the text
-pub word_fits : (set : ℕ → Bool) (w xs ms : List ℕ) (p i : ℕ) → i < length xs → word_here set w p (drop i (marked xs ms)) ≡ true → i + length w ≤ length xs
-word_fits set w xs ms p i h e =
-    let a = eqb (get_or ms i 0) 0 in
-    let b = prefix_by upper w (drop i xs) in
-    let d = not (set p) && not (set (get_or xs (i + length w) 0)) in
-    let f = and_left b d (and_right a (b && d) (sym (word_here_lem set w xs ms p i h) ∙ e)) in
-    (prefix_at upper w xs i (omega arith) f).fits
+-- a word stands within the text
+pub word_fits : (set : ℕ → Bool) (w : List ℕ) (p : ℕ) (t : List Marked) (i : ℕ) → i < length t → word_here set w p (drop i t) ≡ true → i + length w ≤ length t
+word_fits set w p t i h e = omega (arith, starts_length w (drop i t) (word_in set w p (drop i t) e), length-drop i t)
 
 -- ---- what stands behind a RAISE
 
--- the byte behind a run does not depend on the marks
-run_end : (f : ℕ → Bool) (xs ms : List ℕ) (i : ℕ)
-    → front_byte (drop_while (of_byte f) (drop i (marked xs ms))) ≡ get_or xs (i + length (take_while f (drop i xs))) 0
-run_end f xs ms i =
-    let e = end_from f xs i in
-    ap front_byte (ahead_at f (marked xs ms) xs (marked_bytes xs ms) i e refl).rest ∙ front_byte_lem xs ms e
+module _ (t : List Marked) where
+  front_at : (i : ℕ) → front_byte (drop i t) ≡ get_or (bytes t) i 0
+  front_at i =
+      let n : i + 0 ≡ i = omega arith in
+      front_bytes (drop i t) ∙ (ap (λ (l : List ℕ). get_or l 0 0) (bytes_drop i t) ∙ (get_or-drop i (bytes t) 0 0 ∙ ap (λ (k : ℕ). get_or (bytes t) k 0) n))
 
-pub followed_at : (xs ms : List ℕ) (i : ℕ)
-    → is_followed (drop i (marked xs ms))
-    ≡ (eqb (get_or xs i 0) 32
-    && (is_ident (get_or xs (i + 1) 0) && ends_word (get_or xs (i + 1 + length (take_while is_ident (drop (i + 1) xs))) 0)))
-unfolding is_followed
-followed_at xs ms i =
-    rw (drop-drop 1 i (marked xs ms), front_byte_lem xs ms i, front_byte_lem xs ms (i + 1), run_end is_ident xs ms (i + 1)) refl
+  -- the byte behind a run
+  run_end : (f : ℕ → Bool) (i : ℕ) → front_byte (drop_while (of_byte f) (drop i t)) ≡ get_or (bytes t) (i + length (take_while f (drop i (bytes t)))) 0
+  run_end f i =
+      let e = end_from f (bytes t) i in
+      ap front_byte (ahead_at f t (bytes t) refl i e refl).rest ∙ front_at e
 
-lives_marked : (xs : List ℕ) → lives xs ≡ marked xs []
-unfolding lives marked
-lives_marked [] = refl
-lives_marked (c ∷ cs) = ap (λ (t : List Marked). live c ∷ t) (lives_marked cs)
+  -- by the bytes alone
+  module _ (xs : List ℕ) (same : bytes t ≡ xs) (i : ℕ) where
+    pub followed_bytes : is_followed (drop i t)
+        ≡ (eqb (get_or xs i 0) 32
+        && (is_ident (get_or xs (i + 1) 0) && ends_word (get_or xs (i + 1 + length (take_while is_ident (drop (i + 1) xs))) 0)))
+    unfolding is_followed
+    followed_bytes = rw (← same, drop-drop 1 i t, front_at i, front_at (i + 1), run_end is_ident (i + 1)) refl
 
--- the marks do not matter
-pub followed_lives : (xs ms : List ℕ) (i : ℕ) → is_followed (drop i (marked xs ms)) ≡ is_followed (lives (drop i xs))
-followed_lives xs ms i =
-    followed_at xs ms i ∙ (sym (followed_at xs [] i)
-    ∙ ap is_followed (marked_drop i xs [] ∙ (ap (λ (l : List ℕ). marked (drop i xs) l) (drop-nil i) ∙ sym (lives_marked (drop i xs)))))
-
-module _ (xs : List ℕ) (i : ℕ) where
-  pub followed_bytes : is_followed (lives (drop i xs))
-      ≡ (eqb (get_or xs i 0) 32
-      && (is_ident (get_or xs (i + 1) 0) && ends_word (get_or xs (i + 1 + length (take_while is_ident (drop (i + 1) xs))) 0)))
-  followed_bytes = sym (followed_lives xs [] i) ∙ followed_at xs [] i
-
-  -- the word ends at e
-  pub followed_by : (e : ℕ) → e ≡ i + 1 + length (take_while is_ident (drop (i + 1) xs))
-      → is_followed (lives (drop i xs)) ≡ (eqb (get_or xs i 0) 32 && (is_ident (get_or xs (i + 1) 0) && ends_word (get_or xs e 0)))
-  followed_by e f = followed_bytes ∙ rw f refl
+    -- a space and a word that ends at e
+    pub followed_word : (e : ℕ) → e ≡ i + 1 + length (take_while is_ident (drop (i + 1) xs)) → get_or xs i 0 ≡ 32 → is_ident (get_or xs (i + 1) 0) ≡ true
+        → is_followed (drop i t) ≡ ends_word (get_or xs e 0)
+    followed_word e h space word = followed_bytes ∙ rw (h, eq-eqb (get_or xs i 0) 32 space, word) refl
 
 -- ---- every RAISE
 
 raises_front : (p : ℕ) (x : Marked) (t : List Marked)
     → raises_followed p (x ∷ t)
-    ≡ cond (word_here is_ident (ascii "RAISE") p (x ∷ t) && not (is_followed (drop 4 t))) false (raises_followed (byte x) t)
+    ≡ (not (word_here is_ident (ascii "RAISE") p (x ∷ t) && not (is_followed (drop 4 t))) && raises_followed (byte x) t)
 unfolding raises_followed
 raises_front p x t =
     by (word_here is_ident (ascii "RAISE") p (x ∷ t))
     (λ e. by (is_followed (drop 4 t)) (λ f. simp (e, f)) (λ f. simp (e, f)))
     (λ e. simp e)
 
-module _ (xs ms : List ℕ) (i p : ℕ) where
-  -- whether a RAISE at i has something else behind it
-  abbrev pub loose : Bool
-  loose = word_here is_ident (ascii "RAISE") p (drop i (marked xs ms)) && not (is_followed (drop (i + 5) (marked xs ms)))
+module _ (t : List Marked) where
+  -- from i on
+  abbrev followed_from : ℕ → Bool
+  followed_from i = raises_followed (front_byte (reverse (take i t))) (drop i t)
 
-  raises_at_lem : i < length xs → raises_followed p (drop i (marked xs ms)) ≡ cond loose false (raises_followed (get_or xs i 0) (drop (i + 1) (marked xs ms)))
-  raises_at_lem h =
+  followed_step : (i : ℕ) → i < length t → followed_from i ≡ (not (is_unfollowed_raise t i) && followed_from (i + 1))
+  followed_step i h =
       let five : i + 1 + 4 ≡ i + 5 = omega arith in
-      let d = drop-drop 4 (i + 1) (marked xs ms) ∙ ap (λ (k : ℕ). drop k (marked xs ms)) five in
-      let r = raises_front p (mark (get_or ms i 0) (get_or xs i 0)) (drop (i + 1) (marked xs ms)) in
-      rw (mark_byte, d, ← marked_step xs ms i h) at r
+      let d = drop-drop 4 (i + 1) t ∙ ap (λ (k : ℕ). drop k t) five in
+      let r = raises_front (front_byte (reverse (take i t))) (get_or t i (live 0)) (drop (i + 1) t) in
+      rw (d, ← drop_more t i (live 0) h, before_next t i h) at r
 
-  pub raises_unfollowed : i < length xs → loose ≡ true → raises_followed p (drop i (marked xs ms)) ≡ false
-  raises_unfollowed h e = raises_at_lem h ∙ rw e refl
-
-  pub raises_step : i < length xs → loose ≡ false → raises_followed p (drop i (marked xs ms)) ≡ raises_followed (get_or xs i 0) (drop (i + 1) (marked xs ms))
-  raises_step h e = raises_at_lem h ∙ rw e refl
-
-  pub raises_end : length xs ≤ i → raises_followed p (drop i (marked xs ms)) ≡ true
+  followed_end : (i : ℕ) → length t ≤ i → followed_from i ≡ true
   unfolding raises_followed
-  raises_end h =
-      let k : length (marked xs ms) ≤ i = rw marked_length h in
-      rw (drop_of_length-le (marked xs ms) k) refl
+  followed_end i h = rw (drop_of_length-le t h) refl
+
+  -- over the offsets from i on, of which n are left
+  followed_range : (n i : ℕ) → length t - i ≡ n → list_all (λ (k : ℕ). not (is_unfollowed_raise t k)) (range_with_len i n) ≡ followed_from i
+  followed_range zero i h = sym (followed_end i (omega arith))
+  followed_range (suc n) i h =
+      ap (λ (b : Bool). not (is_unfollowed_raise t i) && b) (followed_range n (i + 1) (omega arith)) ∙ sym (followed_step i (omega arith))
+
+  pub followed_all : list_all (λ (k : ℕ). not (is_unfollowed_raise t k)) (range_with_len 0 (length t)) ≡ raises_followed 0 t
+  unfolding front_byte
+  followed_all = followed_range (length t) 0 (omega arith)

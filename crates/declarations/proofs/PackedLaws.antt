@@ -5,24 +5,28 @@ use mathlib.Core.List.{List, [], ◌∷◌, ◌++◌}
 use Prim.Native.Nat.{ℕ, zero, suc, ◌+◌, ◌*◌, ◌≤◌, ◌<◌, zero-le}
 use native.Mathlib.Omega.{arith}
 use borrow.Author.Tests.{ne_eqb, lt-ltb, le-ltb}
-use lib.ListN.{length, get_or, drop, length-append}
-use lib.Seq.{sets}
+use lib.ListN.{length, get_or, take, drop, length-append, drop_of_length-le}
+use lib.Seq.{sets, drop_at}
+use Rattle.std.proofs.lemmas.List.{take-append-le}
 use Rattle.output.proofs.StoreLaws.{sets_append}
 use Rattle.spec.proofs.Choice.{by}
 use Rattle.spec.proofs.LengthLaws.{pieces_length}
 use Rattle.spec.specs.Lists.{total}
 use Rattle.spec.proofs.RecordLaws.{numbers_length}
-use Rattle.spec.specs.Bytes.{is_same}
-use Rattle.spec.specs.Map.{Marked}
-use Rattle.spec.specs.Search.{byte_here, pieces}
-use Rattle.spec.specs.Declarations.{Declared, record_width, declaration, declare, declare_maybe, declare_all, packed_record, packed, head_next, next_of, record_at, records_at, numbers_of}
+use Rattle.spec.proofs.MapLaws.{text_length}
+use Rattle.spec.specs.Bytes.{ascii, is_same}
+use Rattle.spec.specs.Map.{Marked, marked_text}
+use Rattle.spec.specs.Search.{first, keyword_here, byte_here, pieces}
+use Rattle.spec.specs.Declarations.{Declared, records_of, record_width, declaration, declare, declare_maybe, declare_all, packed_record, packed, head_next, next_of, record_at, records_at, numbers_of}
+use Rattle.declared_parts.proofs.BetweenLaws.{piece_le}
+use Rattle.declarations.proofs.SectionLaws.{section_place, records_in_lem, section_in}
 use Rattle.declared_parts.proofs.SizeLaws.{packed_part}
 use Rattle.declared_records.specs.Held.{record_in, records_from, Gathered}
-use Rattle.declarations.specs.SectionRecords.{records_of_section, next_number, Linked, other_numbers, final_numbers, Holds, parsed_of}
+use Rattle.declarations.specs.SectionRecords.{records_of_section, records_in, next_number, Linked, other_numbers, record_numbers, final_numbers, Holds, parsed_of}
 use Rattle.spec.specs.declared.Refusal.{Refusal}
 use Rattle.std.specs.Prelude.{Ok, Err}
 use Rattle.output.proofs.StoreLaws.{front_stored}
-use Rattle.declared_records.proofs.HeldLaws.{sets_behind, sets_drop, record_other, from_same, from_length}
+use Rattle.declared_records.proofs.HeldLaws.{sets_behind, record_other, from_same, from_length}
 
 -- ---- the texts are at most twice as long as the section
 
@@ -56,13 +60,33 @@ pub packed_small : (t : List Marked) → length (packed (records_of_section t)) 
 unfolding records_of_section packed
 packed_small t = omega (arith, all_packed (pieces (byte_here 59) t) [], pieces_length (byte_here 59) t)
 
+-- and as the whole text
+pub packed_fits : (xs : List ℕ) → length (packed (records_of xs)) ≤ 2 * length xs
+unfolding records_in
+packed_fits xs =
+    let t = marked_text xs in
+    let f = first (keyword_here (ascii "DECLARE")) 0 t in
+    let g = first (keyword_here (ascii "BEGIN")) 0 t in
+    let s = section_place f g in
+    let u = take s.len (drop s.at t) in
+    let e : length (packed (records_of_section u)) ≡ length (packed (records_of xs)) =
+    ap (λ (ds : List Declared). length (packed ds)) (ap records_of_section (section_in t f g refl refl).found ∙ records_in_lem xs) in
+    omega (arith, packed_small u, piece_le t s.at s.len, text_length xs, e)
+
+-- nothing stands behind as many numbers as the records take
+none_behind : (rs rs' : List ℕ) → length rs ≡ 5130 → length rs' ≡ 5130 → drop 5130 rs' ≡ drop 5130 rs
+none_behind rs rs' l m =
+    let a : length rs ≤ 5130 = omega arith in
+    let b : length rs' ≤ 5130 = omega arith in
+    drop_of_length-le rs' b ∙ sym (drop_of_length-le rs a)
+
 -- ---- all numbers
 
 -- the records' numbers where each has its next
 final_records : (xs rs : List ℕ) (ds : List Declared) (at k n : ℕ)
     → ((j : ℕ) → k ≤ j → j < k + n → get_or rs (10 * j) 0 ≡ next_of ds (record_in xs rs j).name)
     → final_numbers xs rs at k n ≡ records_at ds at (records_from xs rs k n)
-unfolding final_numbers records_at records_from record_at other_numbers
+unfolding final_numbers record_numbers records_at records_from record_at other_numbers
 final_records xs rs ds at k zero h = refl
 final_records xs rs ds at k (suc n) h =
     rw (
@@ -126,11 +150,11 @@ module _ (xs : List ℕ) (t : List Marked) (count : ℕ) (rs₁ rs₂ : List ℕ
         ∙ (sym (sets_append head_numbers (records_at ds 0 ds) rs₂ 0) ∙ ap (sets rs₂ 0) all_numbers)))
 
     -- both buffers
-    pub packed_all : (rs₀ out out' rs₄ : List ℕ) → drop 5130 rs₁ ≡ drop 5130 rs₀ → length t ≤ 16384 → 65536 ≤ length out → 5130 ≤ length rs₂
+    pub packed_all : (rs₀ out out' rs₄ : List ℕ) → length rs₀ ≡ 5130 → length rs₂ ≡ 5130 → length rs₄ ≡ 5130 → length t ≤ 16384 → 65536 ≤ length out
         → out' ≡ sets out 0 (packed (records_from xs rs₃ 1 count)) → rs₄ ≡ sets rs₃ 10 (final_numbers xs rs₃ 0 1 count)
         → Holds ds out out' rs₀ rs₄
     unfolding record_width
-    packed_all rs₀ out out' rs₄ b a f c p q =
+    packed_all rs₀ out out' rs₄ z c m a f p q =
         let n = numbers_length ds in
         let p₁ : out' ≡ sets out 0 (packed ds) = p ∙ rw kept_all refl in
         record {
@@ -140,7 +164,7 @@ module _ (xs : List ℕ) (t : List Marked) (count : ℕ) (rs₁ rs₂ : List ℕ
             numbers = rw (stored rs₄ q) (front_stored rs₂ _ (numbers_of ds) _ refl (omega (arith, n, count_length, g.within)) refl);
           };
           refused = λ h. absurd (omega (arith, count_length, g.within));
-          behind = rw (stored rs₄ q) (sets_drop (numbers_of ds) rs₂ 0 5130 (omega (arith, n, count_length, g.within))) ∙ (l.behind ∙ b);
+          behind = none_behind rs₀ rs₄ z m;
         }
 
 -- the answers
@@ -152,8 +176,25 @@ pub parsed_count : (es : List Declared) (n m : ℕ) → length es ≡ n → m �
 unfolding parsed_of
 parsed_count es n m e f h = rw (e, f, le-ltb 512 n h) refl
 
-pub over_holds : (xs : List ℕ) (t : List Marked) (rs rs₀ out : List ℕ) (e : Refusal) → Gathered xs t rs (Err e) → drop 5130 rs ≡ drop 5130 rs₀
+pub over_holds : (xs : List ℕ) (t : List Marked) (rs rs₀ out : List ℕ) (e : Refusal) → Gathered xs t rs (Err e) → length rs₀ ≡ 5130 → length rs ≡ 5130
     → Holds (records_of_section t) out out rs₀ rs
 unfolding records_of_section
-over_holds xs t rs rs₀ out e g b =
-    record { accepted = λ l. absurd (omega (arith, g.1)); refused = λ _. refl; behind = b }
+over_holds xs t rs rs₀ out e g z m =
+    record { accepted = λ l. absurd (omega (arith, g.1)); refused = λ _. refl; behind = none_behind rs₀ rs z m }
+
+-- what stands in front of a longer buffer
+pub holds_in : (es : List Declared) (out out' ws ws' rs : List ℕ) → length ws' ≡ 5130 → Holds es out out' ws ws' → Holds es out out' rs (ws' ++ drop 5130 rs)
+unfolding record_width
+holds_in es out out' ws ws' rs l h =
+    record {
+      accepted =
+          λ a.
+          let p = h.accepted a in
+          record {
+            texts = p.texts;
+            front = p.front;
+            numbers = take-append-le (length (numbers_of es)) ws' (drop 5130 rs) (omega (arith, numbers_length es)) ∙ p.numbers;
+          };
+      refused = h.refused;
+      behind = drop_at ws' (drop 5130 rs) 5130 l;
+    }

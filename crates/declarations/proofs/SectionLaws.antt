@@ -1,21 +1,23 @@
 -- The section between DECLARE and BEGIN, and the body. Assumes nothing.
 use Rattle.std.specs.Prelude.{Option, Some, None}
 use Rattle.std.specs.Option.{unwrap_or}
+use Rattle.std.proofs.lemmas.Bool.{cond_both}
 use mathlib.Core.Path.{◌≡◌, refl, sym, ◌∙◌}
 use mathlib.Core.List.{List, []}
 use Prim.Native.Nat.{ℕ, ◌+◌, ◌-◌, ◌≤◌, ◌<◌, zero-le}
 use native.Mathlib.Omega.{arith}
-use borrow.Author.Tests.{leb-true, leb-false, lt-ltb}
-use lib.Dec.{leb, ltb}
+use borrow.Author.Tests.{ltb-true, ltb-false, lt-ltb}
+use lib.Dec.{ltb}
 use lib.ListN.{length, take, drop}
-use Rattle.spec.proofs.Choice.{by, cond_case}
+use Rattle.spec.proofs.Choice.{by}
 use Rattle.spec.proofs.WalkLaws.{first_within}
 use Rattle.spec.specs.Bytes.{ascii}
 use Rattle.spec.specs.Map.{Marked, marked_text}
 use Rattle.spec.specs.Search.{first, keyword_here}
-use Rattle.spec.specs.Parts.{part}
 use Rattle.spec.specs.Declarations.{declare_section, records_of, body_from}
 use Rattle.declared_parts.proofs.BetweenLaws.{between_none}
+use Rattle.runs.specs.Places.{place_between}
+use Rattle.runs.specs.declared.Place.{Place}
 use Rattle.declarations.specs.SectionRecords.{records_of_section, records_in, declare_end, section_of, SectionIn}
 
 -- the records of a text by its own map
@@ -33,38 +35,35 @@ pub declare_end_lem : (t : List Marked) (f : Option ℕ) → f ≡ declare_at t 
 declare_end_lem t (Some d) e = omega (arith, (first_within (keyword_here (ascii "DECLARE")) t 0 d (sym e)).1)
 declare_end_lem t None e = zero-le
 
--- the part that is cut out
-cut : (t : List Marked) (f g : Option ℕ) → part (section_of f g).from (section_of f g).to t ≡ declare_section f g t
-unfolding declare_section
-cut t (Some d) (Some b) =
-    by (leb (d + 7) b)
-    (λ e. rw (e, lt-ltb d b (omega (arith, leb-true (d + 7) b e))) refl)
-    (λ e. rw e
-    (between_none t 0 0 zero-le
-    ∙ cond_case (λ l. [] ≡ l) (ltb d b) (take (b - (d + 7)) (drop (d + 7) t)) []
-    (λ _. sym (between_none t (d + 7) b (omega (arith, leb-false (d + 7) b e)))) (λ _. refl)))
-cut t (Some d) None = between_none t 0 0 zero-le
-cut t None (Some b) = between_none t 0 0 zero-le
-cut t None None = between_none t 0 0 zero-le
+-- the section, empty if there is none
+abbrev pub section_place : Option ℕ → Option ℕ → Place
+section_place f g = unwrap_or (section_of f g) (record { at = 0; len = 0 })
 
-pub section_in : (t : List Marked) (f g : Option ℕ) → f ≡ declare_at t → g ≡ begin_at t → SectionIn t (section_of f g)
-unfolding records_in
+-- the part that is cut out
+cut : (t : List Marked) (f g : Option ℕ) → take (section_place f g).len (drop (section_place f g).at t) ≡ declare_section f g t
+unfolding declare_section place_between
+cut t (Some d) (Some b) =
+    by (ltb (d + 7) b)
+    (λ e. rw (e, lt-ltb d b (omega (arith, ltb-true (d + 7) b e))) refl)
+    (λ e. rw e
+    (cond_both (ltb d b) (take (b - (d + 7)) (drop (d + 7) t)) [] (λ l. [] ≡ l)
+    (λ _. sym (between_none t (d + 7) b (ltb-false (d + 7) b e))) (λ _. refl)))
+cut t (Some d) None = refl
+cut t None (Some b) = refl
+cut t None None = refl
+
+pub section_in : (t : List Marked) (f g : Option ℕ) → f ≡ declare_at t → g ≡ begin_at t → SectionIn t (section_place f g)
+unfolding records_in place_between
 section_in t f g p q =
     record {
-      ordered = ordered f g;
       within = within g (λ b e. (first_within (keyword_here (ascii "BEGIN")) t 0 b (sym q ∙ e)).1) f;
       found = cut t f g ∙ rw (p, q) refl;
     }
   where
-    ordered : (f g : Option ℕ) → (section_of f g).from ≤ (section_of f g).to
-    ordered (Some d) (Some b) = by (leb (d + 7) b) (λ e. rw e (leb-true (d + 7) b e)) (λ e. rw e zero-le)
-    ordered (Some d) None = zero-le
-    ordered None g = zero-le
-
-    within : (g : Option ℕ) → ((b : ℕ) → g ≡ Some b → b < length t) → (f : Option ℕ) → (section_of f g).to ≤ length t
-    within (Some b) h (Some d) = by (leb (d + 7) b) (λ e. rw e (omega (arith, h b refl))) (λ e. rw e zero-le)
-    within None h (Some d) = zero-le
-    within g h None = zero-le
+    within : (g : Option ℕ) → ((b : ℕ) → g ≡ Some b → b < length t) → (f : Option ℕ) → (section_place f g).at + (section_place f g).len ≤ length t
+    within (Some b) h (Some d) = by (ltb (d + 7) b) (λ e. rw e (omega (arith, h b refl, ltb-true (d + 7) b e))) (λ e. rw e (omega arith))
+    within None h (Some d) = omega arith
+    within g h None = omega arith
 
 -- ---- the body
 

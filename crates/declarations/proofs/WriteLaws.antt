@@ -1,160 +1,114 @@
 -- The texts of the records packed one after the other, and their numbers. Assumes nothing.
+use Rattle.std.specs.Prelude.{Option, Some, None}
 use mathlib.Core.Path.{◌≡◌, refl, sym, ap, ◌∙◌}
-use mathlib.Core.Bool.{Bool, true, false, cond}
-use mathlib.Core.List.{List, [], ◌∷◌, ◌++◌}
-use Prim.Native.Nat.{ℕ, suc, ◌+◌, ◌-◌, ◌*◌, ◌≤◌, ◌<◌}
+use mathlib.Core.List.{List, ◌∷◌, ◌++◌}
+use Prim.Native.Nat.{ℕ, suc, ◌+◌, ◌-◌, ◌*◌, ◌≤◌, ◌<◌, zero-le}
 use native.Mathlib.Omega.{arith}
-use mir.Val.{bool_byte}
-use lib.ListN.{length, get_or, take, drop, length-append}
+use lib.ListN.{length, get_or, drop, length-append}
 use lib.Seq.{sets}
 use Rattle.output.proofs.StoreLaws.{sets_append}
+use Rattle.output.proofs.WriterLaws.{Left, wrote_then, left_start, left_more, left_done}
+use Rattle.output.specs.Written.{Wrote}
+use Rattle.output.specs.declared.Writer.{Writer}
+use Rattle.spec.proofs.AheadLaws.{drop_front}
 use Rattle.spec.proofs.RecordLaws.{default_three}
-use Rattle.spec.specs.Declarations.{Declared, text_or, packed_record, packed, default_numbers, mark_numbers, one_if}
-use Rattle.declared_parts.specs.DeclaredParts.{spaced, value_of, is_set, default_by, declared_by}
+use Rattle.spec.specs.Declarations.{Declared, text_or, packed_record, packed, default_numbers, mark_numbers}
+use Rattle.declared_parts.specs.DeclaredParts.{declared_by, part_numbers, Within, PlaceWithin}
+use Rattle.declared_parts.specs.declared.DeclarationPlaces.{DeclarationPlaces}
 use Rattle.declared_parts.proofs.BetweenLaws.{piece_le}
-use Rattle.declared_records.specs.Held.{record_in, records_from}
-use Rattle.declarations.specs.SectionRecords.{ends_of, other_numbers, final_numbers}
-use Rattle.declarations.specs.declared.Ends.{Ends}
+use Rattle.declared_records.specs.Held.{record_in, records_from, held_numbers}
+use Rattle.declarations.specs.SectionRecords.{value_from, packed_places, other_numbers, record_numbers, final_numbers}
 use Rattle.declared_records.proofs.HeldLaws.{sets_behind, record_same}
 
 pub name_le : (xs rs : List ℕ) (k : ℕ) → length (record_in xs rs k).name ≤ length xs
 unfolding declared_by
 name_le xs rs k = piece_le xs (get_or (drop (10 * k) rs) 1 0) (get_or (drop (10 * k) rs) 2 0)
 
--- the number of a mark, as the library converts it
-pub mark_byte : (b : Bool) (n : ℕ) → n ≡ bool_byte b → n ≡ one_if b
-mark_byte true n e = e
-mark_byte false n e = e
+-- the three texts one after the other
+pub texts_wrote : {a b c e : Writer} (d : Declared) → Wrote a d.name b → Wrote b d.type c → Wrote c (text_or d.default) e → Wrote a (packed_record d) e
+unfolding packed_record
+texts_wrote d p q r = wrote_then d.name (d.type ++ text_or d.default) p (wrote_then d.type (text_or d.default) q r)
 
-module _ (xs rs : List ℕ) (k : ℕ) where
-  abbrev d : Declared
-  d = record_in xs rs k
+-- and where they stand
+pub places_packed : {a b c : Writer} (d : Declared) (p : DeclarationPlaces) → Wrote a d.name b → Wrote b d.type c
+    → p ≡ record {
+      name = record { at = a.len; len = b.len - a.len };
+      kind = record { at = b.len; len = c.len - b.len };
+      value = value_from c.len d.default;
+      constant = d.constant;
+      not_null = d.not_null;
+    }
+    → p ≡ packed_places a.len d
+unfolding packed_places
+places_packed {a} {b} {c} d p q r e =
+    let n : b.len - a.len ≡ length d.name = omega (arith, q.count) in
+    let m : c.len - b.len ≡ length d.type = omega (arith, r.count) in
+    let i : b.len ≡ a.len + length d.name = q.count in
+    let j : c.len ≡ a.len + length d.name + length d.type = omega (arith, q.count, r.count) in
+    e ∙ rw (n, m, j, i) refl
 
-  abbrev number : ℕ → ℕ
-  number j = get_or (drop (10 * k) rs) j 0
+-- they are within a text that they fit
+pub places_within : (at n : ℕ) (d : Declared) → at + length (packed_record d) ≤ n → Within n (packed_places at d)
+unfolding packed_places packed_record
+places_within at n d h =
+    let l = length-append d.name (d.type ++ text_or d.default) in
+    let m = length-append d.type (text_or d.default) in
+    record {
+      name = omega (arith, l);
+      name_len = omega (arith, l);
+      kind = omega (arith, l, m);
+      kind_len = omega (arith, l, m);
+      value = value d.default (omega (arith, l, m));
+    }
+  where
+    value : (o : Option (List ℕ)) → at + length d.name + length d.type + length (text_or o) ≤ n → PlaceWithin n (value_from (at + length d.name + length d.type) o)
+    value None k = (zero-le, zero-le)
+    value (Some xs) k = (omega arith, omega arith)
 
-  -- the type and the default by their places
-  typed : d.type ≡ spaced false (take (number 4) (drop (number 3) xs))
-  unfolding declared_by
-  typed = refl
-
-  valued : d.default ≡ value_of (is_set (number 5)) (take (number 7) (drop (number 6) xs))
-  unfolding declared_by default_by
-  valued = refl
-
-  -- the three texts stored one after the other
-  pub record Texts (out : List ℕ) (n : ℕ) (e : Ends) (out' : List ℕ) : Type 0 where
-    pub ends : e ≡ ends_of n d
-    pub stored : out' ≡ sets out n (packed_record d)
-
-  pub texts : (out out₁ out₂ out₃ : List ℕ) (n a b c : ℕ) (p : Bool) (name kind value : List ℕ)
-      → name ≡ d.name → kind ≡ take (number 4) (drop (number 3) xs) → p ≡ is_set (number 5) → value ≡ take (number 7) (drop (number 6) xs)
-      → out₁ ≡ sets out n name → a ≡ n + length name
-      → out₂ ≡ sets out₁ a (spaced false kind) → b ≡ a + length (spaced false kind)
-      → out₃ ≡ sets out₂ b (text_or (value_of p value)) → c ≡ b + length (text_or (value_of p value))
-      → Texts out n record { name = a; kind = b; value = c } out₃
-  unfolding ends_of packed_record
-  texts out out₁ out₂ out₃ n a b c p name kind value q₁ q₂ q₃ q₄ s₁ l₁ s₂ l₂ s₃ l₃ =
-      let t : spaced false kind ≡ d.type = ap (spaced false) q₂ ∙ sym typed in
-      let v : text_or (value_of p value) ≡ text_or d.default = rw (q₃, q₄) refl ∙ ap text_or (sym valued) in
-      let m₁ : a ≡ n + length d.name = l₁ ∙ rw q₁ refl in
-      let m₂ : b ≡ n + length d.name + length d.type = l₂ ∙ rw (t, m₁) refl in
-      let m₃ : c ≡ n + length d.name + length d.type + length (text_or d.default) = l₃ ∙ rw (v, m₂) refl in
-      record {
-        ends = rw (m₁, m₂, m₃) refl;
-        stored =
-            s₃
-            ∙ (rw (v, s₂, t, s₁, q₁, m₂, m₁)
-            (sym (sets_append d.name (d.type ++ text_or d.default) out n
-            ∙ sets_append d.type (text_or d.default) (sets out n d.name) (n + length d.name))));
-      }
-
-  -- the numbers that are stored
-  pub packed_length : (n : ℕ) → (ends_of n d).value ≡ n + length (packed_record d)
-  unfolding ends_of packed_record
-  packed_length n =
-      omega (arith, length-append d.name (d.type ++ text_or d.default), length-append d.type (text_or d.default))
-
-  pub record Ordered (n : ℕ) (e : Ends) : Type 0 where
-    pub first : n ≤ e.name
-    pub second : e.name ≤ e.kind
-    pub third : e.kind ≤ e.value
-    pub last : e.value ≡ n + length (packed_record d)
-
-  pub ordered : (n : ℕ) (e : Ends) → e ≡ ends_of n d → Ordered n e
-  unfolding ends_of
-  ordered n e q =
-      let m₁ = ap (λ (f : Ends). f.name) q in
-      let m₂ = ap (λ (f : Ends). f.kind) q in
-      let m₃ = ap (λ (f : Ends). f.value) q in
-      record { first = omega arith; second = omega arith; third = omega arith; last = omega (arith, packed_length n) }
-
-  default_places : (p : Bool) (at : ℕ) (text : List ℕ)
-      → cond p 1 0 ∷ cond p at 0 ∷ length (text_or (value_of p text)) ∷ [] ≡ default_numbers (value_of p text) at
-  unfolding default_numbers
-  default_places true at text = refl
-  default_places false at text = refl
-
-  -- the marks by their numbers
-  constant_is : is_set (number 8) ≡ d.constant
-  unfolding declared_by
-  constant_is = refl
-
-  not_null_is : is_set (number 9) ≡ d.not_null
-  unfolding declared_by
-  not_null_is = refl
-
-  pub numbers : (n flag at x y : ℕ) (p constant not_null : Bool) (e : Ends) → p ≡ is_set (number 5) → e ≡ ends_of n d
-      → constant ≡ is_set (number 8) → not_null ≡ is_set (number 9)
-      → flag ≡ one_if p → at ≡ cond p e.kind 0 → x ≡ one_if constant → y ≡ one_if not_null
-      → n ∷ (e.name - n) ∷ e.name ∷ (e.kind - e.name) ∷ flag ∷ at ∷ (e.value - e.kind) ∷ x ∷ y ∷ [] ≡ other_numbers n d
-  unfolding ends_of other_numbers
-  numbers n flag at x y p constant not_null e q r u v f g h i =
-      let m₁ : e.name ≡ n + length d.name = ap (λ (f : Ends). f.name) r in
-      let m₂ : e.kind ≡ n + length d.name + length d.type = ap (λ (f : Ends). f.kind) r in
-      let m₃ : e.value ≡ n + length d.name + length d.type + length (text_or d.default) = ap (λ (f : Ends). f.value) r in
-      let i₁ : e.name - n ≡ length d.name = omega arith in
-      let i₂ : e.kind - e.name ≡ length d.type = omega arith in
-      let i₃ : e.value - e.kind ≡ length (text_or d.default) = omega arith in
-      let o : d.default ≡ value_of p (take (number 7) (drop (number 6) xs)) = valued ∙ rw q refl in
-      let front = n + length d.name + length d.type in
-      let w : cond p 1 0 ∷ cond p front 0 ∷ length (text_or d.default) ∷ [] ≡ default_numbers d.default front =
-      rw o (default_places p front (take (number 7) (drop (number 6) xs))) in
-      let c : constant ≡ d.constant = u ∙ constant_is in
-      let z : not_null ≡ d.not_null = v ∙ not_null_is in
-      rw (i₁, i₂, i₃, f, g, h, i, m₁, m₂, c, z)
-      (ap (λ (l : List ℕ). n ∷ length d.name ∷ (n + length d.name) ∷ length d.type ∷ (l ++ mark_numbers d)) w)
+-- the numbers that are stored
+pub packed_numbers : (xs rs : List ℕ) (at k front : ℕ) → front ≡ get_or (drop (10 * k) rs) 0 0
+    → held_numbers front (packed_places at (record_in xs rs k)) ≡ record_numbers xs rs at k
+unfolding part_numbers packed_places record_numbers other_numbers default_numbers
+packed_numbers xs rs at k front h = go (record_in xs rs k) (record_in xs rs k).default refl
+  where
+    go : (d : Declared) (o : Option (List ℕ)) → d.default ≡ o → held_numbers front (packed_places at d) ≡ get_or rs (10 * k) 0 ∷ other_numbers at d
+    go d None e = rw (e, h, drop_front rs (10 * k) 0) refl
+    go d (Some xs) e = rw (e, h, drop_front rs (10 * k) 0) refl
 
 -- ---- all records
 
-others_length : (n : ℕ) (d : Declared) → length (other_numbers n d) ≡ 9
-unfolding other_numbers
-others_length n d =
-    let at = n + length d.name + length d.type in
-    omega (arith, length-append (default_numbers d.default at) (mark_numbers d), default_three d.default at)
+numbers_length : (xs rs : List ℕ) (at k : ℕ) → length (record_numbers xs rs at k) ≡ 10
+unfolding record_numbers other_numbers
+numbers_length xs rs at k =
+    let d = record_in xs rs k in
+    let n = at + length d.name + length d.type in
+    omega (arith, length-append (default_numbers d.default n) (mark_numbers d), default_three d.default n)
 
-module _ (xs out rs : List ℕ) (count : ℕ) where
+module _ (xs rs : List ℕ) (count : ℕ) (start : Writer) where
   -- the records from record k on
   abbrev left : ℕ → List Declared
   left k = records_from xs rs k (count + 1 - k)
 
   -- records below k are written, those from k on are as they were
-  pub record Written (k n : ℕ) (out' rs' : List ℕ) : Type 0 where
+  pub record Written (k : ℕ) (w : Writer) (rs' : List ℕ) : Type 0 where
     pub untouched : (j : ℕ) → 10 * k ≤ j → get_or rs' j 0 ≡ get_or rs j 0
-    pub counted : n + length (packed (left k)) ≡ length (packed (records_from xs rs 1 count))
-    pub texts : sets out 0 (packed (records_from xs rs 1 count)) ≡ sets out' n (packed (left k))
-    pub numbers : sets rs 10 (final_numbers xs rs 0 1 count) ≡ sets rs' (10 * k) (final_numbers xs rs n k (count + 1 - k))
+    pub texts : Left start (packed (records_from xs rs 1 count)) w (packed (left k))
+    pub numbers : sets rs 10 (final_numbers xs rs start.len 1 count) ≡ sets rs' (10 * k) (final_numbers xs rs w.len k (count + 1 - k))
 
-  pub written_none : Written 1 0 out rs
+  pub written_none : Written 1 start rs
   written_none =
       let z : count + 1 - 1 ≡ count = omega arith in
       let e : 10 * 1 ≡ 10 = omega arith in
-      record { untouched = λ j h. refl; counted = rw z (omega arith); texts = rw z refl; numbers = rw (z, e) refl }
+      record { untouched = λ j h. refl; texts = rw z (left_start start _); numbers = rw (z, e) refl }
 
-  module _ (k n : ℕ) (out' rs' : List ℕ) (h : k ≤ count) (w : Written k n out' rs') where
+  module _ (k : ℕ) (w : Writer) (rs' : List ℕ) (h : k ≤ count) (g : Written k w rs') where
     -- the record that is written is the one that was read
     same : record_in xs rs' k ≡ record_in xs rs k
-    same = record_same xs rs' rs k (λ i a b. w.untouched (10 * k + i) (omega arith))
+    same = record_same xs rs' rs k (λ i a b. g.untouched (10 * k + i) (omega arith))
+
+    numbers_same : record_numbers xs rs' w.len k ≡ record_numbers xs rs w.len k
+    unfolding record_numbers
+    numbers_same = rw (same, g.untouched (10 * k) (omega arith)) refl
 
     one : left k ≡ record_in xs rs k ∷ left (k + 1)
     unfolding records_from
@@ -167,52 +121,49 @@ module _ (xs out rs : List ℕ) (count : ℕ) where
     unfolding packed
     packed_one = rw one refl
 
-    final_one : final_numbers xs rs n k (count + 1 - k)
-        ≡ (get_or rs (10 * k) 0 ∷ other_numbers n (record_in xs rs k))
-        ++ final_numbers xs rs (n + length (packed_record (record_in xs rs k))) (k + 1) (count + 1 - (k + 1))
+    final_one : final_numbers xs rs w.len k (count + 1 - k)
+        ≡ record_numbers xs rs w.len k
+        ++ final_numbers xs rs (w.len + length (packed_record (record_in xs rs k))) (k + 1) (count + 1 - (k + 1))
     unfolding final_numbers
     final_one =
         let z : count + 1 - k ≡ suc (count + 1 - (k + 1)) = omega arith in
         let m : suc k ≡ k + 1 = omega arith in
         rw (z, m) refl
 
-    pub record_fits : n + length (packed_record (record_in xs rs' k)) ≤ length (packed (records_from xs rs 1 count))
+    pub record_fits : w.len + length (packed_record (record_in xs rs' k)) ≤ start.len + length (packed (records_from xs rs 1 count))
     record_fits =
-        rw same (omega (arith, w.counted, ap length packed_one, length-append (packed_record (record_in xs rs k)) (packed (left (k + 1)))))
+        rw same (omega (arith, g.texts.counts, ap length packed_one, length-append (packed_record (record_in xs rs k)) (packed (left (k + 1)))))
 
-    pub written_one : (m : ℕ) (out'' rs'' : List ℕ) → m ≡ n + length (packed_record (record_in xs rs' k))
-        → out'' ≡ sets out' n (packed_record (record_in xs rs' k))
-        → rs'' ≡ sets rs' (10 * k) (get_or rs' (10 * k) 0 ∷ other_numbers n (record_in xs rs' k))
-        → Written (k + 1) m out'' rs''
-    written_one m out'' rs'' p q r =
+    pub written_one : (w' : Writer) (rs'' : List ℕ) → Wrote w (packed_record (record_in xs rs' k)) w'
+        → rs'' ≡ sets rs' (10 * k) (record_numbers xs rs' w.len k)
+        → Written (k + 1) w' rs''
+    written_one w' rs'' q r =
         let d = record_in xs rs k in
-        let m₁ : m ≡ n + length (packed_record d) = p ∙ rw same refl in
-        let q₁ : out'' ≡ sets out' n (packed_record d) = q ∙ rw same refl in
-        let vs : List ℕ = get_or rs (10 * k) 0 ∷ other_numbers n d in
-        let r₁ : rs'' ≡ sets rs' (10 * k) vs = r ∙ rw (same, w.untouched (10 * k) (omega arith)) refl in
-        let l : length vs ≡ 10 = omega (arith, others_length n d) in
+        let p : Wrote w (packed_record d) w' = rw same at q in
+        let vs : List ℕ = record_numbers xs rs w.len k in
+        let r₁ : rs'' ≡ sets rs' (10 * k) vs = r ∙ ap (sets rs' (10 * k)) numbers_same in
+        let l : length vs ≡ 10 = numbers_length xs rs w.len k in
         let e : 10 * k + length vs ≡ 10 * (k + 1) = omega arith in
         record {
-          untouched = λ j a. rw r₁ (sets_behind vs rs' (10 * k) j (omega arith)) ∙ w.untouched j (omega arith);
-          counted = omega (arith, w.counted, ap length packed_one, length-append (packed_record d) (packed (left (k + 1))));
-          texts =
-              w.texts
-              ∙ (ap (sets out' n) packed_one
-              ∙ (sets_append (packed_record d) (packed (left (k + 1))) out' n ∙ rw (q₁, m₁) refl));
+          untouched = λ j a. rw r₁ (sets_behind vs rs' (10 * k) j (omega arith)) ∙ g.untouched j (omega arith);
+          texts = left_more _ _ _ _ g.texts packed_one p;
           numbers =
-              w.numbers
+              g.numbers
               ∙ (ap (sets rs' (10 * k)) final_one
-              ∙ (sets_append vs (final_numbers xs rs (n + length (packed_record d)) (k + 1) (count + 1 - (k + 1))) rs' (10 * k) ∙ rw (r₁, m₁, e) refl));
+              ∙ (sets_append vs (final_numbers xs rs (w.len + length (packed_record d)) (k + 1) (count + 1 - (k + 1))) rs' (10 * k) ∙ rw (r₁, p.count, e) refl));
         }
 
   -- nothing is left
-  pub record Done (n : ℕ) (out' rs' : List ℕ) : Type 0 where
-    pub counted : n ≡ length (packed (records_from xs rs 1 count))
-    pub texts : out' ≡ sets out 0 (packed (records_from xs rs 1 count))
-    pub numbers : rs' ≡ sets rs 10 (final_numbers xs rs 0 1 count)
-
-  pub written_all : (k n : ℕ) (out' rs' : List ℕ) → count < k → Written k n out' rs' → Done n out' rs'
+  pub written_all : (k : ℕ) (w : Writer) (rs' : List ℕ) → count < k → Written k w rs'
+      → Wrote start (packed (records_from xs rs 1 count)) w × (rs' ≡ sets rs 10 (final_numbers xs rs start.len 1 count))
   unfolding records_from packed final_numbers
-  written_all k n out' rs' h w =
+  written_all k w rs' h g =
       let z : count + 1 - k ≡ 0 = omega arith in
-      record { counted = omega (arith, rw z at w.counted); texts = sym (rw z at w.texts); numbers = sym (rw z at w.numbers) }
+      (left_done _ _ g.texts (rw z refl), sym (rw z at g.numbers))
+
+  -- the last record is written
+  pub written_end : (k : ℕ) (w w' : Writer) (rs' rs'' : List ℕ) → Written k w rs' → k ≡ count → Wrote w (packed_record (record_in xs rs' k)) w'
+      → rs'' ≡ sets rs' (10 * k) (record_numbers xs rs' w.len k)
+      → Wrote start (packed (records_from xs rs 1 count)) w' × (rs'' ≡ sets rs 10 (final_numbers xs rs start.len 1 count))
+  written_end k w w' rs' rs'' g e p q =
+      written_all (k + 1) w' rs'' (omega arith) (written_one k w rs' (omega arith) g w' rs'' p q)

@@ -1,6 +1,6 @@
 -- The chain of the records while it grows: record 0 is its head, and records are put in from the last to the first. Assumes
 -- nothing.
-use Rattle.std.specs.Prelude.{◌≡◌, ℕ, ◌-◌, ◌*◌, ◌≤◌, ◌<◌, Bool, true, false, ◌||◌, List, eqb, get_or, drop}
+use Rattle.std.specs.Prelude.{◌≡◌, ℕ, ◌-◌, ◌*◌, ◌≤◌, ◌<◌, Bool, true, false, ◌||◌, List, eqb, get_or}
 use Rattle.spec.specs.Bytes.{is_same, is_before}
 use Rattle.declared_records.specs.Held.{record_in}
 
@@ -42,4 +42,3 @@ pub record LastAhead (n : ℕ → List ℕ) (rs : List ℕ) (count k p : ℕ) : 
 pub record Inserted (xs rs : List ℕ) (count k : ℕ) (rs' : List ℕ) : Type 0 where
   pub chained : Chained (name_in xs rs) rs' count (k - 1)
   pub same : (j : ℕ) → record_in xs rs' j ≡ record_in xs rs j
-  pub behind : drop 5130 rs' ≡ drop 5130 rs

@@ -1,14 +1,15 @@
 -- The records' nexts, their packed texts and their numbers, by the records as they are read. Assumes nothing.
-use Rattle.std.specs.Prelude.{◌≡◌, ℕ, zero, suc, ◌+◌, ◌*◌, ◌≤◌, ◌<◌, cond, List, [], ◌∷◌, ◌++◌, eqb, leb, ltb, length, get_or, take, drop, Option, Some, None, Result, Err, Ok}
+use Rattle.std.specs.Prelude.{◌≡◌, ℕ, zero, suc, ◌+◌, ◌*◌, ◌≤◌, ◌<◌, cond, List, [], ◌∷◌, ◌++◌, eqb, ltb, length, get_or, take, drop, Option, Some, None, Result, Err, Ok}
+use Rattle.std.specs.Borrow.{Bor}
 use Rattle.std.proofs.lemmas.List.Edits.{sets}
 use Rattle.spec.specs.Bytes.{ascii}
 use Rattle.spec.specs.Map.{Marked}
 use Rattle.spec.specs.Search.{first, keyword_here, byte_here, pieces}
-use Rattle.spec.specs.Declarations.{Declared, declare_all, declare_section, text_or, packed_record, packed, head_next, next_of, default_numbers, mark_numbers, numbers_of}
-use Rattle.spec.specs.Parts.{part}
+use Rattle.spec.specs.Declarations.{Declared, requoted_default, declare_all, declare_section, packed_record, packed, head_next, next_of, default_numbers, mark_numbers, numbers_of}
+use Rattle.runs.specs.Places.{place_between}
+use Rattle.runs.specs.declared.Place.{Place}
+use Rattle.declared_parts.specs.declared.DeclarationPlaces.{DeclarationPlaces}
 use Rattle.declared_records.specs.Held.{record_in, records_from}
-use Rattle.declarations.specs.declared.Section.{Section}
-use Rattle.declarations.specs.declared.Ends.{Ends}
 use Rattle.declarations.specs.declared.DeclaredSizes.{DeclaredSizes}
 use Rattle.spec.specs.declared.Refusal.{Refusal}
 use Rattle.spec.specs.declared.Refusal.TheVariants.{TooManyNames}
@@ -26,29 +27,46 @@ abbrev pub declare_end : Option ℕ → ℕ
 declare_end (Some d) = d + 7
 declare_end None = 0
 
-abbrev pub section_of : Option ℕ → Option ℕ → Section
-section_of (Some d) (Some b) = record { from = cond (leb (d + 7) b) (d + 7) 0; to = cond (leb (d + 7) b) b 0 }
-section_of (Some d) None = record { from = 0; to = 0 }
-section_of None f = record { from = 0; to = 0 }
+abbrev pub section_of : Option ℕ → Option ℕ → Option Place
+section_of (Some d) (Some b) = place_between (d + 7) b
+section_of (Some d) None = None
+section_of None f = None
 
 -- s is where the section of t stands
-pub record SectionIn (t : List Marked) (s : Section) : Type 0 where
-  pub ordered : s.from ≤ s.to
-  pub within : s.to ≤ length t
+pub record SectionIn (t : List Marked) (s : Place) : Type 0 where
+  pub within : s.at + s.len ≤ length t
   pub found :
-      part s.from s.to t
+      take s.len (drop s.at t)
       ≡ declare_section (first (keyword_here (ascii "DECLARE")) 0 t) (first (keyword_here (ascii "BEGIN")) 0 t) t
 
 -- the answer
 unfoldable pub parsed_of : List Declared → Result DeclaredSizes Refusal
 parsed_of ds = cond (ltb 512 (length ds)) (Err TooManyNames) (Ok (record { records = length ds; bytes = length (packed ds) }))
 
--- where the texts of a record end that are packed from n on
-unfoldable pub ends_of : ℕ → Declared → Ends
-ends_of n d =
-    let a = n + length d.name in
-    let b = a + length d.type in
-    record { name = a; kind = b; value = b + length (text_or d.default) }
+-- a default, requoted, and the text that it has
+abbrev pub requoted : Option (Bor (List ℕ)) → Option (List ℕ)
+requoted None = None
+requoted (Some v) = Some (requoted_default v.now)
+
+abbrev pub text_in : Option (Bor (List ℕ)) → List ℕ
+text_in None = []
+text_in (Some v) = v.now
+
+-- where a default stands that is packed from this offset, and where the texts of a record
+abbrev pub value_from : ℕ → Option (List ℕ) → Option Place
+value_from at None = None
+value_from at (Some xs) = Some (record { at = at; len = length xs })
+
+unfoldable pub packed_places : ℕ → Declared → DeclarationPlaces
+packed_places at d =
+    let type_at = at + length d.name in
+    record {
+      name = record { at = at; len = length d.name };
+      kind = record { at = type_at; len = length d.type };
+      value = value_from (type_at + length d.type) d.default;
+      constant = d.constant;
+      not_null = d.not_null;
+    }
 
 -- a record's next, the head's for record 0
 unfoldable pub next_number : List ℕ → List ℕ → ℕ → ℕ → ℕ
@@ -60,7 +78,6 @@ next_number xs rs count k =
 pub record Linked (xs rs : List ℕ) (count : ℕ) (rs' : List ℕ) : Type 0 where
   pub next : (k : ℕ) → k ≤ count → get_or rs' (10 * k) 0 ≡ next_number xs rs count k
   pub same : (k : ℕ) → record_in xs rs' k ≡ record_in xs rs k
-  pub behind : drop 5130 rs' ≡ drop 5130 rs
 
 -- the numbers of a record but for its next, its texts packed from `at`
 unfoldable pub other_numbers : ℕ → Declared → List ℕ
@@ -72,12 +89,14 @@ other_numbers at d =
     ∷ length d.type
     ∷ (default_numbers d.default (type_at + length d.type) ++ mark_numbers d)
 
--- the numbers of n records from record k on, each next as it is
+-- the numbers of record k, its next as it is, and of n records from record k on
+unfoldable pub record_numbers : List ℕ → List ℕ → ℕ → ℕ → List ℕ
+record_numbers xs rs at k = get_or rs (10 * k) 0 ∷ other_numbers at (record_in xs rs k)
+
 unfoldable pub final_numbers : List ℕ → List ℕ → ℕ → ℕ → ℕ → List ℕ
 final_numbers xs rs at k zero = []
 final_numbers xs rs at k (suc n) =
-    (get_or rs (10 * k) 0 ∷ other_numbers at (record_in xs rs k))
-    ++ final_numbers xs rs (at + length (packed_record (record_in xs rs k))) (suc k) n
+    record_numbers xs rs at k ++ final_numbers xs rs (at + length (packed_record (record_in xs rs k))) (suc k) n
 
 -- what the lent buffers hold of up to 512 records: the texts and nothing else, and the numbers in front
 pub record Packed (ds : List Declared) (declared declared' records' : List ℕ) : Type 0 where

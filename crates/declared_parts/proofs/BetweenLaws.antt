@@ -1,10 +1,10 @@
 -- The text between two places: its parts, its front and its end by a test. Assumes nothing.
 use mathlib.Core.Path.{◌≡◌, refl, ◌∙◌}
 use mathlib.Core.Bool.{Bool}
-use mathlib.Core.List.{List, [], ◌∷◌}
-use Prim.Native.Nat.{ℕ, zero, suc, ◌+◌, ◌-◌, ◌≤◌}
+use mathlib.Core.List.{List, []}
+use Prim.Native.Nat.{ℕ, ◌+◌, ◌-◌, ◌≤◌}
 use native.Mathlib.Omega.{arith}
-use lib.ListN.{length, take, drop, length-drop}
+use lib.ListN.{length, take, drop, length-drop, length-take}
 use lib.Seq.{length-take-le, take-take, drop-drop}
 use Rattle.spec.proofs.AheadLaws.{drop_take}
 use Rattle.spec.proofs.EndLaws.{drop_end_take}
@@ -15,13 +15,8 @@ use Rattle.spec.specs.Parts.{part}
 use Rattle.declared_parts.specs.DeclaredParts.{trimmed_place}
 
 -- a part of a text is not longer than the text
-pub piece_le : (xs : List ℕ) (a n : ℕ) → length (take n (drop a xs)) ≤ length xs
-piece_le xs a n = omega (arith, shorter n (drop a xs), length-drop a xs)
-  where
-    shorter : (n : ℕ) (l : List ℕ) → length (take n l) ≤ length l
-    shorter zero l = omega arith
-    shorter (suc n) [] = omega arith
-    shorter (suc n) (x ∷ l) = omega (arith, shorter n l)
+pub piece_le : {A : Type 0} (xs : List A) (a n : ℕ) → length (take n (drop a xs)) ≤ length xs
+piece_le xs a n = omega (arith, length-take n (drop a xs), length-drop a xs)
 
 module _ {A : Type 0} (xs : List A) (a b : ℕ) where
   pub between_length : a ≤ b → b ≤ length xs → length (part a b xs) ≡ b - a

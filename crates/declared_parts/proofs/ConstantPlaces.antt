@@ -1,16 +1,17 @@
 -- CONSTANT at the front of a text, by its place. Assumes nothing.
+use Rattle.std.specs.Prelude.{Option, Some, None, is_some}
+use Rattle.std.specs.Option.{unwrap_or}
 use mathlib.Core.Path.{◌≡◌, refl, sym, ap, ◌∙◌}
-use mathlib.Core.Bool.{Bool, true, false, cond, not, and-false}
+use mathlib.Core.Bool.{Bool, true, false, cond, and-false}
 use mathlib.Core.List.{List, [], ◌∷◌}
 use Prim.Native.Nat.{ℕ, ◌+◌, ◌≤◌}
 use native.Mathlib.Omega.{arith}
-use borrow.Author.Tests.{ne_eqb}
 use lib.Dec.{eqb}
 use lib.ListN.{length, take, drop}
 use lib.Seq.{drop-drop}
 use Rattle.spec.proofs.BytesLaws.{bytes_take, bytes_drop, while_length_bytes}
 use Rattle.spec.proofs.Choice.{by}
-use Rattle.spec.proofs.ConstantLaws.{constant_first, word_is}
+use Rattle.spec.proofs.ConstantLaws.{constant_first}
 use Rattle.spec.proofs.HandlerPlaces.{word_text_lem}
 use Rattle.spec.proofs.ListLaws.{empty_nil, while_sum}
 use Rattle.spec.proofs.WalkLaws.{while_take, while_drop, while_length}
@@ -39,7 +40,7 @@ module _ (u : List Marked) where
   abbrev behind : List Marked
   behind = drop_while in_word u
 
-  constant_len_lem : constant_len (bytes u) ≡ cond (is_word_text (ascii "CONSTANT") first) (length first + length (take_while space behind)) 0
+  constant_len_lem : constant_len (bytes u) ≡ cond (is_word_text (ascii "CONSTANT") first) (Some (length first + length (take_while space behind))) None
   unfolding constant_len
   constant_len_lem =
       let n : length (take_while not_w (bytes u)) ≡ length first = sym (while_length_bytes not_w u) in
@@ -48,12 +49,12 @@ module _ (u : List Marked) where
       let m : length (take_while is_w (bytes behind)) ≡ length (take_while space behind) = sym (while_length_bytes is_w behind) in
       rw (n, t, d, m, text_same (ascii "CONSTANT") first) refl
 
-  -- what is read of CONSTANT, k bytes of the text
-  pub record ConstantRead (k : ℕ) : Type 0 where
-    pub rest : words (drop k u) ≡ behind_constant (words u)
-    pub mark : is_constant (words u) ≡ not (eqb k 0)
-    pub front : drop_while space (drop k u) ≡ drop k u
-    pub within : k ≤ length u
+  -- what is read of CONSTANT, which takes so many bytes of the text if it is there
+  pub record ConstantRead (o : Option ℕ) : Type 0 where
+    pub rest : words (drop (unwrap_or o 0) u) ≡ behind_constant (words u)
+    pub mark : is_constant (words u) ≡ is_some o
+    pub front : drop_while space (drop (unwrap_or o 0) u) ≡ drop (unwrap_or o 0) u
+    pub within : unwrap_or o 0 ≤ length u
 
 pub skip_twice : (t : List Marked) → drop_while space (drop_while space t) ≡ drop_while space t
 unfolding drop_while
@@ -86,7 +87,7 @@ module _ (u : List Marked) (h : drop_while space u ≡ u) where
   unfolding take_while
   none_first e = rw e (no_word 67 (ascii "ONSTANT"))
 
-  constant_stays : constant_len (bytes u) ≡ 0 → is_constant (words u) ≡ false → behind_constant (words u) ≡ words u → ConstantRead u (constant_len (bytes u))
+  constant_stays : constant_len (bytes u) ≡ None → is_constant (words u) ≡ false → behind_constant (words u) ≡ words u → ConstantRead u (constant_len (bytes u))
   constant_stays z m r = rw z (record { rest = sym r; mark = m; front = h; within = omega arith })
 
   pub constant_read : ConstantRead u (constant_len (bytes u))
@@ -100,14 +101,13 @@ module _ (u : List Marked) (h : drop_while space u ≡ u) where
       let s = some_words e in
       by (is_word_text (ascii "CONSTANT") (first u))
       (λ f.
-      let k : constant_len (bytes u) ≡ length (first u) + length (take_while space (behind u)) = constant_len_lem u ∙ rw f refl in
+      let k : constant_len (bytes u) ≡ Some (length (first u) + length (take_while space (behind u))) = constant_len_lem u ∙ rw f refl in
       let d : drop (length (first u) + length (take_while space (behind u))) u ≡ drop_while space (behind u) =
       sym (while_drop space (behind u) ∙ (ap (drop (length (take_while space (behind u)))) (while_drop in_word u) ∙ drop-drop (length (take_while space (behind u))) (length (first u)) u)) in
-      let l = (word_is (ascii "CONSTANT") (first u) f).0 in
       rw k
       (record {
         rest = rw (d, s, rest_some (first u) (words (behind u)) true f) (words_skip (behind u));
-        mark = rw (s, constant_first (first u) (words (behind u)), f) (sym (ap not (ne_eqb (length (first u) + length (take_while space (behind u))) 0 (λ z. absurd (omega (arith, l))))));
+        mark = rw (s, constant_first (first u) (words (behind u)), f) refl;
         front = rw d (skip_twice (behind u));
         within = omega (arith, while_length space (behind u), while_sum in_word u);
       }))

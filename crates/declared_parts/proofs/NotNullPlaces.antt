@@ -1,20 +1,19 @@
 -- NOT NULL at the end of a text, by its place. Assumes nothing.
+use Rattle.std.specs.Prelude.{Option, Some, None, is_some}
+use Rattle.std.specs.Option.{unwrap_or}
 use mathlib.Core.Path.{◌≡◌, refl, sym, ap, ◌∙◌}
-use mathlib.Core.Bool.{Bool, true, false, cond, not, ◌&&◌, and-false, and_comm}
+use mathlib.Core.Bool.{Bool, true, false, cond, ◌&&◌, and-false, and_comm}
 use mathlib.Core.List.{List, [], ◌∷◌, ◌++◌, append_assoc}
-use Prim.Native.Nat.{ℕ, ◌+◌, ◌-◌, ◌≤◌}
+use Prim.Native.Nat.{ℕ, ◌-◌, ◌≤◌}
 use native.Mathlib.Omega.{arith}
-use borrow.Author.Tests.{eq-eqb, ne_eqb}
-use lib.Dec.{eqb}
-use lib.ListN.{length, take, drop, length-append, length-drop, drop_of_length-le}
+use lib.ListN.{length, take, drop, length-append, drop_of_length-le}
 use lib.Seq.{take_all, take_at, take-take}
 use Rattle.spec.proofs.AheadLaws.{drop_take}
 use Rattle.spec.proofs.BytesLaws.{bytes_take, bytes_drop, end_length_bytes}
-use Rattle.spec.proofs.Choice.{by, and_right}
-use Rattle.spec.proofs.ConstantLaws.{not_null_last, word_is}
+use Rattle.spec.proofs.Choice.{by}
+use Rattle.spec.proofs.ConstantLaws.{not_null_last}
 use Rattle.spec.proofs.EndLaws.{drop_end_take}
 use Rattle.spec.proofs.ListLaws.{empty_nil, drop_end_le}
-use Rattle.spec.proofs.RefusalBounds.{bytes_length}
 use Rattle.spec.specs.Bytes.{ascii, is_w}
 use Rattle.spec.specs.Lists.{is_empty, drop_end}
 use Rattle.spec.specs.Map.{Marked, bytes}
@@ -103,7 +102,7 @@ module _ (t : List Marked) where
   unfolding ahead_of_last
   from_le = drop_end_le in_word trimmed
 
-  last_places : last_word (bytes t) ≡ record { from = from; to = length trimmed }
+  last_places : last_word (bytes t) ≡ record { at = from; len = length trimmed - from }
   unfolding last_word ahead_of_last
   last_places =
       let n : length (drop_end is_w (bytes t)) ≡ length trimmed = sym (end_length_bytes is_w t) in
@@ -123,17 +122,17 @@ module _ (t : List Marked) where
   ahead_take =
       sym (drop_end_take in_word trimmed ∙ (ap (take from) (drop_end_take space t) ∙ take-take from (length trimmed) t from_le))
 
-  front_same : take (last_word (bytes t)).from (bytes t) ≡ bytes (ahead_of_last t)
+  front_same : take (last_word (bytes t)).at (bytes t) ≡ bytes (ahead_of_last t)
   front_same = rw last_places (sym (bytes_take from t) ∙ ap bytes ahead_take)
 
-  from_place : (last_word (bytes t)).from ≡ from
+  from_place : (last_word (bytes t)).at ≡ from
   from_place = rw last_places refl
 
 module _ (v : List Marked) where
   abbrev front : List Marked
   front = ahead_of_last (ahead_of_last v)
 
-  type_len_lem : type_len (bytes v) ≡ cond (is_word_text (ascii "NULL") (last_of v) && is_word_text (ascii "NOT") (last_of (ahead_of_last v))) (length front) (length (bytes v))
+  type_len_lem : type_len (bytes v) ≡ cond (is_word_text (ascii "NULL") (last_of v) && is_word_text (ascii "NOT") (last_of (ahead_of_last v))) (Some (length front)) None
   unfolding type_len
   type_len_lem =
       rw (front_same v, ends_same v (ascii "NULL"), ends_same (ahead_of_last v) (ascii "NOT"), from_place (ahead_of_last v)) refl
@@ -144,20 +143,16 @@ module _ (v : List Marked) where
   ahead_le : length (ahead_of_last v) ≤ length v
   ahead_le = omega (arith, from_le v, drop_end_le space v)
 
-  last_length : length (last_of v) + length (ahead_of_last v) ≤ length v
-  unfolding last_of
-  last_length = omega (arith, length-drop (length (ahead_of_last v)) (drop_end space v), from_le v, drop_end_le space v)
-
   front_take : take (length front) v ≡ front
   front_take =
       sym (sym (ahead_take (ahead_of_last v))
       ∙ (ap (take (length front)) (sym (ahead_take v)) ∙ take-take (length front) (length (ahead_of_last v)) v front_le))
 
-  -- what is read of NOT NULL, k bytes of the text ahead of it
-  pub record NotNullRead (k : ℕ) : Type 0 where
-    pub ahead : words (take k v) ≡ ahead_of_not_null (words v)
-    pub mark : is_not_null (words v) ≡ not (eqb k (length v))
-    pub within : k ≤ length v
+  -- what is read of NOT NULL, which has so many bytes of the text ahead of it if it is there
+  pub record NotNullRead (o : Option ℕ) : Type 0 where
+    pub ahead : words (take (unwrap_or o (length v)) v) ≡ ahead_of_not_null (words v)
+    pub mark : is_not_null (words v) ≡ is_some o
+    pub within : unwrap_or o (length v) ≤ length v
 
   pub not_null_read : NotNullRead (type_len (bytes v))
   not_null_read =
@@ -165,19 +160,18 @@ module _ (v : List Marked) where
       let swap = and_comm (is_word_text (ascii "NULL") (last_of v)) (is_word_text (ascii "NOT") (last_of (ahead_of_last v))) in
       by (ends_in_not_null v)
       (λ e.
-      let k : type_len (bytes v) ≡ length front = type_len_lem ∙ rw (swap, e) refl in
-      let l = (word_is (ascii "NULL") (last_of v) (and_right (is_word_text (ascii "NOT") (last_of (ahead_of_last v))) (is_word_text (ascii "NULL") (last_of v)) e)).0 in
+      let k : type_len (bytes v) ≡ Some (length front) = type_len_lem ∙ rw (swap, e) refl in
       rw k
       (record {
         ahead = rw front_take (sym (c.ahead ∙ rw e refl));
-        mark = c.mark ∙ (e ∙ sym (ap not (ne_eqb (length front) (length v) (λ z. absurd (omega (arith, l, last_length, front_le))))));
+        mark = c.mark ∙ e;
         within = omega (arith, front_le, ahead_le);
       }))
       (λ e.
-      let k : type_len (bytes v) ≡ length v = type_len_lem ∙ rw (swap, e) (bytes_length v) in
+      let k : type_len (bytes v) ≡ None = type_len_lem ∙ rw (swap, e) refl in
       rw k
       (record {
         ahead = rw (take_all (length v) v (omega arith)) (sym (c.ahead ∙ rw e refl));
-        mark = c.mark ∙ (e ∙ sym (ap not (eq-eqb (length v) (length v) refl)));
+        mark = c.mark ∙ e;
         within = omega arith;
       }))

@@ -1,23 +1,23 @@
 -- What a part declares, by the places that are read in its text. Assumes nothing.
 use Rattle.std.specs.Prelude.{Option, Some, None, is_some}
-use mathlib.Core.Path.{◌≡◌, refl, sym, ap, ◌∙◌}
+use mathlib.Core.Path.{◌≡◌, refl, sym, ap, subst, ◌∙◌}
 use mathlib.Core.Bool.{Bool, true, false}
 use mathlib.Core.List.{List}
 use Prim.Native.Nat.{ℕ, ◌+◌, ◌-◌, ◌≤◌}
 use native.Mathlib.Omega.{arith}
 use lib.ListN.{length, take, drop}
 use lib.Seq.{take_all}
-use Rattle.spec.proofs.BytesLaws.{while_length_bytes, end_length_bytes}
+use Rattle.spec.proofs.BytesLaws.{bytes_take, bytes_drop, while_length_bytes, end_length_bytes}
 use Rattle.spec.proofs.ListLaws.{drop_end_le}
-use Rattle.spec.proofs.PartLaws.{marked_part, bytes_part}
 use Rattle.spec.proofs.RefusalBounds.{bytes_length}
 use Rattle.spec.proofs.WalkLaws.{while_take, while_length}
 use Rattle.spec.specs.Bytes.{is_w}
 use Rattle.spec.specs.Lists.{take_while, drop_while, drop_end}
-use Rattle.spec.specs.Map.{Marked, bytes, marked, of_byte}
+use Rattle.spec.specs.Map.{Marked, bytes, of_byte}
 use Rattle.spec.specs.Search.{first}
 use Rattle.spec.specs.Parts.{trim, trim_end, part}
 use Rattle.spec.specs.Declarations.{requoted_default, words, declared_of, default_here, part_at, declaration, one_if}
+use Rattle.runs.specs.Places.{piece_at}
 use Rattle.declared_parts.specs.DeclaredParts.{not_w, is_set, cut_of, cut_in, type_in, value_place, value_of, default_by, declared_by, place_or, part_numbers, read_of}
 use Rattle.declared_parts.specs.declared.Cut.{Cut}
 use Rattle.declared_parts.specs.declared.DeclarationPlaces.{DeclarationPlaces}
@@ -28,45 +28,39 @@ use Rattle.declared_parts.proofs.TypeLaws.{type_read, declared_words}
 
 -- ---- a marked text and its bytes
 
-pub marked_between : (xs ms : List ℕ) (a b : ℕ) → marked (part a b xs) (part a b ms) ≡ part a b (marked xs ms)
-marked_between xs ms a b = marked_part a (b - a) xs ms
+pub bytes_between : (t : List Marked) (a b : ℕ) → bytes (part a b t) ≡ part a b (bytes t)
+bytes_between t a b = bytes_take (b - a) (drop a t) ∙ ap (take (b - a)) (bytes_drop a t)
 
-pub bytes_between : (xs ms : List ℕ) (a b : ℕ) → bytes (part a b (marked xs ms)) ≡ part a b xs
-bytes_between xs ms a b = bytes_part a (b - a) xs ms
+module _ (t : List Marked) (a b : ℕ) where
+  front_same : (f : ℕ → Bool) → front_end (of_byte f) t a b ≡ front_end f (bytes t) a b
+  front_same f = ap (λ n. a + n) (while_length_bytes f (part a b t) ∙ ap (λ l. length (take_while f l)) (bytes_between t a b))
 
-module _ (xs ms : List ℕ) (a b : ℕ) where
-  abbrev t : List Marked
-  t = marked xs ms
-
-  front_same : (f : ℕ → Bool) → front_end (of_byte f) t a b ≡ front_end f xs a b
-  front_same f = ap (λ n. a + n) (while_length_bytes f (part a b t) ∙ ap (λ l. length (take_while f l)) (bytes_between xs ms a b))
-
-  end_same : (f : ℕ → Bool) → end_len (of_byte f) t a b ≡ end_len f xs a b
-  end_same f = end_length_bytes f (part a b t) ∙ ap (λ l. length (drop_end f l)) (bytes_between xs ms a b)
+  end_same : (f : ℕ → Bool) → end_len (of_byte f) t a b ≡ end_len f (bytes t) a b
+  end_same f = end_length_bytes f (part a b t) ∙ ap (λ l. length (drop_end f l)) (bytes_between t a b)
 
   -- behind the front, ahead of the end, trimmed
-  skipped : (f : ℕ → Bool) → drop_while (of_byte f) (part a b t) ≡ part (front_end f xs a b) b t
+  skipped : (f : ℕ → Bool) → drop_while (of_byte f) (part a b t) ≡ part (front_end f (bytes t) a b) b t
   skipped f = behind_front (of_byte f) t a b ∙ ap (λ n. part n b t) (front_same f)
 
-  ended : (f : ℕ → Bool) → a + end_len f xs a b ≤ b → drop_end (of_byte f) (part a b t) ≡ part a (a + end_len f xs a b) t
+  ended : (f : ℕ → Bool) → a + end_len f (bytes t) a b ≤ b → drop_end (of_byte f) (part a b t) ≡ part a (a + end_len f (bytes t) a b) t
   ended f h =
       let k = end_same f in
       ahead_of_end (of_byte f) t a b (omega arith) ∙ ap (λ n. part a (a + n) t) k
 
   -- the front itself
-  front_text : (f : ℕ → Bool) (e : ℕ) → e ≡ front_end f xs a b → e ≤ b → bytes (take_while (of_byte f) (part a b t)) ≡ take (e - a) (drop a xs)
+  front_text : (f : ℕ → Bool) (e : ℕ) → e ≡ front_end f (bytes t) a b → e ≤ b → bytes (take_while (of_byte f) (part a b t)) ≡ take (e - a) (drop a (bytes t))
   front_text f e p h =
       let n = length (take_while (of_byte f) (part a b t)) in
       let s : a + n ≡ e = front_same f ∙ sym p in
       ap bytes (while_take (of_byte f) (part a b t) ∙ (take_between t a b n (omega arith) ∙ ap (λ k. part a k t) s))
-      ∙ bytes_between xs ms a e
+      ∙ bytes_between t a e
 
-trimmed : (xs ms : List ℕ) (a b s e : ℕ) → s ≡ front_end is_w xs a b → e ≡ s + end_len is_w xs s b → e ≤ b
-    → trim (part a b (marked xs ms)) ≡ part s e (marked xs ms)
+trimmed : (t : List Marked) (a b s e : ℕ) → s ≡ front_end is_w (bytes t) a b → e ≡ s + end_len is_w (bytes t) s b → e ≤ b
+    → trim (part a b t) ≡ part s e t
 unfolding trim trim_end
-trimmed xs ms a b s e p q h =
-    ap (drop_end space) (skipped xs ms a b is_w ∙ ap (λ n. part n b (marked xs ms)) (sym p))
-    ∙ (ended xs ms s b is_w (omega arith) ∙ ap (λ n. part s n (marked xs ms)) (sym q))
+trimmed t a b s e p q h =
+    ap (drop_end space) (skipped t a b is_w ∙ ap (λ n. part n b t) (sym p))
+    ∙ (ended t s b is_w (omega arith) ∙ ap (λ n. part s n t) (sym q))
 
 -- ---- one part
 
@@ -97,22 +91,25 @@ pub record Places (xs : List ℕ) (from to start end : ℕ) (c : Cut) (k : TypeP
   pub name_end : p.name.at + p.name.len ≡ front_end not_w xs p.name.at (start + c.head)
   pub name_inside : p.name.at + p.name.len ≤ start + c.head
   pub typed : k ≡ type_in (part (p.name.at + p.name.len) (start + c.head) xs)
-  pub kind : p.kind.at ≡ p.name.at + p.name.len + k.from
-  pub kind_len : p.kind.len ≡ k.to - k.from
+  pub kind : p.kind.at ≡ p.name.at + p.name.len + k.words.at
+  pub kind_len : p.kind.len ≡ k.words.len
   pub constant : p.constant ≡ k.constant
   pub not_null : p.not_null ≡ k.not_null
   pub value : p.value ≡ value_place xs start end c.rest
   pub value_inside : (r : ℕ) → c.rest ≡ Some r → start + r ≤ end
 
--- a part of the text between two places
-piece_between : (xs : List ℕ) (a b i j : ℕ) → a ≤ b → b ≤ length xs → i ≤ j → j ≤ length (part a b xs) → part i j (part a b xs) ≡ take (j - i) (drop (a + i) xs)
-piece_between xs a b i j h l o w =
-    let n = between_length xs a b h l in
-    let k : a + i + (j - i) - (a + i) ≡ j - i = omega arith in
-    ap (take (j - i)) (drop_between xs a b i) ∙ (take_between xs (a + i) b (j - i) (omega arith) ∙ rw k refl)
+-- n bytes at i of the text between two places
+piece_between : (xs : List ℕ) (a b i n : ℕ) → a ≤ b → b ≤ length xs → i + n ≤ length (part a b xs) → take n (drop i (part a b xs)) ≡ take n (drop (a + i) xs)
+piece_between xs a b i n h l w =
+    let m = between_length xs a b h l in
+    let k : a + i + n - (a + i) ≡ n = omega arith in
+    ap (take n) (drop_between xs a b i) ∙ (take_between xs (a + i) b n (omega arith) ∙ rw k refl)
 
 -- the default, by the place that is read of it
-module _ (xs ms : List ℕ) (start end : ℕ) (within : end ≤ length xs) where
+module _ (t : List Marked) (start end : ℕ) (within : end ≤ length (bytes t)) where
+  abbrev xs : List ℕ
+  xs = bytes t
+
   -- it ends within the part
   place_ends : (a : ℕ) → a ≤ end → front_end is_w xs a end + end_len is_w xs (front_end is_w xs a end) end ≤ end
   place_ends a h =
@@ -122,17 +119,16 @@ module _ (xs ms : List ℕ) (start end : ℕ) (within : end ≤ length xs) where
 
   pub default_read : (o : Option ℕ) → ((r : ℕ) → o ≡ Some r → start + r ≤ end)
       → value_of (is_set (one_if (is_some (value_place xs start end o)))) (take (place_or (value_place xs start end o)).len (drop (place_or (value_place xs start end o)).at xs))
-      ≡ default_behind o (part start end (marked xs ms))
+      ≡ default_behind o (part start end t)
   default_read None h = refl
   default_read (Some r) h =
-      let m = marked xs ms in
       let at = front_end is_w xs (start + r) end in
       let len = end_len is_w xs at end in
       let i : at + len - at ≡ len = omega arith in
-      let trimmed_there = trimmed xs ms (start + r) end at (at + len) refl refl (place_ends (start + r) (h r refl)) in
-      let z : bytes (trim (drop r (part start end m))) ≡ take len (drop at xs) =
-      ap (λ u. bytes (trim u)) (drop_between m start end r)
-      ∙ (ap bytes trimmed_there ∙ (bytes_between xs ms at (at + len) ∙ ap (λ k. take k (drop at xs)) i)) in
+      let trimmed_there = trimmed t (start + r) end at (at + len) refl refl (place_ends (start + r) (h r refl)) in
+      let z : bytes (trim (drop r (part start end t))) ≡ take len (drop at xs) =
+      ap (λ u. bytes (trim u)) (drop_between t start end r)
+      ∙ (ap bytes trimmed_there ∙ (bytes_between t at (at + len) ∙ ap (λ k. take k (drop at xs)) i)) in
       ap (λ u. Some (requoted_default u)) (sym z)
 
 set_one : (b : Bool) → is_set (one_if b) ≡ b
@@ -140,12 +136,12 @@ set_one true = refl
 set_one false = refl
 
 -- what a part declares
-pub part_read : (xs ms : List ℕ) (from to start end : ℕ) (c : Cut) (k : TypePlaces) (p : DeclarationPlaces) → Places xs from to start end c k p
-    → c ≡ cut_in (marked (part start end xs) (part start end ms))
-    → declaration (part from to (marked xs ms)) ≡ read_of xs p
+part_read : (m : List Marked) (from to start end : ℕ) (c : Cut) (k : TypePlaces) (p : DeclarationPlaces) → Places (bytes m) from to start end c k p
+    → c ≡ cut_in (part start end m)
+    → declaration (part from to m) ≡ read_of (bytes m) p
 unfolding read_of declared_by default_by part_numbers
-part_read xs ms from to start end c k p l cut =
-    let m = marked xs ms in
+part_read m from to start end c k p l cut =
+    let xs = bytes m in
     let t = part start end m in
     let head = start + c.head in
     let name_end = p.name.at + p.name.len in
@@ -153,19 +149,25 @@ part_read xs ms from to start end c k p l cut =
     let o = default_behind c.rest t in
     let i : name_end - p.name.at ≡ p.name.len = omega arith in
     let h : take c.head t ≡ part start head m = take_between m start end c.head l.ordered in
-    let v : part p.name.at head m ≡ drop_while space (part start head m) = rw l.name (sym (skipped xs ms start head is_w)) in
-    let r : rest ≡ drop_while in_word (part p.name.at head m) = rw l.name_end (sym (skipped xs ms p.name.at head not_w)) in
-    let b : bytes rest ≡ part name_end head xs = bytes_between xs ms name_end head in
+    let v : part p.name.at head m ≡ drop_while space (part start head m) = rw l.name (sym (skipped m start head is_w)) in
+    let r : rest ≡ drop_while in_word (part p.name.at head m) = rw l.name_end (sym (skipped m p.name.at head not_w)) in
+    let b : bytes rest ≡ part name_end head xs = bytes_between m name_end head in
     let q : type_in (bytes rest) ≡ k = ap type_in b ∙ sym l.typed in
     let w = rw q at (type_read rest) in
     let n : bytes (take_while in_word (part p.name.at head m)) ≡ take p.name.len (drop p.name.at xs) =
-    front_text xs ms p.name.at head not_w name_end l.name_end l.name_inside ∙ ap (λ i. take i (drop p.name.at xs)) i in
-    let y : part k.from k.to (part name_end head xs) ≡ take (k.to - k.from) (drop (name_end + k.from) xs) =
-    piece_between xs name_end head k.from k.to l.name_inside (omega (arith, l.within, l.inside, l.ordered)) w.ordered
+    front_text m p.name.at head not_w name_end l.name_end l.name_inside ∙ ap (λ i. take i (drop p.name.at xs)) i in
+    let y : piece_at (part name_end head xs) k.words ≡ take k.words.len (drop (name_end + k.words.at) xs) =
+    piece_between xs name_end head k.words.at k.words.len l.name_inside (omega (arith, l.within, l.inside, l.ordered))
     (omega (arith, w.within, bytes_length rest, ap length b)) in
     let d : value_of (is_set (one_if (is_some p.value))) (take (place_or p.value).len (drop (place_or p.value).at xs)) ≡ o =
-    rw l.value (default_read xs ms start end (omega (arith, l.within, l.inside)) c.rest l.value_inside) in
-    cut_declaration (part from to m) t c (trimmed xs ms from to start end l.starts l.ends l.inside) (cut ∙ ap cut_in (marked_between xs ms start end))
+    rw l.value (default_read m start end (omega (arith, l.within, l.inside)) c.rest l.value_inside) in
+    cut_declaration (part from to m) t c (trimmed m from to start end l.starts l.ends l.inside) cut
     ∙ (ap (λ u. declared_of (words u) o) h
     ∙ (declared_words o (part start head m) (part p.name.at head m) rest v r
     ∙ rw (q, n, b, y, l.kind, l.kind_len, d, l.constant, l.not_null, set_one k.constant, set_one k.not_null) refl))
+
+-- the same by the bytes that the code reads
+pub bytes_read : (m : List Marked) (ys : List ℕ) (from to start end : ℕ) (c : Cut) (k : TypePlaces) (p : DeclarationPlaces) → ys ≡ bytes m → Places ys from to start end c k p
+    → c ≡ cut_in (part start end m)
+    → declaration (part from to m) ≡ read_of (bytes m) p
+bytes_read m ys from to start end c k p e l cut = part_read m from to start end c k p (subst (λ zs. Places zs from to start end c k p) e l) cut

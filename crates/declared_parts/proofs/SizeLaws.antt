@@ -17,6 +17,7 @@ use Rattle.spec.specs.Lists.{take_while, drop_while}
 use Rattle.spec.specs.Map.{Marked, bytes}
 use Rattle.spec.specs.Parts.{trim, part}
 use Rattle.spec.specs.Declarations.{Declared, delimiter_of, requoted_default, words, declared_of, declaration, text_or, packed_record}
+use Rattle.runs.specs.Places.{piece_at}
 use Rattle.declared_parts.specs.DeclaredParts.{cut_in, type_in, Fits, is_whole, spaced}
 use Rattle.declared_parts.specs.declared.Cut.{Cut}
 use Rattle.declared_parts.proofs.BetweenLaws.{piece_le}
@@ -72,19 +73,19 @@ words_le t o d h =
     let v = drop_while space t in
     let r = drop_while in_word v in
     let p = type_in (bytes r) in
-    let xs = part p.from p.to (bytes r) in
+    let xs = piece_at (bytes r) p.words in
     let q : declared_at o (bytes (take_while in_word v)) (bytes r) p ≡ Some d = sym (declared_words o t v r refl refl) ∙ h in
     let front : length (bytes (take_while in_word v)) + length (spaced false xs) ≤ length t =
     omega (
       arith,
       bytes_length (take_while in_word v),
       spaced_le false xs,
-      piece_le (bytes r) p.from (p.to - p.from),
+      piece_le (bytes r) p.words.at p.words.len,
       bytes_length r,
       while_sum in_word v,
       drop_while_le space t,
     ) in
-    let m = made_some (eqb (p.to - p.from) 0) _ d q in
+    let m = made_some (eqb p.words.len 0) _ d q in
     rw (← m.1) (record { front = front; default = refl })
 
 pub packed_part : (part : List Marked) (d : Declared) → declaration part ≡ Some d → length (packed_record d) ≤ 2 * length part

@@ -1,9 +1,10 @@
 -- The type in a text behind a name, by its places, and what a text's words declare. Assumes nothing.
-use Rattle.std.specs.Prelude.{Option, Some, None}
+use Rattle.std.specs.Prelude.{Option, Some, None, is_some}
+use Rattle.std.specs.Option.{unwrap_or}
 use mathlib.Core.Path.{◌≡◌, refl, sym, ap, ◌∙◌}
-use mathlib.Core.Bool.{false, cond, not}
+use mathlib.Core.Bool.{false, cond}
 use mathlib.Core.List.{List, [], ◌∷◌}
-use Prim.Native.Nat.{ℕ, zero, suc, ◌+◌, ◌-◌, ◌≤◌}
+use Prim.Native.Nat.{ℕ, zero, suc, ◌+◌, ◌≤◌}
 use native.Mathlib.Omega.{arith}
 use borrow.Author.Tests.{eq-eqb}
 use lib.Dec.{eqb}
@@ -17,8 +18,8 @@ use Rattle.spec.proofs.WalkLaws.{while_drop, while_length}
 use Rattle.spec.specs.Bytes.{is_w}
 use Rattle.spec.specs.Lists.{is_empty, take_while, drop_while}
 use Rattle.spec.specs.Map.{Marked, bytes}
-use Rattle.spec.specs.Parts.{part}
 use Rattle.spec.specs.Declarations.{Declared, words, join_words, is_constant, is_not_null, behind_constant, ahead_of_not_null, declared_of}
+use Rattle.runs.specs.Places.{piece_at}
 use Rattle.declared_parts.specs.DeclaredParts.{constant_len, type_len, type_in, spaced}
 use Rattle.declared_parts.specs.declared.TypePlaces.{TypePlaces}
 use Rattle.declared_parts.proofs.ConstantPlaces.{ConstantRead, constant_read, skip_twice}
@@ -35,13 +36,18 @@ no_front (suc k) (x ∷ v) h = by (space x) (λ e. absurd (shorter x v (rw e at 
 pub record TypeRead (r : List Marked) (p : TypePlaces) : Type 0 where
   pub constant : is_constant (words r) ≡ p.constant
   pub not_null : is_not_null (behind_constant (words r)) ≡ p.not_null
-  pub type : join_words (ahead_of_not_null (behind_constant (words r))) ≡ spaced false (part p.from p.to (bytes r))
-  pub empty : is_empty (ahead_of_not_null (behind_constant (words r))) ≡ eqb (p.to - p.from) 0
-  pub ordered : p.from ≤ p.to
-  pub within : p.to ≤ length r
+  pub type : join_words (ahead_of_not_null (behind_constant (words r))) ≡ spaced false (piece_at (bytes r) p.words)
+  pub empty : is_empty (ahead_of_not_null (behind_constant (words r))) ≡ eqb p.words.len 0
+  pub within : p.words.at + p.words.len ≤ length r
 
 -- W, then CONSTANT, then the type's words, then NOT NULL
-module _ (r : List Marked) (s f n : ℕ) (v : List Marked) (low : s ≤ length r) (front_w : drop s r ≡ drop_while space r) (c : ConstantRead (drop_while space r) f) (d : drop f (drop_while space r) ≡ v) (m : NotNullRead v n) where
+module _ (r : List Marked) (s : ℕ) (o p : Option ℕ) (v : List Marked) (low : s ≤ length r) (front_w : drop s r ≡ drop_while space r) (c : ConstantRead (drop_while space r) o) (d : drop (unwrap_or o 0) (drop_while space r) ≡ v) (m : NotNullRead v p) where
+  abbrev f : ℕ
+  f = unwrap_or o 0
+
+  abbrev n : ℕ
+  n = unwrap_or p (length v)
+
   at_v : drop (s + f) r ≡ v
   at_v = sym (drop-drop f s r) ∙ (ap (drop f) front_w ∙ d)
 
@@ -54,18 +60,16 @@ module _ (r : List Marked) (s f n : ℕ) (v : List Marked) (low : s ≤ length r
   plain : drop_while space (take n v) ≡ take n v
   plain = no_front n v (rw d at c.front)
 
-  places_read : TypeRead r record { from = s + f; to = s + f + n; constant = not (eqb f 0); not_null = not (eqb n (length v)) }
+  places_read : TypeRead r record { words = record { at = s + f; len = n }; constant = is_some o; not_null = is_some p }
   places_read =
-      let k : s + f + n - (s + f) ≡ n = omega arith in
       let b : take n (drop (s + f) (bytes r)) ≡ bytes (take n v) =
       sym (bytes_take n v ∙ ap (take n) (ap bytes (sym at_v) ∙ bytes_drop (s + f) r)) in
       let l : length (take n v) ≡ n = length-take-le n v m.within in
       record {
         constant = ap is_constant (sym (words_skip r)) ∙ c.mark;
         not_null = ap is_not_null behind_words ∙ m.mark;
-        type = ap join_words type_words_lem ∙ (joined_words (take n v) plain ∙ rw (k, b) refl);
-        empty = ap is_empty type_words_lem ∙ (empty_words (take n v) plain ∙ (empty_length (take n v) ∙ rw (l, k) refl));
-        ordered = omega arith;
+        type = ap join_words type_words_lem ∙ (joined_words (take n v) plain ∙ rw b refl);
+        empty = ap is_empty type_words_lem ∙ (empty_words (take n v) plain ∙ (empty_length (take n v) ∙ rw l refl));
         within = omega (arith, m.within, c.within, ap length at_v, length-drop (s + f) r, length-drop s r, ap length front_w);
       }
 
@@ -77,11 +81,12 @@ type_read r =
     let n : length (take_while is_w (bytes r)) ≡ s = sym (while_length_bytes is_w r) in
     let d : drop s r ≡ u = sym (while_drop space r) in
     let b : drop s (bytes r) ≡ bytes u = sym (bytes_drop s r) ∙ ap bytes d in
-    let f = constant_len (bytes u) in
+    let o = constant_len (bytes u) in
+    let f = unwrap_or o 0 in
     let v = drop f u in
     let c = constant_read u (skip_twice r) in
     let e : drop (s + f) (bytes r) ≡ bytes v = sym (bytes_drop (s + f) r) ∙ ap bytes (sym (drop-drop f s r) ∙ ap (drop f) d) in
-    rw (n, b, e, bytes_length v) (places_read r s f (type_len (bytes v)) v (while_length space r) d c refl (not_null_read v))
+    rw (n, b, e, bytes_length v) (places_read r s o (type_len (bytes v)) v (while_length space r) d c refl (not_null_read v))
 
 -- ---- what the words declare
 
@@ -89,11 +94,11 @@ type_read r =
 abbrev pub declared_at : Option (List ℕ) → List ℕ → List ℕ → TypePlaces → Option Declared
 declared_at o name xs p =
     cond
-    (eqb (p.to - p.from) 0)
+    (eqb p.words.len 0)
     None
     (Some record {
       name = name;
-      type = spaced false (part p.from p.to xs);
+      type = spaced false (piece_at xs p.words);
       default = o;
       constant = p.constant;
       not_null = p.not_null;
@@ -114,7 +119,7 @@ unfolding is_empty
 declared_words o t [] r p q =
     let e : words t ≡ [] = words_front t ∙ rw (sym p) refl in
     let k = type_read r in
-    let z : (type_in (bytes r)).to - (type_in (bytes r)).from ≡ 0 = omega (arith, k.within, ap length (q ∙ none_behind in_word)) in
+    let z : (type_in (bytes r)).words.len ≡ 0 = omega (arith, k.within, ap length (q ∙ none_behind in_word)) in
     rw (e, eq-eqb _ 0 z) (no_name o)
 declared_words o t (x ∷ v) r p q =
     let e : words t ≡ take_while in_word (x ∷ v) ∷ words (drop_while in_word (x ∷ v)) = words_front t ∙ rw (sym p) refl in

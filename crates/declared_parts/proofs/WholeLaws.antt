@@ -1,6 +1,8 @@
 -- A default that is wholly a dollar literal. Assumes nothing.
+use Rattle.std.specs.Cmp.Lexicographic.{pointwise}
+use Rattle.std.specs.Prelude.{nat_eq}
 use mathlib.Core.Path.{◌≡◌, refl, ◌∙◌}
-use mathlib.Core.Bool.{Bool, true, false, ◌&&◌}
+use mathlib.Core.Bool.{Bool, true, false, ◌&&◌, and-true, and-false}
 use mathlib.Core.List.{List, [], ◌∷◌, ◌++◌}
 use Prim.Native.Nat.{ℕ, suc, ◌+◌, ◌-◌, ◌*◌, ◌≤◌, ◌<◌}
 use native.Mathlib.Omega.{arith}
@@ -16,6 +18,7 @@ use Rattle.spec.specs.Lists.{take_while}
 use Rattle.spec.specs.Requote.{single_quoted}
 use Rattle.spec.specs.Declarations.{delimiter_of, requoted_by, requoted_default}
 use Rattle.declared_parts.specs.DeclaredParts.{is_whole}
+use Rattle.declared_parts.proofs.DeclaredNameLaws.{same_of_library}
 
 pub delimiter_length : (xs : List ℕ) → length (delimiter_of xs) ≡ length (take_while is_ident (drop 1 xs)) + 2
 unfolding delimiter_of
@@ -26,11 +29,7 @@ tag_prefix : (f : ℕ → Bool) (cs : List ℕ) → is_prefix (take_while f cs +
 unfolding take_while is_prefix
 tag_prefix f [] = refl
 tag_prefix f (c ∷ cs) =
-    by (f c) (λ e. rw (e, eq-eqb c c refl) (tag_prefix f cs)) (λ e. rw e (last (eqb c 36)))
-  where
-    last : (b : Bool) → (b && true) ≡ b
-    last true = refl
-    last false = refl
+    by (f c) (λ e. rw (e, eq-eqb c c refl) (tag_prefix f cs)) (λ e. rw e (and-true (eqb c 36)))
 
 delimiter_prefix : (xs : List ℕ) → is_prefix (delimiter_of xs) xs ≡ (eqb (get_or xs 0 0) 36 && eqb (get_or xs (length (take_while is_ident (drop 1 xs)) + 1) 0) 36)
 unfolding delimiter_of is_prefix
@@ -56,18 +55,14 @@ module _ (xs : List ℕ) (n : ℕ) (d : n ≡ length (delimiter_of xs)) where
   unfolding is_whole
   whole_first e = rw (delimiter_prefix xs, ne_eqb (get_or xs 0 0) 36 e) refl
 
-  no_last : (a : Bool) → (a && false) ≡ false
-  no_last true = refl
-  no_last false = refl
-
   pub whole_last : (get_or xs (n - 1) 0 ≡ 36 → ⊥) → is_whole (delimiter_of xs) xs ≡ false
   unfolding is_whole
   whole_last e =
       let f = rw last_at at e in
-      rw (delimiter_prefix xs, ne_eqb (get_or xs (length (take_while is_ident (drop 1 xs)) + 1) 0) 36 f, no_last (eqb (get_or xs 0 0) 36)) refl
+      rw (delimiter_prefix xs, ne_eqb (get_or xs (length (take_while is_ident (drop 1 xs)) + 1) 0) 36 f, and-false (eqb (get_or xs 0 0) 36)) refl
 
-  -- the delimiter at both places: the end decides
-  pub whole_same : n ≤ length xs - n → get_or xs 0 0 ≡ 36 → get_or xs (n - 1) 0 ≡ 36 → is_whole (delimiter_of xs) xs ≡ is_same (drop (length xs - n) xs) (take n xs)
+  -- the delimiter at both places: the end decides, by the library's equality
+  pub whole_same : n ≤ length xs - n → get_or xs 0 0 ≡ 36 → get_or xs (n - 1) 0 ≡ 36 → is_whole (delimiter_of xs) xs ≡ pointwise nat_eq (drop (length xs - n) xs) (take n xs)
   unfolding is_whole
   whole_same h a b =
       let m = length (delimiter_of xs) in
@@ -75,7 +70,8 @@ module _ (xs : List ℕ) (n : ℕ) (d : n ≡ length (delimiter_of xs)) where
       delimiter_prefix xs ∙ rw (eq-eqb (get_or xs 0 0) 36 a, eq-eqb (get_or xs (length (take_while is_ident (drop 1 xs)) + 1) 0) 36 (rw last_at at b)) refl in
       let l : leb m (length (drop m xs)) ≡ true = le-leb m (length (drop m xs)) (omega (arith, length-drop m xs)) in
       let k : m + (length (drop m xs) - m) ≡ length xs - m = omega (arith, length-drop m xs) in
-      rw (d, p, l, drop-drop (length (drop m xs) - m) m xs, k, prefix_take (delimiter_of xs) xs p) refl
+      rw (d, p, l, drop-drop (length (drop m xs) - m) m xs, k, prefix_take (delimiter_of xs) xs p)
+      (same_of_library (drop (length xs - m) xs) (delimiter_of xs))
 
   -- a whole one has two delimiters
   pub whole_long : is_whole (delimiter_of xs) xs ≡ true → 2 * n ≤ length xs

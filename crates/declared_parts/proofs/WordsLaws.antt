@@ -1,7 +1,7 @@
 -- What stands ahead of a default, split on W: its words by the fronts of the text. Assumes nothing.
 use mathlib.Core.Path.{◌≡◌, refl, sym, ap, ◌∙◌}
 use mathlib.Core.Bool.{Bool, true, false, cond, not}
-use mathlib.Core.List.{List, [], ◌∷◌, ◌++◌}
+use mathlib.Core.List.{List, [], ◌∷◌, ◌++◌, append-nil}
 use Prim.Native.Nat.{ℕ}
 use native.Mathlib.Omega.{arith}
 use lib.ListN.{length, drop}
@@ -169,11 +169,7 @@ more (w ∷ ws) = 32 ∷ join_words (w ∷ ws)
 
 join_more : (w : List Marked) (ws : List (List Marked)) → join_words (w ∷ ws) ≡ bytes w ++ more ws
 unfolding join_words
-join_more w [] = sym (end (bytes w))
-  where
-    end : (l : List ℕ) → l ++ [] ≡ l
-    end [] = refl
-    end (a ∷ l) = ap (λ m. a ∷ m) (end l)
+join_more w [] = sym (append-nil (bytes w))
 join_more w (v ∷ ws) = refl
 
 spaced_w : (g : Bool) (x : Marked) (t : List Marked) → is_w (byte x) ≡ true → spaced g (bytes (x ∷ t)) ≡ spaced true (bytes t)

@@ -1,14 +1,15 @@
 -- One part of the declarations by places in its text. Assumes nothing.
 use Rattle.std.specs.Prelude.{ℕ, ◌+◌, ◌-◌, ◌≤◌, Bool, true, false, cond, not, ◌&&◌, ◌||◌, List, [], ◌∷◌, reverse, eqb, leb, length, get_or, take, drop, Option, Some, None, is_some, ◌≡◌}
+use Rattle.std.specs.Option.{unwrap_or}
 use Rattle.spec.specs.Bytes.{ascii, is_w, upper, prefix_by, is_prefix, is_same}
 use Rattle.spec.specs.Lists.{take_while, drop_end}
 use Rattle.spec.specs.Parts.{part}
 use Rattle.spec.specs.Map.{Marked}
 use Rattle.spec.specs.Search.{first}
 use Rattle.spec.specs.Declarations.{Declared, requoted_default, default_here, key_length, one_if}
-use Rattle.declared_parts.specs.declared.Place.{Place}
+use Rattle.runs.specs.Places.{piece_at}
+use Rattle.runs.specs.declared.Place.{Place}
 use Rattle.declared_parts.specs.declared.Cut.{Cut}
-use Rattle.declared_parts.specs.declared.LastWord.{LastWord}
 use Rattle.declared_parts.specs.declared.TypePlaces.{TypePlaces}
 use Rattle.declared_parts.specs.declared.DeclarationPlaces.{DeclarationPlaces}
 
@@ -19,6 +20,14 @@ starts_key b = eqb b 58 || (eqb b 61 || eqb (upper b) 68)
 -- how many bytes the default key at i has, if one stands there
 unfoldable pub key_at : List Marked → ℕ → Option ℕ
 key_at t i = cond (default_here (reverse (take i t)) (drop i t)) (Some (key_length (drop i t))) None
+
+-- where the default key at i ends, if one stands there
+abbrev pub end_by : ℕ → Option ℕ → Option ℕ
+end_by i (Some n) = Some (i + n)
+end_by i None = None
+
+unfoldable pub key_end : List Marked → ℕ → Option ℕ
+key_end t i = end_by i (key_at t i)
 
 -- the words of a text that does not start with W, joined by single spaces; g: W stood before
 unfoldable pub spaced : Bool → List ℕ → List ℕ
@@ -65,56 +74,62 @@ is_text w xs = eqb (length xs) (length w) && prefix_by upper w xs
 abbrev pub not_w : ℕ → Bool
 not_w b = not (is_w b)
 
--- how many bytes CONSTANT and the W behind it take at the front of xs, 0 if its first word is another
-unfoldable pub constant_len : List ℕ → ℕ
+-- how many bytes CONSTANT and the W behind it take at the front of xs, if its first word is CONSTANT
+unfoldable pub constant_len : List ℕ → Option ℕ
 constant_len xs =
     let n = length (take_while not_w xs) in
     let behind = n + length (take_while is_w (drop n xs)) in
-    cond (is_text (ascii "CONSTANT") (take n xs)) behind 0
+    cond (is_text (ascii "CONSTANT") (take n xs)) (Some behind) None
 
 -- where the last word of xs stands
-unfoldable pub last_word : List ℕ → LastWord
+unfoldable pub last_word : List ℕ → Place
 last_word xs =
     let n = length (drop_end is_w xs) in
-    record { from = length (drop_end not_w (take n xs)); to = n }
+    let from = length (drop_end not_w (take n xs)) in
+    record { at = from; len = n - from }
 
 -- the last word of xs is w
 unfoldable pub ends_in : List ℕ → List ℕ → Bool
-ends_in w xs = is_text w (part (last_word xs).from (last_word xs).to xs)
+ends_in w xs = is_text w (piece_at xs (last_word xs))
 
--- how many bytes of xs stand ahead of NOT NULL, all if its last two words are others
-unfoldable pub type_len : List ℕ → ℕ
+-- how many bytes of xs stand ahead of NOT NULL, if its last two words are these
+unfoldable pub type_len : List ℕ → Option ℕ
 type_len xs =
-    let front = take (last_word xs).from xs in
-    let ahead = (last_word front).from in
-    cond (ends_in (ascii "NULL") xs && ends_in (ascii "NOT") front) ahead (length xs)
+    let front = take (last_word xs).at xs in
+    let ahead = (last_word front).at in
+    cond (ends_in (ascii "NULL") xs && ends_in (ascii "NOT") front) (Some ahead) None
 
 -- the type in the text xs, which stands behind a name
 unfoldable pub type_in : List ℕ → TypePlaces
 type_in xs =
     let start = length (take_while is_w xs) in
-    let front = constant_len (drop start xs) in
-    let rest = drop (start + front) xs in
+    let constant = constant_len (drop start xs) in
+    let from = start + unwrap_or constant 0 in
+    let rest = drop from xs in
+    let ahead = type_len rest in
     record {
-      from = start + front;
-      to = start + front + type_len rest;
-      constant = is_set front;
-      not_null = not (eqb (type_len rest) (length rest));
+      words = record { at = from; len = unwrap_or ahead (length rest) };
+      constant = is_some constant;
+      not_null = is_some ahead;
     }
 
 -- a default, if one is there
 abbrev pub value_of : Bool → List ℕ → Option (List ℕ)
 value_of present text = cond present (Some (requoted_default text)) None
 
+-- the place that two of a record's numbers are, from number j on
+abbrev pub place_at : List ℕ → ℕ → Place
+place_at ns j = record { at = get_or ns j 0; len = get_or ns (j + 1) 0 }
+
 -- ten numbers as of a record, but the places are those of the name, the type's words and the default in the text xs
 unfoldable pub default_by : List ℕ → List ℕ → Option (List ℕ)
-default_by xs ns = value_of (is_set (get_or ns 5 0)) (take (get_or ns 7 0) (drop (get_or ns 6 0) xs))
+default_by xs ns = value_of (is_set (get_or ns 5 0)) (piece_at xs (place_at ns 6))
 
 unfoldable pub declared_by : List ℕ → List ℕ → Declared
 declared_by xs ns =
     record {
-      name = take (get_or ns 2 0) (drop (get_or ns 1 0) xs);
-      type = spaced false (take (get_or ns 4 0) (drop (get_or ns 3 0) xs));
+      name = piece_at xs (place_at ns 1);
+      type = spaced false (piece_at xs (place_at ns 3));
       default = default_by xs ns;
       constant = is_set (get_or ns 8 0);
       not_null = is_set (get_or ns 9 0);

@@ -1,26 +1,28 @@
 -- The records of a section, part by part: where a name stands, what a part adds, and what the parts give. Assumes nothing.
-use Rattle.std.specs.Prelude.{Some, None, Result, Ok, Err}
+use Rattle.std.specs.Prelude.{Option, Some, None, is_some, Result, Ok, Err}
+use Rattle.std.specs.Option.{MatchOption, unwrap_or}
+use Rattle.std.proofs.lemmas.Bool.{cond_both}
+use Rattle.std.proofs.lemmas.List.{take_rest}
 use mathlib.Core.Path.{◌≡◌, refl, sym, ap, ◌∙◌, subst}
-use mathlib.Core.Bool.{true, false}
+use mathlib.Core.Bool.{Bool, true, false}
 use mathlib.Core.List.{List, [], ◌∷◌, ◌++◌}
-use Prim.Native.Nat.{ℕ, suc, ◌+◌, ◌-◌, ◌*◌, ◌≤◌, ◌<◌, zero-le, suc-le-suc, max}
+use Prim.Native.Nat.{ℕ, zero, suc, ◌+◌, ◌-◌, ◌*◌, ◌≤◌, ◌<◌, zero-le, suc-le-suc, max}
 use native.Mathlib.Omega.{arith}
 use borrow.Author.Tests.{eq-eqb, ne_eqb, eqb-true, eqb-false, ltb-true, ltb-false}
 use lib.Dec.{eqb, ltb}
 use lib.ListN.{length, get_or, take, drop, length-append, length-drop}
 use lib.Seq.{sets, length-take-le}
-use Rattle.spec.proofs.AheadLaws.{rest_of}
-use Rattle.spec.proofs.Choice.{by, cond_case}
-use Rattle.spec.proofs.MapLaws.{marked_length}
+use Rattle.spec.proofs.Choice.{by}
 use Rattle.spec.proofs.RecordLaws.{maybe_longer}
-use Rattle.spec.proofs.WalkLaws.{pieces_at, pieces_cut, pieces_last}
+use Rattle.spec.proofs.WalkLaws.{pieces_at, pieces_cut, pieces_last, first_within}
 use Rattle.spec.specs.Bytes.{is_same}
-use Rattle.spec.specs.Map.{Marked, marked}
+use Rattle.spec.specs.Map.{Marked, bytes}
 use Rattle.spec.specs.Search.{first, byte_here, pieces}
-use Rattle.spec.specs.Declarations.{Declared, declaration, declare, declare_maybe, declare_all}
+use Rattle.spec.specs.Declarations.{Declared, one_if, declaration, declare, declare_maybe, declare_all}
 use Rattle.spec.specs.Parts.{part}
 use Rattle.declared_parts.proofs.DeclaredNameLaws.{not_same}
-use Rattle.declared_parts.specs.DeclaredParts.{declared_by, part_numbers, read_of, Within}
+use Rattle.declared_parts.specs.DeclaredParts.{declared_by, place_or, part_numbers, read_of, Within}
+use Rattle.runs.specs.declared.Place.{Place}
 use Rattle.declared_parts.specs.declared.DeclarationPlaces.{DeclarationPlaces}
 use Rattle.declared_records.specs.Held.{record_in, records_from, place_of, name_hash, held_numbers, HashIn, Hashed, HeldIn, Added, Gathered}
 use Rattle.spec.specs.declared.Refusal.{Refusal}
@@ -36,7 +38,7 @@ other_hash xs rs k n h other = not_same n _ (λ e. other (h ∙ ap name_hash (sy
 pub place_le : (n : List ℕ) (ds : List Declared) → place_of n ds ≤ length ds
 unfolding place_of
 place_le n [] = zero-le
-place_le n (d ∷ ds) = cond_case (λ k. k ≤ suc (length ds)) (is_same n d.name) 0 (suc (place_of n ds)) (λ _. zero-le) (λ _. suc-le-suc (place_le n ds))
+place_le n (d ∷ ds) = cond_both (is_same n d.name) 0 (suc (place_of n ds)) (λ k. k ≤ suc (length ds)) (λ _. zero-le) (λ _. suc-le-suc (place_le n ds))
 
 -- a declaration takes the place of the first record of its name, or stands behind all
 pub declare_place : (d : Declared) (ds : List Declared)
@@ -46,7 +48,7 @@ declare_place d [] = refl
 declare_place d (e ∷ es) =
     by (is_same d.name e.name) (λ h. rw h refl) (λ h. rw h (ap (λ l. e ∷ l) (declare_place d es)))
 
-pub place_start : (n xs rs : List ℕ) (count : ℕ) → place_of n (records_from xs rs 1 count) ≡ 0 + place_of n (records_from xs rs (0 + 1) (count - 0))
+place_start : (n xs rs : List ℕ) (count : ℕ) → place_of n (records_from xs rs 1 count) ≡ 0 + place_of n (records_from xs rs (0 + 1) (count - 0))
 place_start n xs rs count =
     let a : 0 + 1 ≡ 1 = omega arith in
     let b : count - 0 ≡ count = omega arith in
@@ -56,7 +58,7 @@ module _ (n xs rs : List ℕ) (k count : ℕ) where
   abbrev left : List Declared
   left = records_from xs rs (k + 1) (count - k)
 
-  pub place_over : count ≤ k → place_of n left ≡ 0
+  place_over : count ≤ k → place_of n left ≡ 0
   unfolding place_of records_from
   place_over h =
       let z : count - k ≡ 0 = omega arith in
@@ -70,13 +72,45 @@ module _ (n xs rs : List ℕ) (k count : ℕ) where
         let m : suc (k + 1) ≡ k + 1 + 1 = omega arith in
         rw (z, ← m) refl
 
-    pub place_hit : is_same n (record_in xs rs (k + 1)).name ≡ true → place_of n left ≡ 0
+    place_hit : is_same n (record_in xs rs (k + 1)).name ≡ true → place_of n left ≡ 0
     unfolding place_of
     place_hit e = rw (one, e) refl
 
-    pub place_miss : is_same n (record_in xs rs (k + 1)).name ≡ false → place_of n left ≡ suc (place_of n (records_from xs rs (k + 1 + 1) (count - (k + 1))))
+    place_miss : is_same n (record_in xs rs (k + 1)).name ≡ false → place_of n left ≡ suc (place_of n (records_from xs rs (k + 1 + 1) (count - (k + 1))))
     unfolding place_of
     place_miss e = rw (one, e) refl
+
+module _ (n xs rs : List ℕ) (count : ℕ) where
+  -- whether record k + 1 has the name
+  abbrev pub has_name : ℕ → Bool
+  has_name k = is_same n (record_in xs rs (k + 1)).name
+
+  -- past i records of other names
+  place_past : (i k : ℕ) → k + i ≤ count → ((j : ℕ) → j < k + i → has_name j ≡ false) → place_of n (left n xs rs k count) ≡ i + place_of n (left n xs rs (k + i) count)
+  place_past zero k b h =
+      let z : k + 0 ≡ k = omega arith in
+      rw z (omega arith)
+  place_past (suc i) k b h =
+      let z : k + suc i ≡ k + 1 + i = omega arith in
+      let m = place_miss n xs rs k count (omega arith) (h k (omega arith)) in
+      let p = place_past i (k + 1) (omega arith) (λ j a. h j (omega arith)) in
+      rw z (omega (arith, m, p))
+
+  -- the first record of the name, by the search for it
+  pub place_found : (r : Option ℕ)
+      → MatchOption r ((k : ℕ) → 0 ≤ k → k < count → has_name k ≡ false)
+      (λ i. (0 ≤ i) × (i < count) × (has_name i ≡ true) × ((k : ℕ) → 0 ≤ k → k < i → has_name k ≡ false))
+      → (unwrap_or r count ≡ place_of n (records_from xs rs 1 count)) × (unwrap_or r count ≤ count)
+  place_found None h =
+      let p = place_past count 0 (omega arith) (λ j a. h j (omega arith) (omega arith)) in
+      let z : 0 + count ≡ count = omega arith in
+      let q : place_of n (left n xs rs (0 + count) count) ≡ 0 = rw z (place_over n xs rs count count (omega arith)) in
+      (omega (arith, place_start n xs rs count, p, q), omega arith)
+  place_found (Some i) h =
+      let p = place_past i 0 (omega (arith, h.1)) (λ j a. h.3 j (omega arith) (omega arith)) in
+      let z : 0 + i ≡ i = omega arith in
+      let q : place_of n (left n xs rs (0 + i) count) ≡ 0 = rw z (place_hit n xs rs i count h.1 h.2) in
+      (omega (arith, place_start n xs rs count, p, q), omega (arith, h.1))
 
 -- ---- one part
 
@@ -89,6 +123,23 @@ within_more n m p h w =
       kind_len = omega (arith, w.kind_len);
       value = (omega (arith, w.value.0), omega (arith, w.value.1));
     }
+
+-- a part's numbers
+or_place : (o : Option Place) → unwrap_or o (record { at = 0; len = 0 }) ≡ place_or o
+or_place (Some v) = refl
+or_place None = refl
+
+pub part_stored : (rs rs' : List ℕ) (k front : ℕ) (p : DeclarationPlaces) (v : Place) (b c n : ℕ)
+    → v ≡ unwrap_or p.value (record { at = 0; len = 0 }) → b ≡ one_if (is_some p.value) → c ≡ one_if p.constant → n ≡ one_if p.not_null
+    → rs' ≡ sets rs (10 * k) (front ∷ p.name.at ∷ p.name.len ∷ p.kind.at ∷ p.kind.len ∷ b ∷ v.at ∷ v.len ∷ c ∷ n ∷ [])
+    → rs' ≡ sets rs (10 * k) (held_numbers front p)
+unfolding part_numbers
+part_stored rs rs' k front p v b c n e f g h q = q ∙ rw (e, f, g, h, or_place p.value) refl
+
+-- a record that is stored leaves what stands behind all records
+pub put_behind : (rs : List ℕ) (k h : ℕ) (p : DeclarationPlaces) → k ≤ 512 → drop 5130 (sets rs (10 * k) (held_numbers h p)) ≡ drop 5130 rs
+unfolding part_numbers
+put_behind rs k h p b = sets_drop (held_numbers h p) rs (10 * k) 5130 (omega arith)
 
 module _ (xs rs : List ℕ) (count : ℕ) (p : DeclarationPlaces) where
   abbrev held : List Declared
@@ -103,7 +154,7 @@ module _ (xs rs : List ℕ) (count : ℕ) (p : DeclarationPlaces) where
   add_none h g e =
       let o : declare_maybe (read_of xs p) held ≡ held = rw (eq-eqb p.kind.len 0 e) refl in
       let number = sym (ap length o ∙ from_length xs rs 1 count) in
-      record { held = record { number = number; within = h; records = sym o; hashed = g }; behind = refl }
+      record { number = number; within = h; records = sym o; hashed = g }
 
   module _ (e : p.kind.len ≡ 0 → ⊥) (k : ℕ) (q : k ≡ place_of (take p.name.len (drop p.name.at xs)) held) where
     known : k ≡ place_of new.name held
@@ -131,7 +182,7 @@ module _ (xs rs : List ℕ) (count : ℕ) (p : DeclarationPlaces) where
 
     -- no room
     pub add_full : count ≤ 512 → k ≡ 512 → Added xs rs count p rs (Err TooManyNames)
-    add_full h f = record { held = (refl, omega (arith, low, made_length)); behind = refl }
+    add_full h f = (refl, omega (arith, low, made_length))
 
     module _ (room : 10 * (k + 1) + 10 ≤ length rs) (within : k < 512) (keeps : Hashed xs rs count) where
       abbrev numbers : List ℕ
@@ -152,9 +203,6 @@ module _ (xs rs : List ℕ) (count : ℕ) (p : DeclarationPlaces) where
       others : (j : ℕ) → (j ≡ 1 + k → ⊥) → record_in xs stored j ≡ record_in xs rs j
       others j n = record_other xs rs numbers (k + 1) j ten (λ r. n (omega arith))
 
-      past : drop 5130 stored ≡ drop 5130 rs
-      past = sets_drop numbers rs (10 * (k + 1)) 5130 (omega (arith, ten))
-
       -- the new record and those kept have their hashes
       all_hashed : (r : ℕ) → ((j : ℕ) → j ≤ r → (j ≡ k + 1 → ⊥) → j ≤ count) → Hashed xs stored r
       all_hashed r f j a b =
@@ -166,13 +214,10 @@ module _ (xs rs : List ℕ) (count : ℕ) (p : DeclarationPlaces) where
       add_replaced : count ≤ 512 → k < count → Added xs rs count p stored (Ok count)
       add_replaced l h =
           record {
-            held = record {
-              number = omega (arith, made_length);
-              within = l;
-              records = from_replaced xs rs stored new k count 1 h at others ∙ sym made;
-              hashed = all_hashed count (λ j b n. b);
-            };
-            behind = past;
+            number = omega (arith, made_length);
+            within = l;
+            records = from_replaced xs rs stored new k count 1 h at others ∙ sym made;
+            hashed = all_hashed count (λ j b n. b);
           }
 
       -- a new one
@@ -180,17 +225,14 @@ module _ (xs rs : List ℕ) (count : ℕ) (p : DeclarationPlaces) where
       add_new h =
           let z : k ≡ count = omega (arith, low) in
           record {
-            held = record {
-              number = omega (arith, made_length);
-              within = omega arith;
-              records =
-                  let m : k + 1 ≡ suc count = omega arith in
-                  let a : record_in xs stored (1 + count) ≡ new = ap (λ i. record_in xs stored (1 + i)) (sym z) ∙ at in
-                  let o : (j : ℕ) → (j ≡ 1 + count → ⊥) → record_in xs stored j ≡ record_in xs rs j = λ j n. others j (λ r. n (r ∙ ap (λ i. 1 + i) z)) in
-                  ap (records_from xs stored 1) m ∙ (from_added xs rs stored new count 1 a o ∙ sym (rw z at made));
-              hashed = all_hashed (k + 1) (λ j b n. omega (arith, low, n));
-            };
-            behind = past;
+            number = omega (arith, made_length);
+            within = omega arith;
+            records =
+                let m : k + 1 ≡ suc count = omega arith in
+                let a : record_in xs stored (1 + count) ≡ new = ap (λ i. record_in xs stored (1 + i)) (sym z) ∙ at in
+                let o : (j : ℕ) → (j ≡ 1 + count → ⊥) → record_in xs stored j ≡ record_in xs rs j = λ j n. others j (λ r. n (r ∙ ap (λ i. 1 + i) z)) in
+                ap (records_from xs stored 1) m ∙ (from_added xs rs stored new count 1 a o ∙ sym (rw z at made));
+            hashed = all_hashed (k + 1) (λ j b n. omega (arith, low, n));
           }
 
       -- either way there are as many as the new record reaches, or as before
@@ -212,25 +254,28 @@ all_longer [] ds = omega arith
 all_longer (p ∷ ps) ds = omega (arith, maybe_longer (declaration p) ds, all_longer ps (declare_maybe (declaration p) ds))
 
 -- the records so far, with what the parts from `at` on declare, are what all parts declare
-pub record Going (xs ms : List ℕ) (at : ℕ) (rs : List ℕ) (count : ℕ) : Type 0 where
+pub record Going (t : List Marked) (at : ℕ) (rs : List ℕ) (count : ℕ) : Type 0 where
   pub within : count ≤ 512
-  pub all : declare_all (pieces (byte_here 59) (marked xs ms)) [] ≡ declare_all (pieces_at (byte_here 59) (marked xs ms) at) (records_from xs rs 1 count)
-  pub hashed : Hashed xs rs count
+  pub all : declare_all (pieces (byte_here 59) t) [] ≡ declare_all (pieces_at (byte_here 59) t at) (records_from (bytes t) rs 1 count)
+  pub hashed : Hashed (bytes t) rs count
 
-module _ (xs ms : List ℕ) (at : ℕ) (rs : List ℕ) (count : ℕ) where
-  abbrev t : List Marked
-  t = marked xs ms
+-- where the next part ends
+pub part_end : (t : List Marked) (i j : ℕ) → Some j ≡ first (byte_here 59) i t → (i ≤ j) × (j < length t)
+part_end t i j e = let w = first_within (byte_here 59) t i j (sym e) in (w.0, w.1)
+
+module _ (t : List Marked) (at : ℕ) (rs : List ℕ) (count : ℕ) where
+  abbrev xs : List ℕ
+  xs = bytes t
 
   -- what the parts from `at` on make of these records
   abbrev made_from : List Declared
   made_from = declare_all (pieces_at (byte_here 59) t at) (records_from xs rs 1 count)
 
   module _ (p : DeclarationPlaces) where
-    last_part : first (byte_here 59) at t ≡ None → declaration (part at (length xs) t) ≡ read_of xs p → made_from ≡ declare_maybe (read_of xs p) (records_from xs rs 1 count)
+    last_part : first (byte_here 59) at t ≡ None → declaration (part at (length t) t) ≡ read_of xs p → made_from ≡ declare_maybe (read_of xs p) (records_from xs rs 1 count)
     unfolding declare_all
     last_part e d =
-        let w : part at (length xs) t ≡ drop at t = rw (← marked_length xs ms) (rest_of t at) in
-        let f : declaration (drop at t) ≡ read_of xs p = rw w at d in
+        let f : declaration (drop at t) ≡ read_of xs p = rw (take_rest t at) at d in
         rw (pieces_last (byte_here 59) t at e, f) refl
 
     next_part : (j : ℕ) → first (byte_here 59) at t ≡ Some j → declaration (part at j t) ≡ read_of xs p
@@ -244,30 +289,28 @@ module _ (xs ms : List ℕ) (at : ℕ) (rs : List ℕ) (count : ℕ) where
     over_next : (ps : List (List Marked)) (ds : List Declared) → 512 < length ds → 512 < length (declare_all ps ds)
     over_next ps ds h = omega (arith, all_longer ps ds)
 
-    module _ (rs' : List ℕ) (o : Result ℕ Refusal) (add : Added xs rs count p rs' o) (g : Going xs ms at rs count) where
+    module _ (rs' : List ℕ) (g : Going t at rs count) where
       -- the last part
-      pub gathered_last : first (byte_here 59) at t ≡ None → declaration (part at (length xs) t) ≡ read_of xs p → Gathered xs t rs' o
-      gathered_last e d =
-          subst (λ ds. HeldIn xs ds rs' o) (sym (g.all ∙ last_part e d)) add.held
+      pub gathered_last : (o : Result ℕ Refusal) → Added xs rs count p rs' o → first (byte_here 59) at t ≡ None → declaration (part at (length t) t) ≡ read_of xs p → Gathered xs t rs' o
+      gathered_last o add e d =
+          subst (λ ds. HeldIn xs ds rs' o) (sym (g.all ∙ last_part e d)) add
 
-      module _ (j : ℕ) (e : first (byte_here 59) at t ≡ Some j) (d : declaration (part at j t) ≡ read_of xs p) where
+      module _ (j : ℕ) (e : Some j ≡ first (byte_here 59) at t) (d : declaration (part at j t) ≡ read_of xs p) where
         -- too many
-        pub gathered_over : (r : Refusal) → o ≡ Err r → Gathered xs t rs' (Err r)
-        gathered_over r h =
-            let k : HeldIn xs (declare_maybe (read_of xs p) (records_from xs rs 1 count)) rs' (Err r) = rw h at add.held in
-            (k.0, rw (g.all ∙ next_part j e d) (over_next (pieces_at (byte_here 59) t (j + 1)) (declare_maybe (read_of xs p) (records_from xs rs 1 count)) k.1))
+        pub gathered_over : (r : Refusal) → Added xs rs count p rs' (Err r) → Gathered xs t rs' (Err r)
+        gathered_over r add =
+            (add.0, rw (g.all ∙ next_part j (sym e) d) (over_next (pieces_at (byte_here 59) t (j + 1)) (declare_maybe (read_of xs p) (records_from xs rs 1 count)) add.1))
 
         -- one part further on
-        pub gathered_next : (r : ℕ) → o ≡ Ok r → Going xs ms (j + 1) rs' r
-        gathered_next r h =
-            let k : HeldIn xs (declare_maybe (read_of xs p) (records_from xs rs 1 count)) rs' (Ok r) = rw h at add.held in
+        pub gathered_next : (r : ℕ) → Added xs rs count p rs' (Ok r) → Going t (j + 1) rs' r
+        gathered_next r add =
             record {
-              within = k.within;
-              all = g.all ∙ (next_part j e d ∙ ap (declare_all (pieces_at (byte_here 59) t (j + 1))) (sym k.records));
-              hashed = k.hashed;
+              within = add.within;
+              all = g.all ∙ (next_part j (sym e) d ∙ ap (declare_all (pieces_at (byte_here 59) t (j + 1))) (sym add.records));
+              hashed = add.hashed;
             }
 
 -- at the start
-pub gathered_start : (xs ms rs : List ℕ) → Going xs ms 0 rs 0
+pub gathered_start : (t : List Marked) (rs : List ℕ) → Going t 0 rs 0
 unfolding pieces records_from
-gathered_start xs ms rs = record { within = omega arith; all = refl; hashed = λ k a b. absurd (omega arith) }
+gathered_start t rs = record { within = omega arith; all = refl; hashed = λ k a b. absurd (omega arith) }

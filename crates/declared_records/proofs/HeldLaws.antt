@@ -1,14 +1,14 @@
 -- The records that a list of numbers holds: what a store leaves of them, and of their names' hashes. Assumes nothing.
 use mathlib.Core.Path.{◌≡◌, refl, sym, ap, ◌∙◌}
-use mathlib.Core.List.{List, [], ◌∷◌, ◌++◌}
+use mathlib.Core.List.{List, [], ◌∷◌, ◌++◌, append_assoc}
 use Prim.Native.Nat.{ℕ, zero, suc, ◌+◌, ◌*◌, ◌%◌, ◌≤◌, ◌<◌}
 use native.Mathlib.Nat.{le_of_suc-le-suc}
+use native.Mathlib.Nat.{mod-add-mod}
 use native.Mathlib.Omega.{arith}
 use borrow.Author.Tests.{ltb-true, ltb-false}
 use lib.Dec.{ltb}
-use lib.ListN.{length, get_or, take, drop, set, drop_of_length-le}
+use lib.ListN.{length, get_or, take, drop, set}
 use lib.Seq.{sets, sets-eq, get_or-set_other, get_or-drop, length-take-le, drop_at, drop-set-lt}
-use Rattle.spec.proofs.AheadLaws.{drop_one}
 use Rattle.spec.proofs.Choice.{by}
 use Rattle.declared_parts.specs.DeclaredParts.{default_by, declared_by, part_numbers}
 use Rattle.declared_parts.specs.declared.DeclarationPlaces.{DeclarationPlaces}
@@ -33,12 +33,8 @@ sets_drop (v ∷ vs) l i n h = sets_drop vs (set l i v) (suc i) n (omega arith) 
 -- what is stored stands there
 pub sets_there : (vs l : List ℕ) (i : ℕ) → i + length vs ≤ length l → drop i (sets l i vs) ≡ vs ++ drop (i + length vs) l
 sets_there vs l i h =
-    ap (drop i) (sets-eq vs l i h ∙ assoc (take i l) vs (drop (i + length vs) l))
+    ap (drop i) (sets-eq vs l i h ∙ append_assoc (take i l) vs (drop (i + length vs) l))
     ∙ drop_at (take i l) (vs ++ drop (i + length vs) l) i (length-take-le i l (omega arith))
-  where
-    assoc : (a b c : List ℕ) → (a ++ b) ++ c ≡ a ++ (b ++ c)
-    assoc [] b c = refl
-    assoc (x ∷ a) b c = ap (λ t. x ∷ t) (assoc a b c)
 
 -- numbers that agree in all places but the first declare the same
 pub declared_same : (xs ns ms : List ℕ) → ((i : ℕ) → 0 < i → i < 10 → get_or ns i 0 ≡ get_or ms i 0) → declared_by xs ns ≡ declared_by xs ms
@@ -77,13 +73,18 @@ record_put xs rs k h p m = rw (sets_there (held_numbers h p) rs (10 * k) m) refl
 
 -- ---- hashes
 
-pub hash_step : (h : ℕ) (xs : List ℕ) (i : ℕ) → i < length xs → hash_from h (drop i xs) ≡ hash_from ((h * 16777619 + get_or xs i 0) % 4294967296) (drop (i + 1) xs)
+hash_more : (h : ℕ) (xs : List ℕ) (x : ℕ) → hash_from h (xs ++ (x ∷ [])) ≡ (hash_from h xs * 16777619 + x) % 4294967296
 unfolding hash_from
-hash_step h xs i m = rw (drop_one xs i 0 m) refl
+hash_more h [] x = refl
+hash_more h (y ∷ xs) x = hash_more ((h * 16777619 + y) % 4294967296) xs x
 
-pub hash_end : (h : ℕ) (xs : List ℕ) (i : ℕ) → length xs ≤ i → hash_from h (drop i xs) ≡ h
+-- one more byte, by operations that wrap around
+pub hash_push : (h : ℕ) (xs : List ℕ) (x : ℕ) → h ≡ name_hash xs → (h * 16777619 % 4294967296 + x) % 4294967296 ≡ name_hash (xs ++ (x ∷ []))
+hash_push h xs x e = mod-add-mod (h * 16777619) 4294967296 x ∙ (rw e refl ∙ sym (hash_more 0 xs x))
+
+pub hash_none : 0 ≡ name_hash []
 unfolding hash_from
-hash_end h xs i m = rw (drop_of_length-le xs m) refl
+hash_none = refl
 
 -- the hash of a part's name is stored with it
 pub hash_put : (xs rs : List ℕ) (k : ℕ) (p : DeclarationPlaces) → 10 * k + 10 ≤ length rs

@@ -34,9 +34,9 @@ hash_from h (b ∷ bs) = hash_from ((h * 16777619 + b) % 4294967296) bs
 abbrev pub name_hash : List ℕ → ℕ
 name_hash xs = hash_from 0 xs
 
--- a part's numbers with its name's hash in front, where the next will stand
+-- a part's numbers with this number in front: its next, or its name's hash where the next will stand
 abbrev pub held_numbers : ℕ → DeclarationPlaces → List ℕ
-held_numbers hash p = hash ∷ drop 1 (part_numbers p)
+held_numbers front p = front ∷ drop 1 (part_numbers p)
 
 -- record k, and each of `count` records, has its name's hash in front
 abbrev pub HashIn : List ℕ → List ℕ → ℕ → Type 0
@@ -58,9 +58,8 @@ HeldIn xs ds rs (Ok r) = HeldAre xs ds rs r
 HeldIn xs ds rs (Err e) = (e ≡ TooManyNames) × (512 < length ds)
 
 -- the records in rs' are what a part makes of `count` records
-pub record Added (xs rs : List ℕ) (count : ℕ) (p : DeclarationPlaces) (rs' : List ℕ) (o : Result ℕ Refusal) : Type 0 where
-  pub held : HeldIn xs (declare_maybe (read_of xs p) (records_from xs rs 1 count)) rs' o
-  pub behind : drop 5130 rs' ≡ drop 5130 rs
+abbrev pub Added : List ℕ → List ℕ → ℕ → DeclarationPlaces → List ℕ → Result ℕ Refusal → Type 0
+Added xs rs count p rs' o = HeldIn xs (declare_maybe (read_of xs p) (records_from xs rs 1 count)) rs' o
 
 -- the records in rs are those of the section t
 abbrev pub Gathered : List ℕ → List Marked → List ℕ → Result ℕ Refusal → Type 0

@@ -2,15 +2,16 @@
 // its name's hash.
 #![tactic(auto)]
 
-ghost use Rattle.std.specs.Prelude.{◌≡◌, ◌*◌, ◌^◌, ◌≤◌, ◌<◌, length, get_or, drop};
+ghost use Rattle.std.specs.Prelude.{◌≡◌, ◌+◌, ◌*◌, ◌^◌, ◌≤◌, ◌<◌, length, get_or, drop};
 ghost use Rattle.std.proofs.lemmas.List.Edits.{sets};
 ghost use Rattle.spec.specs.Bytes.{is_same};
-ghost use Rattle.spec.specs.Map.{marked};
-ghost use Rattle.declared_parts.specs.DeclaredParts.{is_set, Within};
+ghost use Rattle.spec.specs.Map.{bytes};
+ghost use Rattle.declared_parts.specs.DeclaredParts.{place_at, is_set, Within};
 ghost use Rattle.declared_records.specs.Held.{record_in, records_from, place_of, name_hash, held_numbers, HashIn, Hashed, Added, Gathered};
 
-use declared_parts::{DeclarationPlaces, Place, piece, read_part, same_bytes};
-use scanner::find_byte_in;
+use declared_parts::{DeclarationPlaces, read_part};
+use runs::Place;
+use scanner::MappedText;
 use spec::Refusal;
 
 // How many numbers a record has, how many records there may be, and how many numbers they and the head take.
@@ -19,6 +20,22 @@ pub const RECORD_WIDTH: usize = 10;
 pub const RECORD_LIMIT: usize = 512;
 
 pub const RECORD_NUMBERS: usize = RECORD_WIDTH * (RECORD_LIMIT + 1);
+
+// Where the numbers of a record stand: its next, or its name's hash while the records are read; its name, its type and its
+// default, two each; before the default and at the end whether there is one, and the marks.
+pub const NEXT: usize = 0;
+
+pub const NAME: usize = 1;
+
+pub const KIND: usize = 3;
+
+pub const HAS_VALUE: usize = 5;
+
+pub const VALUE: usize = 6;
+
+pub const CONSTANT: usize = 8;
+
+pub const NOT_NULL: usize = 9;
 
 // Number j of record k.
 pub fn number(records: &[u32], k: usize, j: usize) -> usize
@@ -41,6 +58,19 @@ pub fn mark_of(records: &[u32], k: usize, j: usize) -> bool
     number(records, k, j) != 0
 }
 
+// The place at numbers j and j + 1 of record k.
+pub fn place_in(records: &[u32], k: usize, j: usize) -> Place
+    requires k_bound { k ≤ 512 }
+    requires j_bound { j < 9 }
+    requires in_bounds { 5130 ≤ length records.now }
+    ensures { result ≡ place_at (drop (10 * k) records.now) j }
+{
+    Place {
+        at: number(records, k, j),
+        len: number(records, k, j + 1),
+    }
+}
+
 // The name of record k.
 #[tactic(auto, unfolding(declared_parts::specs::DeclaredParts::declared_by))]
 pub fn name_of<'a>(text: &'a [u8], records: &[u32], k: usize) -> &'a [u8]
@@ -48,9 +78,7 @@ pub fn name_of<'a>(text: &'a [u8], records: &[u32], k: usize) -> &'a [u8]
     requires in_bounds { 5130 ≤ length records.now }
     ensures { result.now ≡ (record_in text.now records.now k).name }
 {
-    let at = number(records, k, 1);
-    let n = number(records, k, 2);
-    piece(text, at, n)
+    place_in(records, k, NAME).of(text)
 }
 
 // The ten numbers of record k.
@@ -65,30 +93,28 @@ pub fn put_numbers(records: &mut [u32], k: usize, numbers: [u32; RECORD_WIDTH])
 
 // A hash of a name, with the multiplier of the FNV hashes; below 2 ^ 32, so that a record's number holds it. Names with
 // different hashes are different.
-#[tactic(auto, using(crate::proofs::HeldLaws::hash_step, crate::proofs::HeldLaws::hash_end))]
 fn hash_of(name: &[u8]) -> usize
     ensures value { result ≡ name_hash name.now }
     ensures upper_bound { result < 2 ^ 32 }
 {
-    let mut hash: usize = 0;
-    for &b in name {
-        hash = (hash * 16777619 + usize::from(b)) % 4294967296;
-    }
-    hash
+    let hash = name.iter().fold(0u32, |hash, b| {
+        hash.wrapping_mul(16777619).wrapping_add(u32::from(*b))
+    });
+    hash as usize
 }
 
-// The places of a part as record k, and a hash where the next will stand.
-#[tactic(auto, unfolding(declared_parts::specs::DeclaredParts::part_numbers))]
-fn put_part(records: &mut [u32], k: usize, hash: usize, p: DeclarationPlaces)
+// The places of a part as record k, and in front of them its next, or where that will stand a hash.
+pub fn put_part(records: &mut [u32], k: usize, front: usize, p: DeclarationPlaces)
     requires k_bound { k ≤ 512 }
     requires in_bounds { 5130 ≤ length records.old }
-    requires hash_bound { hash < 2 ^ 32 }
+    requires front_bound { front < 2 ^ 32 }
     requires within { Within 65536 p }
-    ensures { records.new ≡ sets records.old (10 * k) (held_numbers hash p) }
+    ensures { records.new ≡ sets records.old (10 * k) (held_numbers front p) }
 {
+    // Numbers have no `None`: without a default its two numbers are 0, as the C interface has them.
     let value = p.value.unwrap_or(Place { at: 0, len: 0 });
     let numbers = [
-        hash as u32,
+        front as u32,
         p.name.at as u32,
         p.name.len as u32,
         p.kind.at as u32,
@@ -103,7 +129,7 @@ fn put_part(records: &mut [u32], k: usize, hash: usize, p: DeclarationPlaces)
 }
 
 // Whether record k has this name; the hashes tell most names apart.
-#[tactic(auto, using(crate::proofs::GatherLaws::other_hash))]
+#[tactic(auto, using(crate::proofs::GatherLaws::other_hash, declared_parts::proofs::DeclaredNameLaws::same_of_library))]
 fn is_named(text: &[u8], records: &[u32], k: usize, name: &[u8], hash: usize) -> bool
     requires k_bound { k ≤ 512 }
     requires in_bounds { 5130 ≤ length records.now }
@@ -111,11 +137,10 @@ fn is_named(text: &[u8], records: &[u32], k: usize, name: &[u8], hash: usize) ->
     requires hash_in { HashIn text.now records.now k }
     ensures { result ≡ is_same name.now (record_in text.now records.now k).name }
 {
-    number(records, k, 0) == hash && same_bytes(name, name_of(text, records, k))
+    number(records, k, NEXT) == hash && name == name_of(text, records, k)
 }
 
 // How many records stand ahead of the first one of this name.
-#[tactic(auto, using(crate::proofs::GatherLaws::place_start, crate::proofs::GatherLaws::place_over, crate::proofs::GatherLaws::place_hit, crate::proofs::GatherLaws::place_miss))]
 fn find_name(text: &[u8], records: &[u32], count: usize, name: &[u8], hash: usize) -> usize
     requires count_bound { count ≤ 512 }
     requires in_bounds { 5130 ≤ length records.now }
@@ -124,16 +149,19 @@ fn find_name(text: &[u8], records: &[u32], count: usize, name: &[u8], hash: usiz
     ensures value { result ≡ place_of name.now (records_from text.now records.now 1 count) }
     ensures upper_bound { result ≤ count }
 {
-    for k in 0..count {
-        if is_named(text, records, k + 1, name, hash) {
-            return k;
-        }
-    }
-    count
+    let place = (0..count).find(
+        |k|
+            requires k_bound { k.now < 512 }
+            requires in_bounds { 5130 ≤ length records.now }
+            requires hash_value { hash ≡ name_hash name.now }
+            requires hash_in { HashIn text.now records.now (k.now + 1) }
+        { is_named(text, records, *k + 1, name, hash) },
+    );
+    place.unwrap_or(count)
 }
 
 // The records with what a part declares: how many there are, unless there would be more than 512.
-#[tactic(auto, using(crate::proofs::GatherLaws::add_none, crate::proofs::GatherLaws::add_full, crate::proofs::GatherLaws::add_one))]
+#[tactic(auto, using(crate::proofs::GatherLaws::add_none, crate::proofs::GatherLaws::add_full, crate::proofs::GatherLaws::add_one, crate::proofs::GatherLaws::put_behind))]
 fn add_part(
     text: &[u8],
     records: &mut [u32],
@@ -144,12 +172,13 @@ fn add_part(
     requires in_bounds { 5130 ≤ length records.old }
     requires within { Within 65536 p }
     requires hashed { Hashed text.now records.old count }
-    ensures { Added text.now records.old count p records.new result }
+    ensures added { Added text.now records.old count p records.new result }
+    ensures records_unchanged { drop 5130 records.new ≡ drop 5130 records.old }
 {
     if p.kind.len == 0 {
         return Ok(count);
     }
-    let name = piece(text, p.name.at, p.name.len);
+    let name = p.name.of(text);
     let hash = hash_of(name);
     let k = find_name(text, records, count, name, hash);
     if k == RECORD_LIMIT {
@@ -160,21 +189,21 @@ fn add_part(
 }
 
 // The records of a section, as places in its text: how many there are, unless more than 512 names are declared.
-#[tactic(auto, using(crate::proofs::GatherLaws::gathered_start, crate::proofs::GatherLaws::gathered_last, crate::proofs::GatherLaws::gathered_over, crate::proofs::GatherLaws::gathered_next, crate::proofs::GatherLaws::within_more))]
-pub fn gather(text: &[u8], map: &[u8], records: &mut [u32]) -> Result<usize, Refusal>
+#[tactic(auto, using(crate::proofs::GatherLaws::gathered_start, crate::proofs::GatherLaws::gathered_last, crate::proofs::GatherLaws::within_more))]
+pub fn gather(text: &MappedText<'_>, records: &mut [u32]) -> Result<usize, Refusal>
     requires text_len_bound { length text.now ≤ 65536 }
-    requires text_in_bounds { length text.now ≤ length map.now }
     requires in_bounds { 5130 ≤ length records.old }
-    ensures gathered { Gathered text.now (marked text.now map.now) records.new result }
+    ensures gathered { Gathered (bytes text.now) text.now records.new result }
     ensures records_unchanged { drop 5130 records.new ≡ drop 5130 records.old }
 {
+    let bytes = text.text();
     let mut count: usize = 0;
     let mut at: usize = 0;
-    while let Some(end) = find_byte_in(text, map, b';', at) {
-        let p = read_part(text, map, at, end);
-        count = add_part(text, records, count, p)?;
+    while let Some(end) = text.find_byte(b';', at) {
+        let p = read_part(text, at, end);
+        count = add_part(bytes, records, count, p)?;
         at = end + 1;
     }
-    let last = read_part(text, map, at, text.len());
-    add_part(text, records, count, last)
+    let last = read_part(text, at, text.len());
+    add_part(bytes, records, count, last)
 }

@@ -1,29 +1,29 @@
 -- ELSIF rewritten from an offset on: up to the first keyword the text is copied, and behind it the walk goes on. Assumes
 -- nothing.
 use Rattle.std.specs.Prelude.{Some, None}
+use Rattle.std.proofs.lemmas.List.{drop_more}
 use mathlib.Core.Path.{◌≡◌, refl, sym, ap, ◌∙◌}
 use mathlib.Core.Bool.{true, false}
 use mathlib.Core.List.{List, [], ◌∷◌, ◌++◌, append-nil, reverse}
-use Prim.Native.Nat.{ℕ, zero, suc, ◌+◌, ◌-◌, ◌≤◌, ◌<◌, min}
+use Prim.Native.Nat.{ℕ, zero, suc, ◌+◌, ◌-◌, ◌≤◌, ◌<◌}
 use native.Mathlib.Nat.{add-zero}
 use native.Mathlib.Omega.{arith}
 use borrow.Author.Tests.{ltb-true, ltb-false}
 use lib.Dec.{ltb}
-use lib.ListN.{length, take, drop, get_or, length-append, length-drop, length-take, drop_of_length-le}
-use lib.Seq.{sets}
-use Rattle.spec.proofs.AheadLaws.{drop_one}
+use lib.ListN.{length, take, drop, get_or, length-drop, drop_of_length-le}
 use Rattle.spec.proofs.Choice.{by}
 use Rattle.spec.proofs.CopyLaws.{copied, copied_all}
 use Rattle.spec.proofs.FirstLaws.{first_least}
 use Rattle.spec.proofs.LengthLaws.{word_in}
-use Rattle.spec.proofs.MapLaws.{map_append, marked_length}
-use Rattle.spec.proofs.PartLaws.{bytes_part}
-use Rattle.spec.proofs.WalkLaws.{starts_length, before_next, bytes_drop, passes_at}
+use Rattle.spec.proofs.BytesLaws.{bytes_take, bytes_drop, bytes_append}
+use Rattle.spec.proofs.WalkLaws.{starts_length, before_next, passes_at}
 use Rattle.spec.specs.Bytes.{ascii, is_word}
 use Rattle.spec.specs.Elsif.{elsif_from, elsif}
-use Rattle.spec.specs.Map.{Marked, live, byte, marked, bytes, lives, front_byte}
+use Rattle.spec.specs.Map.{Marked, live, byte, bytes, lives, front_byte}
 use Rattle.spec.specs.Search.{Test, first, word_here, keyword_here}
-use Rattle.output.proofs.StoreLaws.{sets_more}
+use Rattle.output.proofs.WriterLaws.{Left, left_more}
+use Rattle.output.specs.Written.{Wrote}
+use Rattle.output.specs.declared.Writer.{Writer}
 
 abbrev pub keyword : Test
 keyword = keyword_here (ascii "ELSIF")
@@ -61,7 +61,7 @@ module _ (t : List Marked) where
       (λ e.
       let h = ltb-true i (length t) e in
       rw n
-      (from_skip k (front_byte (reverse (take i t))) (drop i t) (drop (i + 1) t) (get_or t i (live 0)) (drop_one t i (live 0) h)
+      (from_skip k (front_byte (reverse (take i t))) (drop i t) (drop (i + 1) t) (get_or t i (live 0)) (drop_more t i (live 0) h)
       ∙ (ap (λ (b : ℕ). elsif_from k b (drop (i + 1) t)) (before_next t i h) ∙ skipped k (i + 1))))
       (λ e.
       let h = ltb-false i (length t) e in
@@ -71,14 +71,14 @@ module _ (t : List Marked) where
   copies : (i : ℕ) → i < length t → passes_at keyword t i ≡ false → elsif_at t i ≡ (get_or t i (live 0) ∷ []) ++ elsif_at t (i + 1)
   unfolding keyword_here
   copies i h e =
-      from_copy (front_byte (reverse (take i t))) (drop i t) (drop (i + 1) t) (get_or t i (live 0)) (drop_one t i (live 0) h) e
+      from_copy (front_byte (reverse (take i t))) (drop i t) (drop (i + 1) t) (get_or t i (live 0)) (drop_more t i (live 0) h) e
       ∙ ap (λ (b : ℕ). get_or t i (live 0) ∷ elsif_from 0 b (drop (i + 1) t)) (before_next t i h)
 
   puts : (i : ℕ) → i < length t → passes_at keyword t i ≡ true → elsif_at t i ≡ lives (ascii "ELSEIF") ++ elsif_at t (i + 5)
   unfolding keyword_here
   puts i h e =
       let n : i + 1 + 4 ≡ i + 5 = omega arith in
-      from_put (front_byte (reverse (take i t))) (drop i t) (drop (i + 1) t) (get_or t i (live 0)) (drop_one t i (live 0) h) e
+      from_put (front_byte (reverse (take i t))) (drop i t) (drop (i + 1) t) (get_or t i (live 0)) (drop_more t i (live 0) h) e
       ∙ (ap (λ (b : ℕ). lives (ascii "ELSEIF") ++ elsif_from 4 b (drop (i + 1) t)) (before_next t i h)
       ∙ ap (λ (l : List Marked). lives (ascii "ELSEIF") ++ l) (skipped 4 (i + 1) ∙ ap (elsif_at t) n))
 
@@ -108,49 +108,35 @@ module _ (t : List Marked) where
   unfolding elsif front_byte
   elsif_all = refl
 
--- ---- the same on the bytes of a text beside its map
+-- ---- the same on the bytes
 
-module _ (xs ms : List ℕ) where
+module _ (t : List Marked) where
   abbrev pub rest_at : ℕ → List ℕ
-  rest_at i = bytes (elsif_at (marked xs ms) i)
+  rest_at i = bytes (elsif_at t i)
 
-  rest_hit : (i j : ℕ) → first keyword i (marked xs ms) ≡ Some j → rest_at i ≡ take (j - i) (drop i xs) ++ (ascii "ELSEIF" ++ rest_at (j + 5))
+  pub rest_all : bytes (elsif t) ≡ rest_at 0
+  rest_all = ap bytes (elsif_all t)
+
+  pub rest_last : (i : ℕ) → first keyword i t ≡ None → rest_at i ≡ drop i (bytes t)
+  rest_last i e = ap bytes (elsif_last t i e) ∙ bytes_drop i t
+
+  -- up to the keyword found, and behind it
+  pub rest_hit : (i j : ℕ) → first keyword i t ≡ Some j → rest_at i ≡ take (j - i) (drop i (bytes t)) ++ (ascii "ELSEIF" ++ rest_at (j + 5))
   unfolding bytes lives
   rest_hit i j e =
-      ap bytes (elsif_hit (marked xs ms) i j e)
-      ∙ (map_append byte (take (j - i) (drop i (marked xs ms))) (lives (ascii "ELSEIF") ++ elsif_at (marked xs ms) (j + 5))
-      ∙ ap (λ (l : List ℕ). l ++ (ascii "ELSEIF" ++ rest_at (j + 5))) (bytes_part i (j - i) xs ms))
+      ap bytes (elsif_hit t i j e)
+      ∙ (bytes_append (take (j - i) (drop i t)) (lives (ascii "ELSEIF") ++ elsif_at t (j + 5))
+      ∙ ap (λ (l : List ℕ). l ++ (ascii "ELSEIF" ++ rest_at (j + 5))) (bytes_take (j - i) (drop i t) ∙ ap (take (j - i)) (bytes_drop i t)))
 
-  pub rest_last : (i : ℕ) → first keyword i (marked xs ms) ≡ None → rest_at i ≡ drop i xs
-  rest_last i e = ap bytes (elsif_last (marked xs ms) i e) ∙ bytes_drop xs ms i
+-- where the keyword found stands
+pub within_at : (t : List Marked) (i j : ℕ) → Some j ≡ first keyword i t → (i ≤ j) × (j + 5 ≤ length t)
+within_at t i j e = elsif_within t i j (sym e)
 
-  pub rest_within : (i j : ℕ) → first keyword i (marked xs ms) ≡ Some j → (i ≤ j) × (j + 5 ≤ length xs)
-  rest_within i j e = rw marked_length at (elsif_within (marked xs ms) i j e)
-
--- where the keyword found stands, and how long the part before it is
-pub within_at : (xs ms : List ℕ) (i j : ℕ) → Some j ≡ first keyword i (marked xs ms) → (i ≤ j) × (j + 5 ≤ length xs)
-within_at xs ms i j e = rest_within xs ms i j (sym e)
-
-pub part_len : (k i : ℕ) (xs : List ℕ) → length (take k (drop i xs)) ≡ min k (length xs - i)
-part_len k i xs = omega (arith, length-take k (drop i xs), length-drop i xs)
-
--- what a turn of `transform_elsif` does: n bytes of the result are in d before it, n' are in d' after it
-pub record Turn (xs ms : List ℕ) (i j : ℕ) (d : List ℕ) (n : ℕ) (d' : List ℕ) (n' : ℕ) : Type 0 where
-  pub stored : sets d n (rest_at xs ms i) ≡ sets d' n' (rest_at xs ms (j + 5))
-  pub counted : n + length (rest_at xs ms i) ≡ n' + length (rest_at xs ms (j + 5))
-
--- the text up to the keyword is stored, then ELSEIF
-pub elsif_turn : (xs ms : List ℕ) (i j : ℕ) → first keyword i (marked xs ms) ≡ Some j → (d d₁ d₂ : List ℕ) (n n₁ n₂ : ℕ)
-    → n₁ ≡ n + length (take (j - i) (drop i xs))
-    → d₁ ≡ sets d n (take (j - i) (drop i xs))
-    → n₂ ≡ n₁ + 6
-    → d₂ ≡ sets d₁ n₁ (ascii "ELSEIF")
-    → Turn xs ms i j d n d₂ n₂
-elsif_turn xs ms i j e d d₁ d₂ n n₁ n₂ k p l q =
-    let u = take (j - i) (drop i xs) in
-    let v = ascii "ELSEIF" ++ rest_at xs ms (j + 5) in
-    let r = rest_hit xs ms i j e in
-    record {
-      stored = sets_more d d₁ _ u v n n₁ r p k ∙ sets_more d₁ d₂ _ (ascii "ELSEIF") (rest_at xs ms (j + 5)) n₁ n₂ refl q l;
-      counted = omega (arith, ap length r, length-append u v, k, l);
-    }
+-- the text up to the keyword is written, then ELSEIF
+pub elsif_turn : (t : List Marked) (text : List ℕ) {a b c d : Writer} (i j : ℕ) → Some j ≡ first keyword i t
+    → Left a text b (rest_at t i)
+    → Wrote b (take (j - i) (drop i (bytes t))) c
+    → Wrote c (ascii "ELSEIF") d
+    → Left a text d (rest_at t (j + 5))
+elsif_turn t text i j e l p q =
+    left_more text _ (ascii "ELSEIF") (rest_at t (j + 5)) (left_more text _ _ _ l (rest_hit t i j (sym e)) p) refl q

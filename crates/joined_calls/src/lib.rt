@@ -19,8 +19,8 @@ pub struct Joined {
 // Where to cut the text: at its end if `cut` is past it.
 fn cut_within(text: &[u8], cut: usize) -> usize
     ensures upper_bound { result ≤ length text.now }
-    ensures text_value { take result text.now ≡ take cut text.now }
-    ensures text_value_2 { drop result text.now ≡ drop cut text.now }
+    ensures first_part { take result text.now ≡ take cut text.now }
+    ensures second_part { drop result text.now ≡ drop cut text.now }
 {
     cut.min(text.len())
 }

@@ -1,6 +1,6 @@
 -- Facts of Bools, bytes and lists that the laws here share. Assumes nothing.
 use mathlib.Core.Path.{◌≡◌, refl, sym, ap, ◌∙◌, subst}
-use mathlib.Core.Bool.{Bool, true, false, not, ◌&&◌, false≢true}
+use mathlib.Core.Bool.{Bool, true, false, ◌&&◌, false≢true}
 use Prim.Native.Nat.{ℕ}
 use borrow.Author.Tests.{eqb-true}
 use lib.Dec.{eqb}
@@ -10,14 +10,6 @@ use Rattle.spec.specs.Bytes.{is_ident, is_quote, is_w}
 
 pub clash : {P : Type 0} → true ≡ false → P
 clash e = absurd (false≢true (sym e))
-
-pub no : (a : Bool) → not a ≡ true → a ≡ false
-no true e = sym e
-no false e = refl
-
-pub yes : (a : Bool) → a ≡ false → not a ≡ true
-yes true e = clash e
-yes false e = refl
 
 pub and_no : (a b : Bool) → (a ≡ true → b ≡ false) → (a && b) ≡ false
 and_no true b h = h refl

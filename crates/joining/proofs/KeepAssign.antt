@@ -1,5 +1,6 @@
 -- Pass 3 keeps what a reading reads. Assumes nothing.
 use Rattle.std.specs.Prelude.{Option, Some, None}
+use Rattle.std.proofs.lemmas.Bool.{cond_both}
 use mathlib.Core.Path.{◌≡◌, refl, sym, ap, ◌∙◌, subst}
 use mathlib.Core.Bool.{Bool, true, false, cond, not, ◌&&◌, ◌||◌, false≢true}
 use mathlib.Core.List.{List, [], ◌∷◌, ◌++◌, reverse, reverse-cons, reverse-append, reverse-reverse, append_assoc}
@@ -10,7 +11,7 @@ use lib.ListN.{take, drop, take-append-drop}
 use lib.Seq.{drop-drop}
 use Rattle.spec.proofs.RefusalOutcomes.{statement_nil}
 use Rattle.spec.proofs.ByteSets.{sign_not_ident, sign_not_w, ident_not_w}
-use Rattle.spec.proofs.Choice.{by, cond_case, and_left, and_right, or_first, or_second}
+use Rattle.spec.proofs.Choice.{by, and_left, and_right, or_first, or_second}
 use Rattle.spec.proofs.ListLaws.{while_split, while_all, all_append}
 use Rattle.spec.proofs.FirstLaws.{first_least}
 use Rattle.spec.specs.Bytes.{ascii, is_ident, is_quote, is_w}
@@ -200,8 +201,8 @@ module _ (k : Reading) where
           let name = reverse (take_while (of_byte is_ident) b) in
           let front = reverse (drop_while (of_byte is_ident) b) in
           let right = right_side (drop (i + 2) t) in
-          cond_case (λ (z : List Marked). Piece z) (starts_name name && not (is_empty right))
-          (front ++ (lives (ascii "SET ") ++ (name ++ (lives (ascii " = ") ++ right)))) t
+          cond_both (starts_name name && not (is_empty right))
+          (front ++ (lives (ascii "SET ") ++ (name ++ (lives (ascii " = ") ++ right)))) t (λ (z : List Marked). Piece z)
           (λ _. subst (λ (z : List Marked). Piece (front ++ (lives (ascii "SET ") ++ (name ++ (lives (ascii " = ") ++ right_side z))))) (sym d)
           (assign_at t back (drop i t) s l.passes p))
           (λ _. p)

@@ -3,7 +3,7 @@ use mathlib.Core.Path.{◌≡◌, refl, sym, ◌∙◌, subst}
 use mathlib.Core.Bool.{Bool, true, false, cond, not, false≢true}
 use mathlib.Core.List.{List, [], ◌∷◌, ◌++◌, cons≢nil}
 use Prim.Native.Nat.{ℕ, zero, suc}
-use borrow.Author.Tests.{eqb-true}
+use borrow.Author.Tests.{eqb-true, not-true}
 use lib.Dec.{eqb}
 use lib.ListN.{length}
 use Rattle.spec.proofs.ByteSets.{sign_not_ident, letter_ident, capital_ident, not_word, upper_cases}
@@ -13,7 +13,7 @@ use Rattle.spec.specs.Map.{Marked, live, quoted, byte, lives, front_live}
 use Rattle.spec.specs.Search.{starts_ignoring_case, word_here}
 use Rattle.spec.specs.Elsif.{elsif_from, elsif}
 use Rattle.spec.specs.Closed.{ends_live}
-use Rattle.joining.proofs.Bools.{clash, no, other, ident_no_quote}
+use Rattle.joining.proofs.Bools.{clash, other, ident_no_quote}
 use Rattle.joining.proofs.Reading.{Reading}
 use Rattle.joining.proofs.Parts.{Read}
 use Rattle.joining.proofs.Statements.{ends_append, ends_rest, ends_ident, Shut}
@@ -74,7 +74,7 @@ unfolding word_here front_live starts_ignoring_case upper is_lower within
 at_elsif p (quoted c) t h = absurd (false≢true h)
 at_elsif p (live c) t h =
     let m : starts_ignoring_case (ascii "ELSIF") (live c ∷ t) ≡ true = and_left (starts_ignoring_case (ascii "ELSIF") (live c ∷ t)) _ h in
-    let w = no (is_word p) (and_left (not (is_word p)) _ (and_right (starts_ignoring_case (ascii "ELSIF") (live c ∷ t)) _ h)) in
+    let w = not-true (is_word p) (and_left (not (is_word p)) _ (and_right (starts_ignoring_case (ascii "ELSIF") (live c ∷ t)) _ h)) in
     record {
       code = c;
       is_live_lem = refl;

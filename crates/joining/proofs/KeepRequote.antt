@@ -4,7 +4,7 @@ use mathlib.Core.Bool.{Bool, true, false, cond, not, ◌&&◌, ◌||◌, false�
 use mathlib.Core.List.{List, [], ◌∷◌, ◌++◌, map, append_assoc}
 use Prim.Native.Nat.{ℕ, zero, suc, ◌+◌, ◌≤◌, ◌<◌, zero-le, suc-le-suc}
 use native.Mathlib.Omega.{arith}
-use borrow.Author.Tests.{eqb-true, eq-eqb, ltb-true, ltb-false}
+use borrow.Author.Tests.{eqb-true, eq-eqb, ltb-true, ltb-false, not-true}
 use lib.Dec.{eqb, ltb}
 use lib.ListN.{length, take, drop, get_or, length-drop, drop_of_length-le}
 use lib.Seq.{take-suc, take-add, drop-drop, length-take-le}
@@ -20,7 +20,7 @@ use Rattle.spec.specs.Spans.{escapes, quote_len, quoted_len, tag_len, seek_len, 
 use Rattle.spec.specs.Map.{Marked, live, quoted, mark, marked, marked_text, bytes, region_of, span_flag}
 use Rattle.spec.specs.Requote.{doubled, single_quoted, requote_span, requote_lexeme, requoted}
 use Rattle.spec.specs.Closed.{ends_live, is_plain_region, is_plain_span, raises_followed, is_closed}
-use Rattle.joining.proofs.Bools.{clash, no, and_no, at, another}
+use Rattle.joining.proofs.Bools.{clash, and_no, at, another}
 use Rattle.joining.proofs.Reading.{leaves, leaves_append, cut, paste, Takes, takes_cons}
 use Rattle.joining.proofs.Statements.{ends_append, ends_rest}
 use Rattle.joining.proofs.WellFormed.{past, text_step, text_code, text_single, text_double, Open, clear, dash, slash, sign, tag, in_single, in_double, live_ok, quoted_ok, well_ok, tagged, live_next, quoted_next, well_next, is_out, Well, live_out, closes_tag, is_tag, opens_tag, Literal, single_literal, double_literal}
@@ -170,10 +170,7 @@ any_drop f (suc n) [] h = refl
 any_drop f (suc n) (c ∷ cs) h = any_drop f n cs (or_right (f c) (any f cs) h)
 
 flip : (a b : ℕ) → eqb a b ≡ false → eqb b a ≡ false
-flip a b e = by (eqb b a) (λ f. clash (sym (at (λ (n : ℕ). eqb a n ≡ true) a b f (same a)) ∙ e)) (λ f. f)
-  where
-    same : (a : ℕ) → eqb a a ≡ true
-    same a = eq-eqb a a refl
+flip a b e = by (eqb b a) (λ f. clash (sym (at (λ (n : ℕ). eqb a n ≡ true) a b f (eq-eqb a a refl)) ∙ e)) (λ f. f)
 
 -- a literal that is closed is read to its end
 module _ (e : Bool) (q : ℕ) (s : Open) (l : Literal q s) where
@@ -563,18 +560,18 @@ span_requoted c cs f ih =
     let p = front_plain single c cs e f in
     let m = quote_len true 39 cs in
     literal_case true 39 in_single single_literal c cs (eqb-true c 39 t) (text_single c cs e) (requoted_single c cs e) bs
-    (or_right (eqb 10 c) (any (eqb 10) (take m cs)) (no (any (eqb 10) (c ∷ take m cs)) p.here)) en
+    (or_right (eqb 10 c) (any (eqb 10) (take m cs)) (not-true (any (eqb 10) (c ∷ take m cs)) p.here)) en
     (λ er. ih (suc m) (suc-le-suc zero-le) (rest_fine m cs p.behind bs er)))
     (λ t e.
     let p = front_plain double c cs e f in
     let m = quote_len false 34 cs in
     literal_case false 34 in_double double_literal c cs (eqb-true c 34 t) (text_double c cs e) (requoted_double c cs e) bs
-    (or_right (eqb 10 c) (any (eqb 10) (take m cs)) (no (any (eqb 10) (c ∷ take m cs)) p.here)) en
+    (or_right (eqb 10 c) (any (eqb 10) (take m cs)) (not-true (any (eqb 10) (c ∷ take m cs)) p.here)) en
     (λ er. ih (suc m) (suc-le-suc zero-le) (rest_fine m cs p.behind bs er)))
     (λ o e.
     let p = front_plain dollar c cs e f in
     let m = whole c cs in
-    dollar_case c cs e o b (no (any (eqb 10) (take m xs)) p.here) en
+    dollar_case c cs e o b (not-true (any (eqb 10) (take m xs)) p.here) en
     (λ er. ih m (dollar_pos c cs) (rest_fine m xs p.behind b er)))
     (λ e. code_case c cs e f (λ g. ih 1 (suc-le-suc zero-le) g))
     refl
@@ -604,7 +601,7 @@ requote_kept a h =
     let en = and_left e (b && (p && r)) h in
     let q = requoted_fine (length a) a (omega arith) (record {
       plain = and_left p r h2;
-      slashless = no (any (eqb 92) a) (and_left b (p && r) h1);
+      slashless = not-true (any (eqb 92) a) (and_left b (p && r) h1);
       ended = or_second (is_empty a) e en;
     }) in
     record {

@@ -1,17 +1,18 @@
 -- Pass 4 keeps what a reading reads. Assumes nothing.
 use Rattle.std.specs.Prelude.{Option, Some, None}
+use Rattle.std.proofs.lemmas.Bool.{cond_both}
 use mathlib.Core.Path.{◌≡◌, refl, sym, ap, ◌∙◌, subst}
 use mathlib.Core.Bool.{Bool, true, false, cond, not, ◌&&◌, false≢true}
 use mathlib.Core.List.{List, [], ◌∷◌, ◌++◌, map, reverse, reverse-cons, reverse-append, reverse-reverse, append-nil}
 use Prim.Native.Nat.{ℕ, suc, ◌+◌, ◌-◌}
 use native.Mathlib.Omega.{arith}
-use borrow.Author.Tests.{eqb-true}
+use borrow.Author.Tests.{eqb-true, not-true}
 use lib.Dec.{eqb, ltb}
 use lib.ListN.{length, take, drop, take-append-drop}
 use lib.Seq.{drop-drop}
 use Rattle.spec.proofs.JoinedPieces.{live_byte}
 use Rattle.spec.proofs.ByteSets.{sign_not_w}
-use Rattle.spec.proofs.Choice.{by, cond_case, and_left, and_right}
+use Rattle.spec.proofs.Choice.{by, and_left, and_right}
 use Rattle.spec.proofs.ListLaws.{while_split}
 use Rattle.spec.proofs.FirstLaws.{first_least}
 use Rattle.spec.specs.Bytes.{ascii, within, is_lower, is_ident, is_quote, is_w, upper}
@@ -21,7 +22,7 @@ use Rattle.spec.specs.Search.{first, starts_ignoring_case, word_here, byte_here,
 use Rattle.spec.specs.Parts.{trim_end, trim, part}
 use Rattle.spec.specs.SelectInto.{depth_of, top_word_here, comma_here, listed, indentation, has_limit, subquery, set_line, set_lines, pair_up, place_or, from_part, front_place, select_cut, into_at, select_at, select_statement, join_selects, select_into}
 use Rattle.spec.specs.Closed.{ends_live}
-use Rattle.joining.proofs.Bools.{clash, no}
+use Rattle.joining.proofs.Bools.{clash}
 use Rattle.joining.proofs.Reading.{reads_more, leaves_append, cut, paste, Takes, takes_append, Reading}
 use Rattle.joining.proofs.Parts.{PlainWord, Read, ends, StandsAlone, BeforeSpace, nil_part, drop_end_lem, before_space_end, at_word, behind_word, part_between, AllBeforeSpace, comma_parts, trim_parts, keep_before_space}
 use Rattle.joining.proofs.Statements.{ends_append, Shut, shut_leaves, shut_append, Statements, FirstOf, statements}
@@ -205,8 +206,8 @@ module _ (k : Reading) where
       let b = and_right (front_live u) _ a in
       let m = and_left (starts_ignoring_case w u) _ b in
       let c = and_right (starts_ignoring_case w u) _ b in
-      let il = no (is_ident (front_byte back)) (and_left (not (is_ident (front_byte back))) _ c) in
-      let ir = no (is_ident (front_byte (drop (length w) u))) (and_right (not (is_ident (front_byte back))) _ c) in
+      let il = not-true (is_ident (front_byte back)) (and_left (not (is_ident (front_byte back))) _ c) in
+      let ir = not-true (is_ident (front_byte (drop (length w) u))) (and_right (not (is_ident (front_byte back))) _ c) in
       let s : reverse back ++ u ≡ t = ap (λ (z : List Marked). z ++ u) (reverse-reverse (take j t)) ∙ take-append-drop j t in
       let at = at_word k back u il lv (subst (λ (z : List Marked). Read k k.start z) (sym s) sh.reads) in
       let rt : k.rest (ends k k.start t) ≡ true = subst (λ (z : k.State). k.rest z ≡ true) (sym (shut_leaves k t k.start sh.ended)) k.rest_start in
@@ -248,7 +249,7 @@ module _ (k : Reading) where
   unfolding front_place
   front_parts None s t h p = (p.before, part_between k s s t p.here.reads p.is_live_lem)
   front_parts (Some j) s t h p =
-      cond_case (λ (n : ℕ). StandsAlone k (take n t) × StandsAlone k (part n s t)) (ltb j s) j s
+      cond_both (ltb j s) j s (λ (n : ℕ). StandsAlone k (take n t) × StandsAlone k (part n s t))
       (λ _. let q = h j refl in (q.before, part_between k j s t q.here.reads p.is_live_lem))
       (λ _. (p.before, part_between k s s t p.here.reads p.is_live_lem))
 
@@ -281,10 +282,10 @@ module _ (k : Reading) where
       let fr = from_part_lem from t hf in
       let indent = indentation (take front t) in
       let lines = set_lines indent (set_line (part front s t) (from_part from t)) cols vars in
-      cond_case (λ (z : List Marked). Shut k k.safe z) (pair_up cols vars) (take front t ++ lines) t
+      cond_both (pair_up cols vars) (take front t ++ lines) t (λ (z : List Marked). Shut k k.safe z)
       (λ e.
       let n = eqb-true (length cols) (length vars) (and_left (eqb (length cols) (length vars)) _ e) in
-      let m = no (is_empty cols) (and_left (not (is_empty cols)) _ (and_right (eqb (length cols) (length vars)) _ e)) in
+      let m = not-true (is_empty cols) (and_left (not (is_empty cols)) _ (and_right (eqb (length cols) (length vars)) _ e)) in
       let F = ends k k.start (take front t) in
       let g = lines_go indent (part front s t) (from_part from t) (indent_part (take front t) fp.0) fp.1 fr.0 fr.1 cols vars F n m pc pv fp.0.out in
       record {

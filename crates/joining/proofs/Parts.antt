@@ -1,5 +1,6 @@
 -- Parts of a text that is read: what is cut out between two words, trimmed or split is read from the start. Assumes
 -- nothing.
+use Rattle.std.proofs.lemmas.Bool.{cond_both, not_from_false}
 use mathlib.Core.Path.{◌≡◌, refl, sym, ap, ◌∙◌, subst}
 use mathlib.Core.Bool.{Bool, true, false, cond, not, ◌&&◌, false≢true}
 use mathlib.Core.List.{List, [], ◌∷◌, ◌++◌, map, reverse, reverse-cons}
@@ -10,13 +11,13 @@ use lib.Dec.{eqb, leb}
 use lib.ListN.{length, take, drop, take-append-drop}
 use lib.Seq.{drop-drop}
 use Rattle.spec.proofs.ByteSets.{sign_not_w}
-use Rattle.spec.proofs.Choice.{by, cond_case, and_left, and_right, or_first, or_second}
+use Rattle.spec.proofs.Choice.{by, and_left, and_right, or_first, or_second}
 use Rattle.spec.specs.Bytes.{within, is_lower, is_ident, is_quote, is_w, upper}
 use Rattle.spec.specs.Lists.{is_empty, drop_while, drop_end, all, keep}
 use Rattle.spec.specs.Map.{Marked, live, quoted, byte, front_byte, front_live, of_byte}
 use Rattle.spec.specs.Search.{Test, starts_ignoring_case, onto_first, pieces_from, pieces}
 use Rattle.spec.specs.Parts.{trim_end, trim, part}
-use Rattle.joining.proofs.Bools.{clash, yes, quotes, no_quote}
+use Rattle.joining.proofs.Bools.{clash, quotes, no_quote}
 use Rattle.joining.proofs.Reading.{Reads, leaves, leaves_append, cut, Reading}
 
 -- what stands at the front behind a run of such bytes is none of them
@@ -143,18 +144,14 @@ module _ (k : Reading) where
           → k.rest (ends s (cond (is_w (byte x) && is_empty u) [] (x ∷ u))) ≡ true
           → k.before_space (ends s (cond (is_w (byte x) && is_empty u) [] (x ∷ u))) ≡ true
       go [] ih =
-          cond_case
-          (λ (l : List Marked). (is_empty l ≡ true → k.before_space s ≡ true) → Read s l → k.rest (ends s l) ≡ true → k.before_space (ends s l) ≡ true)
-          (is_w (byte x) && true) [] (x ∷ [])
+          cond_both (is_w (byte x) && true) [] (x ∷ []) (λ (l : List Marked). (is_empty l ≡ true → k.before_space s ≡ true) → Read s l → k.rest (ends s l) ≡ true → k.before_space (ends s l) ≡ true)
           (λ c e r h. e refl)
           (λ c e r h. k.settle s x (not_white c) r.0 h)
         where
           not_white : (is_w (byte x) && true) ≡ false → is_w (byte x) ≡ false
           not_white c = by (is_w (byte x)) (λ w. clash (sym (rw w refl) ∙ c)) (λ w. w)
       go (y ∷ u) ih =
-          cond_case
-          (λ (l : List Marked). (is_empty l ≡ true → k.before_space s ≡ true) → Read s l → k.rest (ends s l) ≡ true → k.before_space (ends s l) ≡ true)
-          (is_w (byte x) && false) [] (x ∷ y ∷ u)
+          cond_both (is_w (byte x) && false) [] (x ∷ y ∷ u) (λ (l : List Marked). (is_empty l ≡ true → k.before_space s ≡ true) → Read s l → k.rest (ends s l) ≡ true → k.before_space (ends s l) ≡ true)
           (λ c e r h. e refl)
           (λ c e r h. ih (λ z. absurd (false≢true z)) r.1 h)
 
@@ -207,7 +204,7 @@ module _ (k : Reading) where
   behind_word w u p m i r =
       let q = past_word w u k.start p m r k.rest_start in
       let v = drop (length w) u in
-      let f = k.fresh v q.0 (or_second (k.edge q.0) (not (is_ident (front_byte v))) (yes (is_ident (front_byte v)) i)) q.2 q.1 in
+      let f = k.fresh v q.0 (or_second (k.edge q.0) (not (is_ident (front_byte v))) (not_from_false (is_ident (front_byte v)) i)) q.2 q.1 in
       (f.0, (λ h. f.1 (subst (λ (s : k.State). k.rest s ≡ true) q.3 h)))
 
   -- the part from one place to another, where a live byte stands

@@ -2,7 +2,7 @@
 -- are laws on marked texts. Assumes nothing.
 use mathlib.Core.Path.{◌≡◌, refl, sym, ap, ◌∙◌, subst}
 use mathlib.Core.Bool.{Bool, true, false, cond, not, ◌&&◌, false≢true}
-use mathlib.Core.List.{List, [], ◌∷◌, ◌++◌, map, append_assoc, append-nil}
+use mathlib.Core.List.{List, [], ◌∷◌, ◌++◌, map, append_assoc, append-nil, map-append}
 use Prim.Native.Nat.{ℕ, zero, suc, ◌≤◌, zero-le, suc-le-suc}
 use native.Mathlib.Nat.{le_of_suc-le-suc, not-suc-le-zero}
 use borrow.Author.Tests.{not-true}
@@ -11,7 +11,6 @@ use lib.ListN.{length, drop}
 use Rattle.spec.proofs.RefusalOutcomes.{statement_nil}
 use Rattle.spec.proofs.ByteSets.{sign_not_word}
 use Rattle.spec.proofs.Choice.{by, and_left, and_right}
-use Rattle.spec.proofs.MapLaws.{map_append}
 use Rattle.spec.proofs.ListLaws.{concat_append}
 use Rattle.spec.proofs.LengthLaws.{word_in}
 use Rattle.spec.proofs.JoinedPieces.{pieces_cons}
@@ -40,7 +39,7 @@ at_end P f t h =
 pub requoted_join : (a b : List ℕ) → ends_live (marked_text a) ≡ true → requoted (a ++ b) ≡ requoted a ++ requoted b
 unfolding requoted
 requoted_join a b h =
-    rw (lexemes_join a b h, map_append requote_lexeme (lexemes a) (lexemes b))
+    rw (lexemes_join a b h, map-append requote_lexeme (lexemes a) (lexemes b))
     (concat_append (map requote_lexeme (lexemes a)) (map requote_lexeme (lexemes b)))
 
 -- ---- words before a `;`

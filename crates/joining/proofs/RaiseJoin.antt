@@ -1,6 +1,7 @@
 -- Pass 5 over two texts joined, the first with a live `;` at its end and each of its RAISE followed safely: the two outcomes
 -- joined. Assumes nothing.
 use Rattle.std.specs.Prelude.{Option, Some, None}
+use Rattle.std.proofs.lemmas.Bool.{cond_both}
 use mathlib.Core.Path.{◌≡◌, refl, sym, ap, ◌∙◌}
 use mathlib.Core.Bool.{Bool, true, false, not, ◌&&◌, ◌||◌, false≢true}
 use mathlib.Core.List.{List, [], ◌∷◌, ◌++◌, append_assoc}
@@ -15,7 +16,7 @@ use Rattle.spec.proofs.RefusalOutcomes.{outcome_none}
 use Rattle.spec.proofs.ByteSets.{sign_not_ident, sign_not_w, gap_w, ident_not_w}
 use Rattle.spec.proofs.BytesLaws.{bytes_append}
 use Rattle.spec.proofs.Apart.{apart}
-use Rattle.spec.proofs.Choice.{by, cond_case, and_left, and_right, or_left, or_right}
+use Rattle.spec.proofs.Choice.{by, and_left, and_right, or_left, or_right}
 use Rattle.spec.proofs.MapLaws.{mark_byte, text_length}
 use Rattle.spec.proofs.LengthLaws.{word_in}
 use Rattle.spec.specs.Bytes.{ascii, within, is_lower, is_ident, is_word, is_w, is_pair, upper}
@@ -140,7 +141,7 @@ module _ (g : Marked → Bool) (stop : g (live 59) ≡ false) where
   unfolding take_while
   while_before [] = rw stop (suc-le-suc zero-le)
   while_before (x ∷ s) =
-      cond_case (λ (l : List Marked). length l < suc (length (s ++ (live 59 ∷ [])))) (g x) _ _
+      cond_both (g x) _ _ (λ (l : List Marked). length l < suc (length (s ++ (live 59 ∷ []))))
       (λ _. suc-le-suc (while_before s)) (λ _. suc-le-suc zero-le)
 
   -- what stops at a `;` stops at the text's last one at the latest, whatever stands behind

@@ -1,17 +1,18 @@
 -- What stands behind RAISE, read from the left. A RAISE that no identifier byte touches has a space behind it and then
 -- neither W nor `;`, and a word there that a level may begin ends in a space or `;`. Behind pass 4 a `)` may stand behind
 -- RAISE, and `);` behind the word. Passes 3 and 4 may cut and glue such text as they do. Assumes nothing.
+use Rattle.std.proofs.lemmas.Bool.{cond_both}
 use mathlib.Core.Path.{◌≡◌, refl, sym, ap, ◌∙◌, subst}
 use mathlib.Core.Bool.{Bool, true, false, cond, not, ◌&&◌, ◌||◌, false≢true}
 use mathlib.Core.List.{List, [], ◌∷◌}
 use Prim.Native.Nat.{ℕ}
-use borrow.Author.Tests.{eqb-true}
+use borrow.Author.Tests.{eqb-true, not-true}
 use lib.Dec.{eqb}
 use Rattle.spec.proofs.ByteSets.{sign_not_ident, sign_not_w, gap_w, letter_ident, letter_not_w, w_not_ident, upper_cases}
-use Rattle.spec.proofs.Choice.{by, cond_case, or_cases, and_left, and_right}
+use Rattle.spec.proofs.Choice.{by, or_cases, and_left, and_right}
 use Rattle.spec.specs.Bytes.{ascii, within, is_digit, is_lower, is_upper, is_ident, is_w, upper}
 use Rattle.spec.specs.Map.{Marked, live, byte, is_live, lives, front_byte}
-use Rattle.joining.proofs.Bools.{clash, no, and_no, at, another}
+use Rattle.joining.proofs.Bools.{clash, and_no, at, another}
 use Rattle.joining.proofs.Reading.{Reads, leaves, Takes, Reading, reads_all, put_in}
 
 -- where the reading stands: behind no identifier byte, in a word, behind so many letters of RAISE, behind RAISE and a
@@ -124,12 +125,12 @@ no_level_letter c h = by (level_letter c) (λ e. clash (sym (level_letter_lem c 
 pub start_cases : (P : Seen → Type 0) (x : Marked) → P edge → P in_word → P r1 → P (word_start x)
 unfolding word_start
 start_cases P x a b c =
-    cond_case P (is_ident (byte x)) _ edge (λ _. cond_case P (is_live x && eqb (upper (byte x)) 82) r1 in_word (λ _. c) (λ _. b)) (λ _. a)
+    cond_both (is_ident (byte x)) _ edge P (λ _. cond_both (is_live x && eqb (upper (byte x)) 82) r1 in_word P (λ _. c) (λ _. b)) (λ _. a)
 
 pub letter_cases : (P : Seen → Type 0) (a : ℕ) (s : Seen) (x : Marked) → P edge → P in_word → P s → P (letter_next a s x)
 unfolding letter_next
 letter_cases P a s x e w h =
-    cond_case P (is_ident (byte x)) _ edge (λ _. cond_case P (eqb (upper (byte x)) a) s in_word (λ _. h) (λ _. w)) (λ _. e)
+    cond_both (is_ident (byte x)) _ edge P (λ _. cond_both (eqb (upper (byte x)) a) s in_word P (λ _. h) (λ _. w)) (λ _. e)
 
 pub seen_safer : (s : Seen) (x : Marked) → seen_ok false s x ≡ true → seen_ok true s x ≡ true
 seen_safer edge x h = refl
@@ -167,7 +168,7 @@ seen_alive closed x h = h
 pub seen_forth : (s : Seen) (x : Marked) → seen_ok false s x ≡ true → seen_rest (seen_next s x) ≡ true
 unfolding seen_next
 seen_forth edge x h = start_cases (λ (z : Seen). seen_rest z ≡ true) x refl refl refl
-seen_forth in_word x h = cond_case (λ (z : Seen). seen_rest z ≡ true) (is_ident (byte x)) in_word edge (λ _. refl) (λ _. refl)
+seen_forth in_word x h = cond_both (is_ident (byte x)) in_word edge (λ (z : Seen). seen_rest z ≡ true) (λ _. refl) (λ _. refl)
 seen_forth r1 x h = letter_cases (λ (z : Seen). seen_rest z ≡ true) 65 r2 x refl refl refl
 seen_forth r2 x h = letter_cases (λ (z : Seen). seen_rest z ≡ true) 73 r3 x refl refl refl
 seen_forth r3 x h = letter_cases (λ (z : Seen). seen_rest z ≡ true) 83 r4 x refl refl refl
@@ -175,7 +176,7 @@ seen_forth r4 x h = letter_cases (λ (z : Seen). seen_rest z ≡ true) 69 r5 x r
 seen_forth r5 x h =
     by (is_ident (byte x)) (λ e. rw e refl) (λ e. rw e (by (eqb (byte x) 32) (λ f. rw f refl) (λ f. clash (sym (rw (e, f) at h)))))
 seen_forth gap x h =
-    cond_case (λ (z : Seen). seen_rest z ≡ true) (level_letter (byte x)) in_level (word_start x) (λ _. refl)
+    cond_both (level_letter (byte x)) in_level (word_start x) (λ (z : Seen). seen_rest z ≡ true) (λ _. refl)
     (λ _. start_cases (λ (z : Seen). seen_rest z ≡ true) x refl refl refl)
 seen_forth paren x h = absurd (false≢true h)
 seen_forth in_level x h =
@@ -189,7 +190,7 @@ seen_forth closed x h = absurd (false≢true h)
 pub seen_settle : (s : Seen) (x : Marked) → is_w (byte x) ≡ false → seen_ok false s x ≡ true → seen_before_space (seen_next s x) ≡ true
 unfolding seen_next
 seen_settle edge x w h = start_cases (λ (z : Seen). seen_before_space z ≡ true) x refl refl refl
-seen_settle in_word x w h = cond_case (λ (z : Seen). seen_before_space z ≡ true) (is_ident (byte x)) in_word edge (λ _. refl) (λ _. refl)
+seen_settle in_word x w h = cond_both (is_ident (byte x)) in_word edge (λ (z : Seen). seen_before_space z ≡ true) (λ _. refl) (λ _. refl)
 seen_settle r1 x w h = letter_cases (λ (z : Seen). seen_before_space z ≡ true) 65 r2 x refl refl refl
 seen_settle r2 x w h = letter_cases (λ (z : Seen). seen_before_space z ≡ true) 73 r3 x refl refl refl
 seen_settle r3 x w h = letter_cases (λ (z : Seen). seen_before_space z ≡ true) 83 r4 x refl refl refl
@@ -200,7 +201,7 @@ seen_settle r5 x w h =
     (λ f. let n : eqb (byte x) 32 ≡ false = another is_w 32 (byte x) (gap_w 32 refl) w in clash (sym f ∙ n))
     (λ f. clash (sym f)))
 seen_settle gap x w h =
-    cond_case (λ (z : Seen). seen_before_space z ≡ true) (level_letter (byte x)) in_level (word_start x) (λ _. refl)
+    cond_both (level_letter (byte x)) in_level (word_start x) (λ (z : Seen). seen_before_space z ≡ true) (λ _. refl)
     (λ _. start_cases (λ (z : Seen). seen_before_space z ≡ true) x refl refl refl)
 seen_settle paren x w h = absurd (false≢true h)
 seen_settle in_level x w h =
@@ -291,7 +292,7 @@ behind_word x u closed i h r = absurd (false≢true h)
 seen_start : (u : List Marked) (s : Seen) → (seen_edge s || not (is_ident (front_byte u))) ≡ true → seen_rest s ≡ true → RaiseRead s u → RaiseRead edge u
 unfolding front_byte seen_next word_start
 seen_start [] s e h r = tt
-seen_start (x ∷ u) s e h r = by (seen_edge s) (λ d. at_edge s d h r) (λ d. let i = no (is_ident (byte x)) (rw d at e) in (refl, rw i (behind_word x u s i h r)))
+seen_start (x ∷ u) s e h r = by (seen_edge s) (λ d. at_edge s d h r) (λ d. let i = not-true (is_ident (byte x)) (rw d at e) in (refl, rw i (behind_word x u s i h r)))
   where
     at_edge : (s : Seen) → seen_edge s ≡ true → seen_rest s ≡ true → RaiseRead s (x ∷ u) → RaiseRead edge (x ∷ u)
     at_edge edge d h r = r

@@ -1,12 +1,13 @@
 -- A text that is read from the left with `)` allowed behind RAISE, and that ends in a live `;`, has what pass 5 needs.
 -- Assumes nothing.
 use Rattle.std.specs.Prelude.{Option, Some, None}
+use Rattle.std.proofs.lemmas.Bool.{not_from_false}
 use mathlib.Core.Path.{◌≡◌, refl, sym, ap, ◌∙◌, subst}
 use mathlib.Core.Bool.{true, false, not, ◌&&◌, ◌||◌, false≢true}
 use mathlib.Core.List.{List, [], ◌∷◌, cons≢nil}
 use Prim.Native.Nat.{ℕ, suc}
 use native.Mathlib.Omega.{arith}
-use borrow.Author.Tests.{eqb-true, le-leb}
+use borrow.Author.Tests.{eqb-true, le-leb, not-true}
 use lib.Dec.{eqb, leb}
 use lib.ListN.{length, drop}
 use lib.Seq.{drop-drop}
@@ -21,7 +22,7 @@ use Rattle.spec.specs.Raise.{level_words, level_in}
 use Rattle.spec.specs.declared.Level.{Level}
 use Rattle.spec.specs.Closed.{ends_live}
 use Rattle.joining.specs.Safe.{ends_level_safely, level_safe, safe_behind, raises_safe}
-use Rattle.joining.proofs.Bools.{clash, no, yes, at}
+use Rattle.joining.proofs.Bools.{clash, at}
 use Rattle.joining.proofs.Reading.{Reads}
 use Rattle.joining.proofs.Statements.{ends_rest, ends_ident}
 use Rattle.joining.proofs.RaiseRead.{Seen, edge, in_word, r1, r2, r3, r4, r5, gap, paren, in_level, closed, level_letter, level_letter_lem, word_start, letter_next, seen_next, seen_ok, seen_edge}
@@ -116,7 +117,7 @@ gap_safe (x ∷ t) h r =
 paren_safe : (t : List Marked) → ends_live t ≡ true → Guarded paren t → level_safe (level_in level_words t) t ≡ true
 unfolding ends_live
 paren_safe [] h r = absurd (false≢true h)
-paren_safe (x ∷ t) h r = rw (no_level x t (no (level_letter (byte x)) r.0)) refl
+paren_safe (x ∷ t) h r = rw (no_level x t (not-true (level_letter (byte x)) r.0)) refl
 
 two_long : (t : List Marked) → ends_live t ≡ true → leb 2 (suc (length t)) ≡ true
 unfolding ends_live
@@ -210,10 +211,10 @@ raise_safe s p x t e h r w =
     let w1 = and_right (is_live x) _ w in
     let m = and_left (starts_ignoring_case (ascii "RAISE") (x ∷ t)) _ w1 in
     let w2 = and_right (starts_ignoring_case (ascii "RAISE") (x ∷ t)) _ w1 in
-    let left = not_word p (no (is_word p) (and_left (not (is_word p)) _ w2)) in
-    let right = not_word (front_byte (drop 4 t)) (no (is_word (front_byte (drop 4 t))) (and_right (not (is_word p)) _ w2)) in
+    let left = not_word p (not-true (is_word p) (and_left (not (is_word p)) _ w2)) in
+    let right = not_word (front_byte (drop 4 t)) (not-true (is_word (front_byte (drop 4 t))) (and_right (not (is_word p)) _ w2)) in
     let u = capital 82 refl refl (byte x) (and_left (eqb (upper (byte x)) (upper 82)) (starts_ignoring_case (ascii "AISE") t) m) in
-    let n = r_next s x (e ∙ yes (is_ident p) left) l u.0 u.1 in
+    let n = r_next s x (e ∙ not_from_false (is_ident p) left) l u.0 u.1 in
     let b =
     aise t
     (record {

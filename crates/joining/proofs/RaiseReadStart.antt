@@ -1,18 +1,20 @@
 -- A text each of whose RAISE is followed as *closed* says is read from the left. Assumes nothing.
+use Rattle.std.proofs.lemmas.Bool.{cond_both, and_from}
 use mathlib.Core.Path.{◌≡◌, refl, sym, subst}
 use mathlib.Core.Bool.{true, false, not, ◌&&◌, ◌||◌}
 use mathlib.Core.List.{List, [], ◌∷◌}
 use Prim.Native.Nat.{ℕ}
 use lib.Dec.{eqb}
 use lib.ListN.{length, drop}
+use borrow.Author.Tests.{not-true}
 use Rattle.spec.proofs.ByteSets.{sign_not_ident, ident_not_w}
-use Rattle.spec.proofs.Choice.{by, cond_case, and_left, and_right, and_both, or_cases}
+use Rattle.spec.proofs.Choice.{by, and_left, and_right, or_cases}
 use Rattle.spec.specs.Bytes.{ascii, within, is_lower, is_ident, upper}
 use Rattle.spec.specs.Lists.{drop_while}
 use Rattle.spec.specs.Map.{Marked, byte, is_live, front_byte, front_live, of_byte}
 use Rattle.spec.specs.Search.{starts_ignoring_case, word_here}
 use Rattle.spec.specs.Closed.{ends_word, is_followed, raises_followed}
-use Rattle.joining.proofs.Bools.{no, at, other}
+use Rattle.joining.proofs.Bools.{at, other}
 use Rattle.joining.proofs.RaiseRead.{Seen, edge, in_word, r1, r2, r3, r4, r5, gap, paren, in_level, closed, level_letter, level_letter_lem, word_start, letter_next, seen_next, seen_ok, seen_edge, RaiseRead}
 
 -- where w stands in front and no identifier byte behind it, what follows is as *closed* says
@@ -38,14 +40,14 @@ start_edge : (x : Marked) → seen_edge (word_start x) ≡ not (is_ident (byte x
 unfolding word_start
 start_edge x =
     by (is_ident (byte x))
-    (λ i. rw i (cond_case (λ (z : Seen). seen_edge z ≡ false) (is_live x && eqb (upper (byte x)) 82) r1 in_word (λ _. refl) (λ _. refl)))
+    (λ i. rw i (cond_both (is_live x && eqb (upper (byte x)) 82) r1 in_word (λ (z : Seen). seen_edge z ≡ false) (λ _. refl) (λ _. refl)))
     (λ i. rw i refl)
 
 letter_edge : (a : ℕ) (s : Seen) (x : Marked) → seen_edge s ≡ false → seen_edge (letter_next a s x) ≡ not (is_ident (byte x))
 unfolding letter_next
 letter_edge a s x h =
     by (is_ident (byte x))
-    (λ i. rw i (cond_case (λ (z : Seen). seen_edge z ≡ false) (eqb (upper (byte x)) a) s in_word (λ _. h) (λ _. refl)))
+    (λ i. rw i (cond_both (eqb (upper (byte x)) a) s in_word (λ (z : Seen). seen_edge z ≡ false) (λ _. h) (λ _. refl)))
     (λ i. rw i refl)
 
 pub edge_byte : (s : Seen) (x : Marked) → seen_edge (seen_next s x) ≡ not (is_ident (byte x))
@@ -66,13 +68,13 @@ edge_byte closed x = start_edge x
 -- one letter further
 owes_next : (a : ℕ) (w : List ℕ) (x : Marked) (t : List Marked) → Owes (a ∷ w) (x ∷ t) → eqb (upper (byte x)) (upper a) ≡ true → Owes w t
 unfolding starts_ignoring_case
-owes_next a w x t o e m i = o (and_both (eqb (upper (byte x)) (upper a)) (starts_ignoring_case w t) e m) i
+owes_next a w x t o e m i = o (and_from (eqb (upper (byte x)) (upper a)) (starts_ignoring_case w t) e m) i
 
 letter_known : (a : ℕ) (w : List ℕ) (s : Seen) (x : Marked) (t : List Marked) → (Owes w t → Known s t) → Owes (a ∷ w) (x ∷ t) → upper a ≡ a → Known (letter_next a s x) t
 unfolding letter_next
 letter_known a w s x t k o u =
-    cond_case (λ (z : Seen). Known z t) (is_ident (byte x)) _ edge
-    (λ _. cond_case (λ (z : Seen). Known z t) (eqb (upper (byte x)) a) s in_word
+    cond_both (is_ident (byte x)) _ edge (λ (z : Seen). Known z t)
+    (λ _. cond_both (eqb (upper (byte x)) a) s in_word (λ (z : Seen). Known z t)
     (λ e. k (owes_next a w x t o (subst (λ (n : ℕ). eqb (upper (byte x)) n ≡ true) (sym u) e))) (λ _. tt))
     (λ _. tt)
 
@@ -80,8 +82,8 @@ letter_known a w s x t k o u =
 start_known : (p : ℕ) (x : Marked) (t : List Marked) → is_ident p ≡ false → raises_followed p (x ∷ t) ≡ true → Known (word_start x) t
 unfolding word_start raises_followed word_here front_live starts_ignoring_case upper is_lower within
 start_known p x t n h =
-    cond_case (λ (z : Seen). Known z t) (is_ident (byte x)) _ edge
-    (λ _. cond_case (λ (z : Seen). Known z t) (is_live x && eqb (upper (byte x)) 82) r1 in_word
+    cond_both (is_ident (byte x)) _ edge (λ (z : Seen). Known z t)
+    (λ _. cond_both (is_live x && eqb (upper (byte x)) 82) r1 in_word (λ (z : Seen). Known z t)
     (λ e m i.
     let l = and_left (is_live x) (eqb (upper (byte x)) 82) e in
     let u = and_right (is_live x) (eqb (upper (byte x)) 82) e in
@@ -133,21 +135,21 @@ gap_known p x t n h k =
     let i = and_left (is_ident (byte x)) _ k in
     let d = and_right (is_ident (byte x)) _ k in (
       rw (ident_not_w (byte x) i, other is_ident 59 (byte x) (sign_not_ident 59 refl) i) refl,
-      cond_case (λ (z : Seen). Known z t) (level_letter (byte x)) in_level (word_start x) (λ _. rw i at d) (λ _. start_known p x t n h),
+      cond_both (level_letter (byte x)) in_level (word_start x) (λ (z : Seen). Known z t) (λ _. rw i at d) (λ _. start_known p x t n h),
     )
 
 -- one byte: it is allowed, and what is known goes on
 step : (s : Seen) (p : ℕ) (x : Marked) (t : List Marked) → seen_edge s ≡ not (is_ident p) → raises_followed p (x ∷ t) ≡ true → Known s (x ∷ t)
     → (seen_ok false s x ≡ true) × Known (seen_next s x) t
 unfolding seen_next upper is_lower within
-step edge p x t e h k = (refl, start_known p x t (no (is_ident p) (sym e)) h)
-step in_word p x t e h k = (refl, cond_case (λ (z : Seen). Known z t) (is_ident (byte x)) in_word edge (λ _. tt) (λ _. tt))
+step edge p x t e h k = (refl, start_known p x t (not-true (is_ident p) (sym e)) h)
+step in_word p x t e h k = (refl, cond_both (is_ident (byte x)) in_word edge (λ (z : Seen). Known z t) (λ _. tt) (λ _. tt))
 step r1 p x t e h k = (refl, letter_known 65 (ascii "ISE") r2 x t (λ o. o) k refl)
 step r2 p x t e h k = (refl, letter_known 73 (ascii "SE") r3 x t (λ o. o) k refl)
 step r3 p x t e h k = (refl, letter_known 83 (ascii "E") r4 x t (λ o. o) k refl)
 step r4 p x t e h k = (refl, letter_known 69 [] r5 x t (λ o. o) k refl)
 step r5 p x t e h k = five_known x t k
-step gap p x t e h k = gap_known p x t (no (is_ident p) (sym e)) h k
+step gap p x t e h k = gap_known p x t (not-true (is_ident p) (sym e)) h k
 step paren p x t e h k = absurd k
 step in_level p x t e h k = level_known x t k
 step closed p x t e h k = absurd k

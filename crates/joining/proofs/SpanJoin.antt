@@ -1,8 +1,9 @@
 -- A text whose last byte is a live `;` is read the same with any text behind it, and that text is read as from its start:
 -- spans, map and marks of the joined text are those of the two, joined. Assumes nothing.
+use Rattle.std.proofs.lemmas.Bool.{cond_both}
 use mathlib.Core.Path.{◌≡◌, refl, sym, ap, ◌∙◌}
 use mathlib.Core.Bool.{Bool, true, false, cond, ◌&&◌, false≢true}
-use mathlib.Core.List.{List, [], ◌∷◌, ◌++◌, append_assoc}
+use mathlib.Core.List.{List, [], ◌∷◌, ◌++◌, append_assoc, map-append}
 use Prim.Native.Nat.{ℕ, zero, suc, ◌+◌, ◌-◌, ◌≤◌, ◌<◌, zero-le, suc-le-suc}
 use native.Mathlib.Nat.{le_of_suc-le-suc, not-suc-le-zero}
 use native.Mathlib.Omega.{arith}
@@ -11,9 +12,8 @@ use lib.Dec.{eqb}
 use lib.ListN.{length, take, drop, replicate, length-drop, get_or-append}
 use lib.Seq.{length-take-le, take-append-le, drop-append-le}
 use Rattle.spec.proofs.ByteSets.{sign_not_ident}
-use Rattle.spec.proofs.Choice.{cond_case}
 use Rattle.spec.proofs.SpanLaws.{seek_le, seek_miss, prefix_len, opens_in, by_kind, span_pos, span_le}
-use Rattle.spec.proofs.MapLaws.{map_append, map_length, map_step}
+use Rattle.spec.proofs.MapLaws.{map_length, map_step}
 use Rattle.spec.specs.Bytes.{is_ident, is_pair, is_prefix}
 use Rattle.spec.specs.Spans.{line_len, comment_len, block_len, escapes, quote_len, quoted_len, tag_len, seek_len, opens_dollar, dollar_of, code, kind_at, span_of, span_at, span_len, Lexeme, lexeme_at, lexemes_from, lexemes}
 use Rattle.spec.specs.Map.{region_of, regions_of, flag, map_of, Marked, live, quoted, mark, marked, marked_text, is_live_byte, span_flag}
@@ -27,12 +27,6 @@ cond_keep : (b : Bool) (x y x' y' n : ℕ) → (x < n → x' ≡ x) → (y < n �
 cond_keep true x y x' y' n p q h = p h
 cond_keep false x y x' y' n p q h = q h
 
-down : {m n : ℕ} → suc m < suc n → m < n
-down h = le_of_suc-le-suc h
-
-up : {x y : ℕ} → x ≡ y → suc x ≡ suc y
-up e = ap suc e
-
 -- a length below the text's is the same with more text behind
 module _ (ys : List ℕ) where
   pub quote_keep : (e : Bool) (q : ℕ) (xs : List ℕ) → quote_len e q xs < length xs → quote_len e q (xs ++ ys) ≡ quote_len e q xs
@@ -41,10 +35,10 @@ module _ (ys : List ℕ) where
   quote_keep e q (c ∷ []) h = absurd (omega arith)
   quote_keep e q (c ∷ d ∷ cs) h =
       let n = suc (suc (length cs)) in
-      cond_keep (escapes e c) _ _ _ _ n (λ k. up (up (quote_keep e q cs (down (down k)))))
+      cond_keep (escapes e c) _ _ _ _ n (λ k. ap suc (ap suc (quote_keep e q cs (le_of_suc-le-suc (le_of_suc-le-suc k)))))
       (cond_keep (eqb c q) _ _ _ _ n
-      (cond_keep (eqb d q) _ _ _ _ n (λ k. up (up (quote_keep e q cs (down (down k))))) (λ _. refl))
-      (λ k. up (quote_keep e q (d ∷ cs) (down k))))
+      (cond_keep (eqb d q) _ _ _ _ n (λ k. ap suc (ap suc (quote_keep e q cs (le_of_suc-le-suc (le_of_suc-le-suc k))))) (λ _. refl))
+      (λ k. ap suc (quote_keep e q (d ∷ cs) (le_of_suc-le-suc k))))
       h
 
   pub comment_keep : (k : ℕ) (xs : List ℕ) → comment_len k xs < length xs → comment_len k (xs ++ ys) ≡ comment_len k xs
@@ -53,21 +47,21 @@ module _ (ys : List ℕ) where
   comment_keep k (c ∷ []) h = absurd (omega arith)
   comment_keep k (c ∷ d ∷ cs) h =
       let n = suc (suc (length cs)) in
-      cond_keep (is_pair 47 42 c d) _ _ _ _ n (λ l. up (up (comment_keep (suc k) cs (down (down l)))))
+      cond_keep (is_pair 47 42 c d) _ _ _ _ n (λ l. ap suc (ap suc (comment_keep (suc k) cs (le_of_suc-le-suc (le_of_suc-le-suc l)))))
       (cond_keep (is_pair 42 47 c d) _ _ _ _ n
-      (cond_keep (eqb k 1) _ _ _ _ n (λ _. refl) (λ l. up (up (comment_keep (k - 1) cs (down (down l))))))
-      (λ l. up (comment_keep k (d ∷ cs) (down l))))
+      (cond_keep (eqb k 1) _ _ _ _ n (λ _. refl) (λ l. ap suc (ap suc (comment_keep (k - 1) cs (le_of_suc-le-suc (le_of_suc-le-suc l))))))
+      (λ l. ap suc (comment_keep k (d ∷ cs) (le_of_suc-le-suc l))))
       h
 
   pub line_keep : (xs : List ℕ) → line_len xs < length xs → line_len (xs ++ ys) ≡ line_len xs
   unfolding line_len
   line_keep [] h = absurd (not-suc-le-zero h)
-  line_keep (c ∷ cs) h = cond_keep (eqb c 10) _ _ _ _ (suc (length cs)) (λ _. refl) (λ k. up (line_keep cs (down k))) h
+  line_keep (c ∷ cs) h = cond_keep (eqb c 10) _ _ _ _ (suc (length cs)) (λ _. refl) (λ k. ap suc (line_keep cs (le_of_suc-le-suc k))) h
 
   pub tag_keep : (xs : List ℕ) → tag_len xs < length xs → tag_len (xs ++ ys) ≡ tag_len xs
   unfolding tag_len
   tag_keep [] h = absurd (not-suc-le-zero h)
-  tag_keep (c ∷ cs) h = cond_keep (is_ident c) _ _ _ _ (suc (length cs)) (λ k. up (tag_keep cs (down k))) (λ _. refl) h
+  tag_keep (c ∷ cs) h = cond_keep (is_ident c) _ _ _ _ (suc (length cs)) (λ k. ap suc (tag_keep cs (le_of_suc-le-suc k))) (λ _. refl) h
 
   -- p stands in front of more text exactly if it stood in front of the text, where that is as long as p
   pub prefix_keep : (p xs : List ℕ) → length p ≤ length xs → is_prefix p (xs ++ ys) ≡ is_prefix p xs
@@ -82,18 +76,18 @@ module _ (ys : List ℕ) where
   seek_keep p (x ∷ xs) z h =
       rw (prefix_keep p (x ∷ xs) (omega arith))
       (cond_keep (is_prefix p (x ∷ xs)) 0 (suc (seek_len p xs)) 0 (suc (seek_len p (xs ++ ys))) (suc (length xs) + 1 - length p)
-      (λ _. refl) (λ k. up (seek_keep p xs z (omega arith))) (omega arith))
+      (λ _. refl) (λ k. ap suc (seek_keep p xs z (omega arith))) (omega arith))
 
   pub block_keep : (xs : List ℕ) → block_len xs < length xs → block_len (xs ++ ys) ≡ block_len xs
   unfolding block_len
   block_keep [] h = absurd (not-suc-le-zero h)
   block_keep (c ∷ []) h = absurd (omega arith)
-  block_keep (c ∷ d ∷ cs) h = up (up (comment_keep 1 cs (down (down h))))
+  block_keep (c ∷ d ∷ cs) h = ap suc (ap suc (comment_keep 1 cs (le_of_suc-le-suc (le_of_suc-le-suc h))))
 
   pub quoted_keep : (e : Bool) (q : ℕ) (xs : List ℕ) → quoted_len e q xs < length xs → quoted_len e q (xs ++ ys) ≡ quoted_len e q xs
   unfolding quoted_len
   quoted_keep e q [] h = absurd (not-suc-le-zero h)
-  quoted_keep e q (c ∷ cs) h = up (quote_keep e q cs (down h))
+  quoted_keep e q (c ∷ cs) h = ap suc (quote_keep e q cs (le_of_suc-le-suc h))
 
 -- a dollar literal that ends before the text does
 dollar_keep : (xs ys : List ℕ) (n : ℕ) → 2 ≤ n → n ≤ length xs → (dollar_of n xs).span < length xs → dollar_of n (xs ++ ys) ≡ dollar_of n xs
@@ -241,10 +235,10 @@ ends_tag k (c ∷ []) h = rw ((ends_one k c h).1, sign_not_ident 59 refl) (suc-l
 ends_tag zero (c ∷ d ∷ cs) h =
     let m = span_len (span_at (c ∷ d ∷ cs)) - 1 in
     let r = ends_tag m (d ∷ cs) (ends_rest (mark (span_flag (span_at (c ∷ d ∷ cs))) c) m d cs h) in
-    cond_case (λ (n : ℕ). n < suc (length (d ∷ cs))) (is_ident c) _ _ (λ _. suc-le-suc r) (λ _. suc-le-suc zero-le)
+    cond_both (is_ident c) _ _ (λ (n : ℕ). n < suc (length (d ∷ cs))) (λ _. suc-le-suc r) (λ _. suc-le-suc zero-le)
 ends_tag (suc k) (c ∷ d ∷ cs) h =
     let r = ends_tag k (d ∷ cs) (ends_rest (quoted c) k d cs h) in
-    cond_case (λ (n : ℕ). n < suc (length (d ∷ cs))) (is_ident c) _ _ (λ _. suc-le-suc r) (λ _. suc-le-suc zero-le)
+    cond_both (is_ident c) _ _ (λ (n : ℕ). n < suc (length (d ∷ cs))) (λ _. suc-le-suc r) (λ _. suc-le-suc zero-le)
 
 -- a `;` is a span of its own, whatever follows
 pub semi_lexeme : (ys : List ℕ) → lexeme_at (59 ∷ ys) ≡ record { kind = code; span = Code 1; text = 59 ∷ [] }
@@ -292,7 +286,7 @@ regions_append (l ∷ s) t =
 pub map_join : (a b : List ℕ) → ends_live (marked_text a) ≡ true → map_of (a ++ b) ≡ map_of a ++ map_of b
 unfolding map_of
 map_join a b h =
-    rw (lexemes_join a b h, regions_append (lexemes a) (lexemes b)) (map_append flag (regions_of (lexemes a)) (regions_of (lexemes b)))
+    rw (lexemes_join a b h, regions_append (lexemes a) (lexemes b)) (map-append flag (regions_of (lexemes a)) (regions_of (lexemes b)))
 
 pub marked_append : (xs ys ms ns : List ℕ) → length ms ≡ length xs → marked (xs ++ ys) (ms ++ ns) ≡ marked xs ms ++ marked ys ns
 unfolding marked

@@ -6,7 +6,7 @@ use mathlib.Core.List.{List, [], ◌∷◌, ◌++◌, map}
 use Prim.Native.Nat.{ℕ, zero, suc, ◌+◌, ◌≤◌, zero-le, suc-le-suc}
 use native.Mathlib.Nat.{le_of_suc-le-suc}
 use native.Mathlib.Omega.{arith}
-use borrow.Author.Tests.{eqb-true}
+use borrow.Author.Tests.{eqb-true, not-true}
 use lib.Dec.{eqb}
 use lib.ListN.{length, take, drop, get_or, replicate}
 use Rattle.spec.proofs.ByteSets.{sign_not_ident}
@@ -17,7 +17,7 @@ use Rattle.spec.specs.Bytes.{within, is_digit, is_ident, is_quote, is_pair}
 use Rattle.spec.specs.Spans.{escapes, quote_len, quoted_len, tag_len, opens_dollar, single, double, code, kind_at, span_of, span_at, span_len}
 use Rattle.spec.specs.Map.{Marked, live, quoted, byte, mark, marked, marked_text, map_of, bytes, span_flag}
 use Rattle.spec.specs.SelectInto.{quote_after, quote_walk}
-use Rattle.joining.proofs.Bools.{clash, no, and_no, other, another, quotes}
+use Rattle.joining.proofs.Bools.{clash, and_no, other, another, quotes}
 use Rattle.joining.proofs.Reading.{Reads, leaves}
 
 -- ---- a marked text, span by span
@@ -133,11 +133,11 @@ unfolding live_next
 next_ident s c h = rw (other is_ident 45 c (sign_not_ident 45 refl) h, other is_ident 47 c (sign_not_ident 47 refl) h, other is_ident 36 c (sign_not_ident 36 refl) h, h) refl
 
 pub live_quote : (s : Open) (c : ℕ) → live_ok s c ≡ true → is_quote c ≡ false
-live_quote clear c h = no (is_quote c) h
-live_quote dash c h = no (is_quote c) (and_left (not (is_quote c)) (not (eqb c 45)) h)
-live_quote slash c h = no (is_quote c) (and_left (not (is_quote c)) (not (eqb c 42)) h)
-live_quote sign c h = no (is_quote c) (and_left (not (is_quote c)) (not (eqb c 36)) h)
-live_quote tag c h = no (is_quote c) (and_left (not (is_quote c)) (not (eqb c 36)) h)
+live_quote clear c h = not-true (is_quote c) h
+live_quote dash c h = not-true (is_quote c) (and_left (not (is_quote c)) (not (eqb c 45)) h)
+live_quote slash c h = not-true (is_quote c) (and_left (not (is_quote c)) (not (eqb c 42)) h)
+live_quote sign c h = not-true (is_quote c) (and_left (not (is_quote c)) (not (eqb c 36)) h)
+live_quote tag c h = not-true (is_quote c) (and_left (not (is_quote c)) (not (eqb c 36)) h)
 live_quote in_single c h = absurd (false≢true h)
 live_quote in_double c h = absurd (false≢true h)
 
@@ -146,13 +146,13 @@ live_quote in_double c h = absurd (false≢true h)
 front_dash : (t : List Marked) → Well dash t → eqb (get_or (bytes t) 0 0) 45 ≡ false
 unfolding bytes
 front_dash [] o = refl
-front_dash (live c ∷ t) o = no (eqb c 45) (and_right (not (is_quote c)) (not (eqb c 45)) o.0)
+front_dash (live c ∷ t) o = not-true (eqb c 45) (and_right (not (is_quote c)) (not (eqb c 45)) o.0)
 front_dash (quoted c ∷ t) o = quotes (λ (n : ℕ). eqb n 45 ≡ false) c o.0 refl refl
 
 front_slash : (t : List Marked) → Well slash t → eqb (get_or (bytes t) 0 0) 42 ≡ false
 unfolding bytes
 front_slash [] o = refl
-front_slash (live c ∷ t) o = no (eqb c 42) (and_right (not (is_quote c)) (not (eqb c 42)) o.0)
+front_slash (live c ∷ t) o = not-true (eqb c 42) (and_right (not (is_quote c)) (not (eqb c 42)) o.0)
 front_slash (quoted c ∷ t) o = quotes (λ (n : ℕ). eqb n 42 ≡ false) c o.0 refl refl
 
 -- identifier bytes, then `$`
@@ -175,7 +175,7 @@ front_tag [] o = refl
 front_tag (live c ∷ t) o =
     by (is_ident c)
     (λ e. rw e (front_tag t (rw (next_ident tag c e) at o.1)))
-    (λ e. rw e (no (eqb c 36) (and_right (not (is_quote c)) (not (eqb c 36)) o.0)))
+    (λ e. rw e (not-true (eqb c 36) (and_right (not (is_quote c)) (not (eqb c 36)) o.0)))
 front_tag (quoted c ∷ t) o = quotes (λ (n : ℕ). eqb (get_or (n ∷ bytes t) (tag_len (n ∷ bytes t)) 0) 36 ≡ false) c o.0 (rw (sign_not_ident 39 refl) refl) (rw (sign_not_ident 34 refl) refl)
 
 quote_tag : (c : ℕ) (cs : List ℕ) → is_quote c ≡ true → is_tag (c ∷ cs) ≡ false
@@ -191,7 +191,7 @@ front_sign (live c ∷ t) o =
     (λ d. rw d
     (by (is_ident c)
     (λ e. rw e (front_tag t (subst (λ (s : Open). Well s t) (next_ident sign c e ∙ rw d refl) o.1)))
-    (λ e. rw e (no (eqb c 36) (and_right (not (is_quote c)) (not (eqb c 36)) o.0)))))
+    (λ e. rw e (not-true (eqb c 36) (and_right (not (is_quote c)) (not (eqb c 36)) o.0)))))
 front_sign (quoted c ∷ t) o = quote_tag c (bytes t) o.0
 
 -- a live byte of a well formed text opens nothing
@@ -290,7 +290,7 @@ pub record Literal (q : ℕ) (s : Open) : Type 0 where
   pub in_literal_lem : is_out s ≡ false
 
 plain_byte : (c : ℕ) → (not (eqb c 92) && not (eqb c 10)) ≡ true → eqb c 92 ≡ false
-plain_byte c h = no (eqb c 92) (and_left (not (eqb c 92)) (not (eqb c 10)) h)
+plain_byte c h = not-true (eqb c 92) (and_left (not (eqb c 92)) (not (eqb c 10)) h)
 
 byte_plain : (c : ℕ) → eqb c 92 ≡ false → eqb c 10 ≡ false → (not (eqb c 92) && not (eqb c 10)) ≡ true
 byte_plain c h k = rw (h, k) refl

@@ -1,18 +1,21 @@
 -- The first of some texts that stands in front, and a line as its level, its action and what stands behind each. Assumes
 -- nothing.
 use Rattle.std.specs.Prelude.{Option, Some, None, option_map}
+use Rattle.std.specs.Borrow.{Bor}
+use Rattle.std.specs.List.{find}
 use Rattle.std.specs.Option.{unwrap_or}
 use Rattle.std.proofs.lemmas.Option.{none-some}
+use Rattle.std.proofs.lemmas.Bool.{and_from}
 use Rattle.levels.specs.declared.Line.{Line}
 use mathlib.Core.Path.{◌≡◌, refl, sym, ap, ap₂, ◌∙◌}
 use mathlib.Core.Bool.{Bool, true, false, not, ◌&&◌, false≢true}
-use mathlib.Core.List.{List, [], ◌∷◌, ◌++◌, append_assoc, Memᴰ}
+use mathlib.Core.List.{List, [], ◌∷◌, ◌++◌, map, append_assoc, Memᴰ}
 use Prim.Native.Nat.{ℕ, ◌+◌, ◌≤◌}
 use native.Mathlib.Omega.{arith}
 use borrow.Author.Tests.{not-true}
 use lib.ListN.{length, drop, length-append}
 use Rattle.spec.proofs.Apart.{apart}
-use Rattle.spec.proofs.Choice.{by, and_left, and_right, and_both}
+use Rattle.spec.proofs.Choice.{by, and_left, and_right}
 use Rattle.spec.proofs.LineLaws.{entry, text_injective, every_entry, only_last, through, first_line, through_only, first_text}
 use Rattle.spec.proofs.PrefixLaws.{prefix_split, prefix_append}
 use Rattle.spec.specs.Bytes.{is_prefix}
@@ -24,14 +27,13 @@ use Rattle.spec.specs.declared.Level.TheVariants.{Debug, Log, Info, Notice, Warn
 use Rattle.spec.specs.declared.RaiseType.TheVariants.{Abort, Fail, Rollback}
 use Rattle.spec.specs.declared.Action.{Action}
 use Rattle.spec.specs.declared.Action.TheVariants.{Drop, Raise}
-use Rattle.levels.specs.Lines.{ahead, level_text, action_text, with_length, line_of}
+use Rattle.levels.specs.Lines.{ahead, IsTextTable, found_ahead, level_text, action_text, with_length, line_of}
 
 -- ---- the first that stands in front
 
 module _ {A : Type 0} (text : A → List ℕ) (xs : List ℕ) where
   -- what is found stands there
   pub ahead_some : (l : List A) (x : A) → ahead text l xs ≡ Some x → is_prefix (text x) xs ≡ true
-  unfolding ahead
   ahead_some [] x h = absurd (apart (cc))
   ahead_some (y ∷ l) x h =
       by (is_prefix (text y) xs)
@@ -43,12 +45,40 @@ module _ {A : Type 0} (text : A → List ℕ) (xs : List ℕ) where
 
   -- and where none is found, none stands there
   pub ahead_none : (l : List A) → ahead text l xs ≡ None → all (λ x. not (is_prefix (text x) xs)) l ≡ true
-  unfolding ahead all
+  unfolding all
   ahead_none [] h = refl
   ahead_none (y ∷ l) h =
       by (is_prefix (text y) xs)
       (λ q. let k : Some y ≡ None = rw q at h in absurd (apart (cc)))
       (λ q. let k : ahead text l xs ≡ None = rw q at h in simp q (ahead_none l k))
+
+-- ---- the same by a table of texts
+
+-- the length of a text, and what it stands for
+abbrev sized : {A : Type 0} → List ℕ × A → A × ℕ
+sized w = (w.1, length w.0)
+
+abbrev sized_name : {A : Type 0} → Bor (List ℕ) × A → A × ℕ
+sized_name p = (p.1, length p.0.now)
+
+-- the same of what is lent
+abbrev pub handed : {A : Type 0} → Option (Bor (Bor (List ℕ) × A)) → Option (A × ℕ)
+handed r = option_map sized_name (option_map (λ y. y.now) r)
+
+module _ {A : Type 0} (xs : List ℕ) where
+  -- the first that stands in front is the same of a list that has the texts themselves
+  sized_ahead : {B : Type 0} (h : B → List ℕ × A) (l : List B)
+      → option_map (λ b. sized (h b)) (find (λ b. is_prefix (h b).0 xs) l) ≡ option_map sized (find (λ w. is_prefix w.0 xs) (map h l))
+  sized_ahead h [] = refl
+  sized_ahead h (b ∷ l) = by (is_prefix (h b).0 xs) (λ q. rw q refl) (λ q. rw q (sized_ahead h l))
+
+  -- by what a search in a table found
+  pub table_ahead : (text : A → List ℕ) (l : List A) (table : List (Bor (List ℕ) × A)) (r : Option (Bor (Bor (List ℕ) × A)))
+      → IsTextTable text l table → option_map (λ y. y.now) r ≡ find (λ p. is_prefix p.0.now xs) table → handed r ≡ found_ahead text l xs
+  table_ahead text l table r h e =
+      ap (option_map sized_name) e
+      ∙ (sized_ahead (λ p. (p.0.now, p.1)) table
+      ∙ (ap (λ (t : List (List ℕ × A)). option_map sized (find (λ w. is_prefix w.0 xs) t)) h ∙ sym (sized_ahead (λ x. (text x, x)) l)))
 
 -- ---- all levels, and all actions
 
@@ -184,7 +214,7 @@ module _ (xs : List ℕ) where
         go (ahead line_text all_entries xs) refl
       where
         stands : is_prefix (line_text (entry l a)) xs ≡ true
-        stands = line_parts l a ∙ and_both _ _ level_stands (ahead_some action_text (drop (length (level_text l)) xs) all_actions a m)
+        stands = line_parts l a ∙ and_from _ _ level_stands (ahead_some action_text (drop (length (level_text l)) xs) all_actions a m)
 
         go : (o : Option Entry) → ahead line_text all_entries xs ≡ o → ahead line_text all_entries xs ≡ Some (entry l a)
         go None i = absurd (false≢true (sym (no_line_lem i (entry l a)) ∙ stands))

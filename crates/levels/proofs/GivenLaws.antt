@@ -1,9 +1,8 @@
 -- The actions given so far are those of the lines read so far. Assumes nothing.
-use Rattle.std.specs.Prelude.{Option, Some, None, []}
+use Rattle.std.specs.Prelude.{Some, None, []}
 use mathlib.Core.Path.{◌≡◌, refl}
 use mathlib.Core.List.{List, ◌∷◌}
 use Prim.Native.Nat.{ℕ}
-use Rattle.spec.proofs.Apart.{apart}
 use Rattle.spec.proofs.LineLaws.{entry}
 use Rattle.spec.specs.Bytes.{is_same}
 use Rattle.spec.specs.Levels.{level_name, is_level, Entry, given_action, table_end}

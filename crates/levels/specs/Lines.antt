@@ -1,9 +1,11 @@
 -- A table as it is read: the level and the action in front of a text by what stands there, a line, and the actions given so
 -- far. Assumes nothing.
-use Rattle.std.specs.Prelude.{cond, List, [], ◌∷◌, ◌++◌, ℕ, length, Option, Some, None, Result, Ok, option_map}
+use Rattle.std.specs.Prelude.{◌≡◌, List, [], ◌∷◌, ◌++◌, ℕ, length, map, Option, Result, Ok, option_map}
+use Rattle.std.specs.List.{find}
+use Rattle.std.specs.Borrow.{Bor}
 use Rattle.spec.specs.Bytes.{is_prefix}
 use Rattle.spec.specs.Raise.{Actions, action_name}
-use Rattle.spec.specs.Levels.{level_name, line_text, all_levels, all_actions, all_entries, Entry, given_action, or_missing}
+use Rattle.spec.specs.Levels.{level_name, line_text, all_entries, Entry, given_action, or_missing}
 use Rattle.spec.specs.declared.ByLevel.{ByLevel}
 use Rattle.spec.specs.declared.Level.{Level}
 use Rattle.spec.specs.declared.Level.TheVariants.{Debug, Log, Info, Notice, Warning, Exception}
@@ -12,11 +14,12 @@ use Rattle.spec.specs.declared.Refusal.{Refusal}
 use Rattle.levels.specs.declared.Line.{Line}
 
 -- the first of these whose text stands in front of xs
-unfoldable pub ahead : {A : Type 0} → (A → List ℕ) → List A → List ℕ → Option A
-ahead text [] xs = None
-ahead text (x ∷ l) xs =
-    let more = ahead text l xs in
-    cond (is_prefix (text x) xs) (Some x) more
+abbrev pub ahead : {A : Type 0} → (A → List ℕ) → List A → List ℕ → Option A
+ahead text l xs = find (λ x. is_prefix (text x) xs) l
+
+-- a table that has, in this order, these and the text of each
+abbrev pub IsTextTable : {A : Type 0} → (A → List ℕ) → List A → List (Bor (List ℕ) × A) → Type 0
+IsTextTable {A = A} text l table = map {B = List ℕ × A} (λ p. (p.0.now, p.1)) table ≡ map (λ x. (text x, x)) l
 
 -- a line's level, with the space behind it
 unfoldable pub level_text : Level → List ℕ
@@ -30,13 +33,9 @@ action_text a = action_name a ++ (10 ∷ [])
 abbrev pub with_length : {A : Type 0} → (A → List ℕ) → A → A × ℕ
 with_length text x = (x, length (text x))
 
--- the level in front
-abbrev pub level_ahead : List ℕ → Option (Level × ℕ)
-level_ahead xs = option_map (with_length level_text) (ahead level_text all_levels xs)
-
--- the action in front
-abbrev pub action_ahead : List ℕ → Option (Action × ℕ)
-action_ahead xs = option_map (with_length action_text) (ahead action_text all_actions xs)
+-- the first whose text stands in front, and how long that is
+abbrev pub found_ahead : {A : Type 0} → (A → List ℕ) → List A → List ℕ → Option (A × ℕ)
+found_ahead text l xs = option_map (with_length text) (ahead text l xs)
 
 -- a line that says this
 abbrev pub line_of : Entry → Line

@@ -1,9 +1,9 @@
 // The table of RAISE levels: a line for each level, with its action.
 #![tactic(auto)]
 
-ghost use Rattle.std.specs.Prelude.{◌≡◌};
+ghost use Rattle.std.specs.Prelude.{◌≡◌, ℕ, List};
 ghost use Rattle.spec.specs.Levels.{table_of, no_table};
-ghost use Rattle.levels.specs.Lines.{level_ahead, action_ahead, line_ahead, completed};
+ghost use Rattle.levels.specs.Lines.{IsTextTable, found_ahead, line_ahead, completed};
 
 use classes::starts_with;
 use spec::{Action, Actions, ByLevel, Level, RaiseType, Refusal};
@@ -16,52 +16,38 @@ struct Line {
     len: usize,
 }
 
-// The level in front whose name has a space behind it, and how many bytes the two have.
-#[tactic(auto, unfolding(crate::specs::Lines::ahead, spec::specs::Levels::all_levels, crate::specs::Lines::level_text, spec::specs::Levels::level_name))]
-fn level_ahead(text: &[u8]) -> Option<(Level, usize)>
-    ensures { result ≡ level_ahead text.now }
-{
-    if starts_with(text, b"DEBUG ") {
-        Some((Level::Debug, 6))
-    } else if starts_with(text, b"LOG ") {
-        Some((Level::Log, 4))
-    } else if starts_with(text, b"INFO ") {
-        Some((Level::Info, 5))
-    } else if starts_with(text, b"NOTICE ") {
-        Some((Level::Notice, 7))
-    } else if starts_with(text, b"WARNING ") {
-        Some((Level::Warning, 8))
-    } else if starts_with(text, b"EXCEPTION ") {
-        Some((Level::Exception, 10))
-    } else {
-        None
-    }
-}
+// The levels, each as a line has it, with the space behind it.
+const LEVELS: [(&[u8], Level); 6] = [
+    (b"DEBUG ", Level::Debug),
+    (b"LOG ", Level::Log),
+    (b"INFO ", Level::Info),
+    (b"NOTICE ", Level::Notice),
+    (b"WARNING ", Level::Warning),
+    (b"EXCEPTION ", Level::Exception),
+];
 
-// The action in front whose name has a newline behind it, and how many bytes the two have.
-#[tactic(auto, unfolding(crate::specs::Lines::ahead, spec::specs::Levels::all_actions, crate::specs::Lines::action_text, spec::specs::Raise::action_name))]
-fn action_ahead(text: &[u8]) -> Option<(Action, usize)>
-    ensures { result ≡ action_ahead text.now }
+// The actions, each with the newline behind it.
+const ACTIONS: [(&[u8], Action); 4] = [
+    (b"drop\n", Action::Drop),
+    (b"abort\n", Action::Raise(RaiseType::Abort)),
+    (b"fail\n", Action::Raise(RaiseType::Fail)),
+    (b"rollback\n", Action::Raise(RaiseType::Rollback)),
+];
+
+// What a table has for the first of its texts that stands in front, and how long the text is.
+fn ahead<T: Copy>(text: &[u8], table: &[(&[u8], T)]) -> Option<(T, usize)>
+    ensures { (name : T → List ℕ) (all : List T) → IsTextTable name all table.now → result ≡ found_ahead name all text.now }
 {
-    if starts_with(text, b"drop\n") {
-        Some((Action::Drop, 5))
-    } else if starts_with(text, b"abort\n") {
-        Some((Action::Raise(RaiseType::Abort), 6))
-    } else if starts_with(text, b"fail\n") {
-        Some((Action::Raise(RaiseType::Fail), 5))
-    } else if starts_with(text, b"rollback\n") {
-        Some((Action::Raise(RaiseType::Rollback), 9))
-    } else {
-        None
-    }
+    let (name, x) = table.iter().find(|(name, _)| starts_with(text, *name))?;
+    Some((*x, name.len()))
 }
 
 // The line in front. No more of it is read than a well-formed line can have.
 fn read_line(text: &[u8]) -> Option<Line>
     ensures { result ≡ line_ahead text.now }
 {
-    let (level, n) = level_ahead(text)?;
-    let (action, m) = action_ahead(&text[n..])?;
+    let (level, n) = ahead(text, &LEVELS)?;
+    let (action, m) = ahead(&text[n..], &ACTIONS)?;
     Some(Line {
         level,
         action,
@@ -89,18 +75,18 @@ pub fn read_table(table: &[u8]) -> Result<Actions, Refusal>
     ensures { result ≡ table_of table.now }
 {
     let mut given = ByLevel::all(None);
-    let mut at: usize = 0;
-    while at < table.len() {
-        let Some(line) = read_line(&table[at..]) else {
-            return Err(Refusal::MalformedLine(at));
-        };
+    // By hand: a turn takes a line, and how long that is only `read_line` tells.
+    let mut rest = table;
+    while !rest.is_empty() {
+        let at = table.len() - rest.len();
+        let line = read_line(rest).ok_or(Refusal::MalformedLine(at))?;
         if given.get(line.level).is_some() {
             return Err(Refusal::RepeatedLevel(at));
         }
         given = given.with(line.level, Some(line.action));
-        at += line.len;
+        rest = &rest[line.len..];
     }
-    complete(given, at)
+    complete(given, table.len())
 }
 
 // What stands for a table where there is none: EXCEPTION aborts, the others vanish.

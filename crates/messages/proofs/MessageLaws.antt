@@ -1,5 +1,7 @@
 -- The message in a content: where a `'` literal closes, and the words up to a comma. Assumes nothing.
 use Rattle.std.specs.Prelude.{Some, None}
+use Rattle.std.proofs.lemmas.Bool.{cond_both}
+use Rattle.std.proofs.lemmas.List.{drop_more}
 use mathlib.Core.Path.{◌≡◌, refl, sym, ap, ◌∙◌}
 use mathlib.Core.Bool.{false, cond, not, ◌&&◌}
 use mathlib.Core.List.{List, [], ◌∷◌}
@@ -11,8 +13,8 @@ use lib.ListN.{length, take, drop, get_or, length-take, length-drop, drop_of_len
 use lib.Seq.{length-take-le}
 use Rattle.spec.proofs.BytesLaws.{bytes_lives, front_bytes, bytes_while, bytes_take, bytes_drop}
 use Rattle.spec.proofs.RefusalBounds.{bytes_length}
-use Rattle.spec.proofs.AheadLaws.{drop_one, drop_two, tail_one}
-use Rattle.spec.proofs.Choice.{by, cond_case, cond_le, and_left, made_some, made_none}
+use Rattle.spec.proofs.AheadLaws.{drop_two, tail_one}
+use Rattle.spec.proofs.Choice.{by, cond_le, and_left, made_some, made_none}
 use Rattle.spec.proofs.MessagePlaces.{no_comma}
 use Rattle.spec.proofs.SpanLaws.{seen}
 use Rattle.spec.proofs.WalkLaws.{while_length, while_take}
@@ -82,7 +84,7 @@ module _ (xs : List ℕ) (i : ℕ) where
     last : drop i xs ≡ get_or xs i 0 ∷ []
     last =
         let z : length xs ≤ i + 1 = omega arith in
-        drop_one xs i 0 (omega arith) ∙ ap (λ (l : List ℕ). get_or xs i 0 ∷ l) (drop_of_length-le xs z)
+        drop_more xs i 0 (omega arith) ∙ ap (λ (l : List ℕ). get_or xs i 0 ∷ l) (drop_of_length-le xs z)
 
     last_single : get_or xs i 0 ≡ 39 → close_from xs i ≡ i + 1
     unfolding close_len lives later
@@ -140,7 +142,7 @@ pub literal_le : (xs : List ℕ) → literal_len xs ≤ length xs
 unfolding literal_len
 literal_le xs =
     let n = close_len (lives (drop 1 xs)) in
-    cond_case (λ (k : ℕ). k ≤ length xs) (eqb (get_or xs 0 0) 39 && not (eqb n 0)) (1 + n) 0
+    cond_both (eqb (get_or xs 0 0) 39 && not (eqb n 0)) (1 + n) 0 (λ (k : ℕ). k ≤ length xs)
     (λ e.
     let q = seen xs 0 38 (eqb-true (get_or xs 0 0) 39 (and_left (eqb (get_or xs 0 0) 39) (not (eqb n 0)) e)) in
     omega (arith, close_within (drop 1 xs), length-drop 1 xs))
@@ -186,6 +188,6 @@ module _ (t : List Marked) (xs : List ℕ) (e : bytes t ≡ xs) where
 -- it is no longer than the text
 pub message_le : (xs : List ℕ) → length (message_in xs) ≤ length xs
 message_le xs =
-    cond_case (λ (l : List ℕ). length l ≤ length xs) (eqb (literal_len xs) 0) (trimmed (take_while no_comma xs)) (take (literal_len xs) xs)
+    cond_both (eqb (literal_len xs) 0) (trimmed (take_while no_comma xs)) (take (literal_len xs) xs) (λ (l : List ℕ). length l ≤ length xs)
     (λ _. omega (arith, trimmed_le (take_while no_comma xs), while_length no_comma xs))
     (λ _. omega (arith, length-take (literal_len xs) xs))

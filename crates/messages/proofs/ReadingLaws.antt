@@ -1,5 +1,6 @@
 -- A RAISE read off its bytes: its level, and with each level its end and what it becomes. Assumes nothing.
 use Rattle.std.specs.Prelude.{Some, None}
+use Rattle.std.proofs.lemmas.List.{take_rest}
 use mathlib.Core.Path.{◌≡◌, refl, sym, ap, ◌∙◌}
 use mathlib.Core.Bool.{Bool, false, cond, not}
 use mathlib.Core.List.{List, []}
@@ -11,7 +12,6 @@ use lib.ListN.{length, take, drop, drop_of_length-le}
 use lib.Seq.{take_all, take-length}
 use Rattle.spec.proofs.BytesLaws.{bytes_lives, bytes_take, bytes_drop, while_length_bytes}
 use Rattle.spec.proofs.Choice.{by}
-use Rattle.spec.proofs.AheadLaws.{rest_of}
 use Rattle.spec.proofs.RefusalBounds.{bytes_length}
 use Rattle.spec.specs.Lists.{take_while}
 use Rattle.spec.specs.Map.{Marked, bytes, lives, of_byte}
@@ -28,6 +28,7 @@ use Rattle.messages.specs.declared.RaiseFate.{RaiseFate}
 use Rattle.messages.specs.declared.RaiseFate.TheVariants.{Passed}
 use Rattle.messages.specs.Readings.{level_end, content_in, raised_as, fate_of, fate_in, FateWithin, Reads}
 use Rattle.runs.specs.Sets.{trimmed}
+use Rattle.runs.specs.declared.Place.{Place}
 use Rattle.runs.proofs.RunLaws.{trim_bytes}
 use Rattle.messages.proofs.ContentLaws.{content_bytes}
 use Rattle.messages.proofs.UsingLaws.{raise_marks}
@@ -52,9 +53,9 @@ other_ends l xs h =
     (ap (λ (n : ℕ). 6 + n) (while_length_bytes f (lives (drop 6 xs)) ∙ ap (λ (u : List ℕ). length (take_while f u)) (bytes_lives (drop 6 xs))))
 
 -- the offsets of a fate, whatever the action
-pub fate_within : (a : Action) (lo s e hi : ℕ) → lo ≤ s → s ≤ e → e ≤ hi → FateWithin (fate_of a s e) lo hi
-fate_within Drop lo s e hi p q r = tt
-fate_within (Raise w) lo s e hi p q r = (p, q, r)
+pub fate_within : (a : Action) (p : Place) (lo hi : ℕ) → lo ≤ p.at → p.at + p.len ≤ hi → FateWithin (fate_of a p) lo hi
+fate_within Drop p lo hi q r = tt
+fate_within (Raise w) p lo hi q r = (q, r)
 
 -- the level behind the separator, where a text reaches behind it, and where not
 pub level_none : (t : List Marked) (xs : List ℕ) → bytes t ≡ xs → length xs < 6 → level_in level_words (drop 6 t) ≡ None
@@ -64,7 +65,7 @@ level_none t xs e h =
     rw (drop_of_length-le t z)
 
 pub level_bytes : (t : List Marked) (xs ys : List ℕ) → bytes t ≡ xs → ys ≡ take (length xs - 6) (drop 6 xs) → bytes (drop 6 t) ≡ ys
-level_bytes t xs ys e h = bytes_drop 6 t ∙ (ap (drop 6) e ∙ (sym (rest_of xs 6) ∙ sym h))
+level_bytes t xs ys e h = bytes_drop 6 t ∙ (ap (drop 6) e ∙ (sym (take_rest xs 6) ∙ sym h))
 
 -- ---- what each level becomes
 
@@ -117,12 +118,12 @@ module _ (t : List Marked) (xs : List ℕ) (e : bytes t ≡ xs) where
       → k ≡ level_end l xs
       → m ≡ length (content_in (take (length xs - k) (drop k xs)))
       → n ≡ min (k + m + 1) (length xs)
-      → f ≡ fate_of a k (k + m)
+      → f ≡ fate_of a (record { at = k; len = m })
       → act l ≡ a
       → Reads act t (Some l) xs (record { end = n; fate = f })
   unfolding raised_at
   reads_level act l a k m n f p c h g q =
-      let c' : m ≡ length (content_in (drop k xs)) = rw rest_of at c in
+      let c' : m ≡ length (content_in (drop k xs)) = rw take_rest at c in
       record {
         text = rw (level_ends l ∙ sym p, content_at k, g, ← q, c') (becomes (act l));
         ends = rw (level_ends l ∙ sym p, content_at k) (rw c' at h);
@@ -131,10 +132,9 @@ module _ (t : List Marked) (xs : List ℕ) (e : bytes t ≡ xs) where
       u : List Marked
       u = content_in (drop k xs)
 
-      becomes : (a : Action) → forget (fate_text (action_fate a u)) ≡ fate_in (fate_of a k (k + length u)) n xs
+      becomes : (a : Action) → forget (fate_text (action_fate a u)) ≡ fate_in (fate_of a (record { at = k; len = length u })) n xs
       becomes Drop = dropped_text u
       becomes (Raise w) =
-          let ys = take (k + length u - k) (drop k xs) in
-          let z : length u ≡ k + length u - k = omega arith in
-          let same : bytes u ≡ bytes (lives ys) = content_bytes (drop k xs) ∙ (ap (λ (m : ℕ). take m (drop k xs)) z ∙ sym (bytes_lives ys)) in
+          let ys = take (length u) (drop k xs) in
+          let same : bytes u ≡ bytes (lives ys) = content_bytes (drop k xs) ∙ sym (bytes_lives ys) in
           raised_text_lem w u ys (trim_bytes u ∙ (ap trimmed same ∙ sym (trim_bytes (lives ys))))

@@ -2,6 +2,7 @@
 use Rattle.std.specs.Borrow.{Bor}
 use Rattle.std.specs.Option.{ok_or}
 use Rattle.std.specs.Prelude.{Option, Some, None}
+use Rattle.std.proofs.lemmas.List.{take_rest}
 use mathlib.Core.Path.{◌≡◌, refl, sym, ap, ◌∙◌}
 use mathlib.Core.Bool.{Bool, true, false, cond, ◌&&◌}
 use mathlib.Core.List.{List, ◌++◌}
@@ -11,7 +12,6 @@ use borrow.Author.Tests.{eq-eqb, ne_eqb, le-leb, lt-leb, leb-true, leb-false}
 use lib.Dec.{eqb, leb}
 use lib.ListN.{length, take, drop, get_or, length-drop}
 use lib.Seq.{drop-drop}
-use Rattle.spec.proofs.AheadLaws.{rest_of}
 use Rattle.spec.proofs.BytesLaws.{bytes_lives, bytes_append, bytes_drop}
 use Rattle.spec.proofs.Choice.{by}
 use Rattle.spec.proofs.ListLaws.{empty_length}
@@ -112,22 +112,22 @@ module _ (w : RaiseType) (t : List Marked) (xs : List ℕ) (e : bytes t ≡ xs) 
   -- the same by the tests in their order, as far as they pass
   module _ (a : ℕ) (pa : a ≡ end_from is_w xs 5) where
     pub no_message : prefix_by upper (ascii "MESSAGE") (take (length xs - a) (drop a xs)) ≡ false → becomes w t ≡ refused (using_clause xs)
-    no_message p = using_is a _ _ _ pa refl refl refl ∙ simp (rw rest_of at p)
+    no_message p = using_is a _ _ _ pa refl refl refl ∙ simp (rw take_rest at p)
 
     module _ (p : prefix_by upper (ascii "MESSAGE") (take (length xs - a) (drop a xs)) ≡ true) (b : ℕ) (pb : b ≡ end_from is_w xs (a + 7)) where
       pub no_equals : (get_or xs b 0 ≡ 61 → ⊥) → becomes w t ≡ refused (using_clause xs)
-      no_equals q = using_is a b _ _ pa pb refl refl ∙ simp (rw rest_of at p, ne_eqb (get_or xs b 0) 61 q)
+      no_equals q = using_is a b _ _ pa pb refl refl ∙ simp (rw take_rest at p, ne_eqb (get_or xs b 0) 61 q)
 
       module _ (q : get_or xs b 0 ≡ 61) (c : ℕ) (pc : c ≡ end_from is_w xs (b + 1)) where
         pub no_quote : (get_or xs c 0 ≡ 39 → ⊥) → becomes w t ≡ refused (using_clause xs)
-        no_quote r = using_is a b c _ pa pb pc refl ∙ simp (rw rest_of at p, eq-eqb (get_or xs b 0) 61 q, ne_eqb (get_or xs c 0) 39 r)
+        no_quote r = using_is a b c _ pa pb pc refl ∙ simp (rw take_rest at p, eq-eqb (get_or xs b 0) 61 q, ne_eqb (get_or xs c 0) 39 r)
 
         module _ (r : get_or xs c 0 ≡ 39) (m : List ℕ) (pm : (u : List Marked) → bytes u ≡ take (length xs - c) (drop c xs) → m ≡ bytes (message u)) (k : ℕ) (pk : k ≡ end_from is_w xs (c + length m)) where
           at_quote : becomes w t ≡ cond (leb (length xs) k) (accepted (raising w m)) (refused (using_clause xs))
           at_quote =
               let ys = drop c xs in
-              let said : m ≡ message_in ys = pm (lives ys) (bytes_lives ys ∙ sym (rest_of xs c)) ∙ message_is (lives ys) ys (bytes_lives ys) in
-              using_is a b c m pa pb pc said ∙ simp (rw rest_of at p, eq-eqb (get_or xs b 0) 61 q, eq-eqb (get_or xs c 0) 39 r, sym pk)
+              let said : m ≡ message_in ys = pm (lives ys) (bytes_lives ys ∙ sym (take_rest xs c)) ∙ message_is (lives ys) ys (bytes_lives ys) in
+              using_is a b c m pa pb pc said ∙ simp (rw take_rest at p, eq-eqb (get_or xs b 0) 61 q, eq-eqb (get_or xs c 0) 39 r, sym pk)
 
           pub more_behind : k < length xs → becomes w t ≡ refused (using_clause xs)
           more_behind h = at_quote ∙ rw (lt-leb _ _ h) refl

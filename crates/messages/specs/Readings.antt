@@ -1,6 +1,6 @@
 -- What a reading of a RAISE says: the definition's level, fate and length, by offsets in the text that was read. Assumes
 -- nothing.
-use Rattle.std.specs.Prelude.{◌≡◌, Bool, false, cond, not, ◌&&◌, List, [], ◌++◌, ℕ, ◌+◌, ◌-◌, ◌≤◌, min, eqb, length, take, drop, get_or, Option, Some, None, Result, Ok, Err}
+use Rattle.std.specs.Prelude.{◌≡◌, Bool, false, cond, not, ◌&&◌, List, [], ◌++◌, ℕ, ◌+◌, ◌≤◌, min, eqb, length, take, drop, get_or, Option, Some, None, Result, Ok, Err}
 use Rattle.std.specs.Borrow.{Bor}
 use Rattle.spec.specs.Bytes.{ascii}
 use Rattle.spec.specs.Lists.{take_while}
@@ -13,6 +13,8 @@ use Rattle.spec.specs.declared.Level.{Level}
 use Rattle.spec.specs.declared.RaiseType.{RaiseType}
 use Rattle.spec.specs.declared.Action.{Action}
 use Rattle.spec.specs.declared.Action.TheVariants.{Drop, Raise}
+use Rattle.runs.specs.declared.Place.{Place}
+use Rattle.runs.specs.Places.{piece_at}
 use Rattle.messages.specs.declared.RaiseFate.{RaiseFate}
 use Rattle.messages.specs.declared.RaiseFate.TheVariants.{Raises, Dropped, Passed}
 use Rattle.messages.specs.declared.RaiseRead.{RaiseRead}
@@ -79,19 +81,19 @@ part_or clause (Some message) = message.now
 part_or clause None = clause
 
 -- the fate of a statement with this action, by where its content lies
-abbrev pub fate_of : Action → ℕ → ℕ → RaiseFate
-fate_of Drop s e = Dropped
-fate_of (Raise w) s e = Raises w s e
+abbrev pub fate_of : Action → Place → RaiseFate
+fate_of Drop p = Dropped
+fate_of (Raise w) p = Raises w p
 
 -- what a fate makes of xs, of which the statement takes the first n bytes
 abbrev pub fate_in : RaiseFate → ℕ → List ℕ → Rewriting
-fate_in (Raises w s e) n xs = raised_as w (take (e - s) (drop s xs))
+fate_in (Raises w p) n xs = raised_as w (piece_at xs p)
 fate_in Dropped n xs = accepted []
 fate_in Passed n xs = accepted (take n xs)
 
 -- the offsets of a fate lie from lo up to hi
 abbrev pub FateWithin : RaiseFate → ℕ → ℕ → Type 0
-FateWithin (Raises w s e) lo hi = (lo ≤ s) × (s ≤ e) × (e ≤ hi)
+FateWithin (Raises w p) lo hi = (lo ≤ p.at) × (p.at + p.len ≤ hi)
 FateWithin Dropped lo hi = Unit
 FateWithin Passed lo hi = Unit
 

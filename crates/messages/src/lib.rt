@@ -11,7 +11,7 @@ ghost use Rattle.spec.specs.declared.Action.{Action};
 ghost use Rattle.messages.specs.Readings.{level_reach, level_end, ends_statement, content_in, literal_len, raised_as, raised_in, part_in, using_in, part_or, nonzero, fate_of, FateWithin, Reads};
 
 use classes::byte_at;
-use runs::{Set, run_end, trim};
+use runs::{Place, Set, run_end, trim};
 use scanner::starts_ignoring_case;
 use spans::Cursor;
 use spec::{Action, Actions, Level, RaiseType, Span};
@@ -20,11 +20,7 @@ use spec::{Action, Actions, Level, RaiseType, Span};
 #[derive(Clone, Copy)]
 pub enum RaiseFate {
     // It becomes SQLite's RAISE with this word, and has this content.
-    Raises {
-        word: RaiseType,
-        start: usize,
-        stop: usize,
-    },
+    Raises { word: RaiseType, content: Place },
     Dropped,
     // It passes, with its separator.
     Passed,
@@ -37,28 +33,28 @@ pub struct RaiseRead {
     pub fate: RaiseFate,
 }
 
-// The level in front, in any letter case.
-#[tactic(auto, using(spec::proofs::WalkLaws::starts_case, spec::proofs::WalkLaws::prefix_by_len), unfolding(spec::specs::Raise::level_in, spec::specs::Raise::level_words))]
+// The words that stand for a level, as they are tried one after the other.
+const LEVEL_WORDS: [(&[u8], Level); 8] = [
+    (b"EXCEPTION", Level::Exception),
+    (b"NOTICE", Level::Notice),
+    (b"WARNING", Level::Warning),
+    (b"DEBUG", Level::Debug),
+    (b"LOG", Level::Log),
+    (b"INFO ", Level::Info),
+    (b"INFO\n", Level::Info),
+    (b"INFO;", Level::Info),
+];
+
+// The level in front, in any letter case. `levels::ahead` finds in a table by the bytes as they stand: one search for both would take
+// the comparison as a closure and say of it what each says of its table, and be longer than the two.
 fn level_at(rest: &[u8]) -> Option<Level>
     ensures value { (t : List Marked) → bytes t ≡ rest.now → result ≡ level_in level_words t }
     ensures result_in_bounds { level_reach result ≤ length rest.now }
 {
-    let is = |word: &[u8]| starts_ignoring_case(rest, word);
-    if is(b"EXCEPTION") {
-        Some(Level::Exception)
-    } else if is(b"NOTICE") {
-        Some(Level::Notice)
-    } else if is(b"WARNING") {
-        Some(Level::Warning)
-    } else if is(b"DEBUG") {
-        Some(Level::Debug)
-    } else if is(b"LOG") {
-        Some(Level::Log)
-    } else if is(b"INFO ") || is(b"INFO\n") || is(b"INFO;") {
-        Some(Level::Info)
-    } else {
-        None
-    }
+    let (_, level) = LEVEL_WORDS
+        .iter()
+        .find(|(word, _)| starts_ignoring_case(rest, *word))?;
+    Some(*level)
 }
 
 // Whether the span s, whose first byte is b, ends a statement.
@@ -103,9 +99,8 @@ fn close_len(rest: &[u8]) -> Option<usize>
 }
 
 // The length of the closed `'` literal in front, if there is one.
-#[tactic(auto, using(spec::proofs::AheadLaws::rest_of, crate::proofs::MessageLaws::close_within), unfolding(crate::specs::Readings::literal_len))]
+#[tactic(auto, using(std::proofs::lemmas::List::take_rest, crate::proofs::MessageLaws::close_within), unfolding(crate::specs::Readings::literal_len))]
 fn literal_len(content: &[u8]) -> Option<usize>
-    requires { length content.now ≤ 65536 }
     ensures { result ≡ nonzero (literal_len content.now) }
 {
     let [b'\'', behind @ ..] = content else {
@@ -117,7 +112,6 @@ fn literal_len(content: &[u8]) -> Option<usize>
 // The message of a content: the closed literal in front, else the trimmed text up to the first comma.
 #[tactic(auto, using(crate::proofs::MessageLaws::message_literal, crate::proofs::MessageLaws::message_words, crate::proofs::MessageLaws::literal_within))]
 pub fn extract_first_string_literal<'a>(content: &'a [u8]) -> &'a [u8]
-    requires { length content.now ≤ 65536 }
     ensures { (t : List Marked) → bytes t ≡ content.now → result.now ≡ bytes (message t) }
 {
     match literal_len(content) {
@@ -127,10 +121,9 @@ pub fn extract_first_string_literal<'a>(content: &'a [u8]) -> &'a [u8]
 }
 
 // The message of a content that starts with USING: behind MESSAGE and `=`, if it starts with `'` and has only W behind it.
-#[tactic(auto, using(spec::proofs::AheadLaws::rest_of, crate::proofs::MessageLaws::quote_within, crate::proofs::UsingLaws::message_short))]
+#[tactic(auto, using(std::proofs::lemmas::List::take_rest, crate::proofs::MessageLaws::quote_within, crate::proofs::UsingLaws::message_short))]
 fn using_message<'a>(content: &'a [u8]) -> Option<&'a [u8]>
-    requires in_bounds { 5 ≤ length content.now }
-    requires content_len_bound { length content.now ≤ 65536 }
+    requires { 5 ≤ length content.now }
     ensures t_value { (w : RaiseType) (t : List Marked) → bytes t ≡ content.now → forget (fate_text (using_fate w t (drop 5 t))) ≡ using_in w content.now result }
     ensures result_in_bounds { length (part_or content.now result) ≤ length content.now }
 {
@@ -156,7 +149,6 @@ fn using_message<'a>(content: &'a [u8]) -> Option<&'a [u8]>
 // The message of a RAISE that is not dropped, or the clause that is refused: a part of the statement's content.
 #[tactic(auto, using(runs::proofs::RunLaws::trimmed_le, spec::proofs::WalkLaws::prefix_by_len, crate::proofs::UsingLaws::raised_clause, crate::proofs::UsingLaws::raised_message, crate::proofs::UsingLaws::message_short))]
 pub fn raise_message<'a>(content: &'a [u8]) -> Result<&'a [u8], &'a [u8]>
-    requires { length content.now ≤ 65536 }
     ensures content_value { (w : RaiseType) → raised_as w content.now ≡ raised_in w result }
     ensures result_in_bounds { length (part_in result) ≤ length content.now }
 {
@@ -168,13 +160,13 @@ pub fn raise_message<'a>(content: &'a [u8]) -> Result<&'a [u8], &'a [u8]>
     }
 }
 
-// The fate of a statement with this action, whose content lies from `start` to `stop`.
-fn fate_of(action: Action, start: usize, stop: usize) -> RaiseFate
-    ensures { result ≡ fate_of action start stop }
+// The fate of a statement with this action and this content.
+fn fate_of(action: Action, content: Place) -> RaiseFate
+    ensures { result ≡ fate_of action content }
 {
     match action {
         Action::Drop => RaiseFate::Dropped,
-        Action::Raise(word) => RaiseFate::Raises { word, start, stop },
+        Action::Raise(word) => RaiseFate::Raises { word, content },
     }
 }
 
@@ -193,20 +185,19 @@ fn level_end(rest: &[u8], level: Level) -> usize
 }
 
 // A RAISE of this level, from the RAISE on, with this action.
-#[tactic(auto, using(spec::proofs::AheadLaws::rest_of, crate::proofs::ContentLaws::content_le, crate::proofs::ReadingLaws::fate_within))]
+#[tactic(auto, using(std::proofs::lemmas::List::take_rest, crate::proofs::ContentLaws::content_le, crate::proofs::ReadingLaws::fate_within))]
 fn read_statement(rest: &[u8], level: Level, action: Action) -> RaiseRead
-    requires level_in_bounds { 6 + level_reach (Some level) ≤ length rest.now }
-    requires rest_len_bound { length rest.now ≤ 65536 }
+    requires { 6 + level_reach (Some level) ≤ length rest.now }
     ensures reads { (act : Level → Action) (t : List Marked) → bytes t ≡ rest.now → act level ≡ action → Reads act t (Some level) rest.now result }
     ensures fate_within { FateWithin result.fate 6 result.end }
     ensures end_in_bounds { result.end ≤ length rest.now }
     ensures goes_on { 0 < length rest.now → 0 < result.end }
 {
-    let k = level_end(rest, level);
-    let stop = k + content_len(&rest[k..]);
+    let at = level_end(rest, level);
+    let len = content_len(&rest[at..]);
     RaiseRead {
-        end: (stop + 1).min(rest.len()),
-        fate: fate_of(action, k, stop),
+        end: (at + len + 1).min(rest.len()),
+        fate: fate_of(action, Place { at, len }),
     }
 }
 
@@ -221,7 +212,6 @@ fn level_behind(rest: &[u8]) -> Option<Level>
 
 // The RAISE at the front of `rest`.
 pub fn read_raise(rest: &[u8], actions: Actions) -> RaiseRead
-    requires { length rest.now ≤ 65536 }
     ensures reads { (t : List Marked) → bytes t ≡ rest.now → Reads (action_of actions) t (level_in level_words (drop 6 t)) rest.now result }
     ensures fate_within { FateWithin result.fate 6 result.end }
     ensures end_in_bounds { result.end ≤ length rest.now }

@@ -1,91 +1,80 @@
--- An outcome as it is written from some count on: a turn of a loop writes the front of what is left. Assumes nothing.
-use Rattle.std.specs.Prelude.{Ok, Err}
+-- An outcome as it is written from some writer on: a turn of a loop writes the front of what is left. Assumes nothing.
+use Rattle.std.specs.Prelude.{⊤, Result, Ok, Err}
 use mathlib.Core.Path.{◌≡◌, refl, sym, ap, ◌∙◌}
 use mathlib.Core.List.{List, [], ◌++◌}
-use Prim.Native.Nat.{ℕ, ◌+◌}
-use native.Mathlib.Omega.{arith}
-use lib.ListN.{length, length-append}
-use lib.Seq.{sets}
+use Prim.Native.Nat.{ℕ}
+use lib.ListN.{length}
+use Rattle.std.specs.Borrow.{MutBor}
+use Rattle.spec.proofs.Apart.{apart}
 use Rattle.spec.proofs.BytesLaws.{bytes_append}
 use Rattle.spec.proofs.RefusalBounds.{bytes_length}
 use Rattle.spec.specs.Map.{Marked, bytes}
-use Rattle.spec.specs.Outcome.{PassRefusal, Outcome, accepted, refused, ◌⊕◌, forget}
+use Rattle.spec.specs.Outcome.{handed_back, Outcome, accepted, refused, ◌⊕◌, forget}
 use Rattle.spec.specs.declared.Refusal.{Refusal}
-use Rattle.spec.proofs.Apart.{apart}
-use Rattle.output.proofs.StoreLaws.{sets_more}
-use Rattle.output.specs.Passes.{pass_answer, Leaves, answer_from, LeavesFrom}
+use Rattle.output.proofs.WriterLaws.{wrote_none, wrote_same, wrote_then, wrote_front, wrote_length}
+use Rattle.output.specs.Passes.{pass_answer, Leaves, WroteOutcome}
+use Rattle.output.specs.Written.{Starts, Wrote}
+use Rattle.output.specs.declared.Writer.{Writer}
 
--- with o left and n bytes written into d, it comes to the same as with o' left and n' bytes written into d'
-pub record Turn (d : List ℕ) (n : ℕ) (o : Outcome (List Marked)) (d' : List ℕ) (n' : ℕ) (o' : Outcome (List Marked)) : Type 0 where
-  pub answers : answer_from n o ≡ answer_from n' o'
-  pub leaves : (e : List ℕ) → LeavesFrom n' o' d' e → LeavesFrom n o d e
+-- whatever completes o' from b on completes o from a on
+pub record Turn (a : Writer) (o : Outcome (List Marked)) (b : Writer) (o' : Outcome (List Marked)) : Type 0 where
+  pub completes : (c : Writer) (r : Result ⊤ Refusal) → WroteOutcome b o' c r → WroteOutcome a o c r
 
-pub turn_none : (d : List ℕ) (n : ℕ) (o : Outcome (List Marked)) → Turn d n o d n o
-turn_none d n o = record { answers = refl; leaves = λ e h. h }
+pub turn_none : (a : Writer) (o : Outcome (List Marked)) → Turn a o a o
+turn_none a o = record { completes = λ c r h. h }
 
-pub turn_both : {d d' d'' : List ℕ} {n n' n'' : ℕ} {o o' o'' : Outcome (List Marked)} → Turn d n o d' n' o' → Turn d' n' o' d'' n'' o'' → Turn d n o d'' n'' o''
-turn_both s t = record { answers = s.answers ∙ t.answers; leaves = λ e h. s.leaves e (t.leaves e h) }
+pub turn_both : {a b c : Writer} {o o' o'' : Outcome (List Marked)} → Turn a o b o' → Turn b o' c o'' → Turn a o c o''
+turn_both s t = record { completes = λ d r h. s.completes d r (t.completes d r h) }
 
 -- the front u, with the bytes ys, is written
-pub turn_front : (u : List Marked) (ys d d' : List ℕ) (n n' : ℕ) (o : Outcome (List Marked)) → bytes u ≡ ys → d' ≡ sets d n ys → n' ≡ n + length ys → Turn d n (accepted u ⊕ o) d' n' o
+pub turn_front : (u : List Marked) (ys : List ℕ) (a b : Writer) (o : Outcome (List Marked)) → bytes u ≡ ys → Wrote a ys b → Turn a (accepted u ⊕ o) b o
 unfolding ◌⊕◌
-turn_front u ys d d' n n' (accepted v) e p q =
-    let whole : bytes (u ++ v) ≡ ys ++ bytes v = bytes_append u v ∙ ap (λ (l : List ℕ). l ++ bytes v) e in
-    let long : n + length (u ++ v) ≡ n' + length v = omega (arith, length-append u v, bytes_length u, ap length e) in
-    record {
-      answers = ap Ok long;
-      leaves = λ x h. h ∙ sym (sets_more d d' _ ys (bytes v) n n' whole p q);
-    }
-turn_front u ys d d' n n' (refused r) e p q = record { answers = refl; leaves = λ x h. h }
+turn_front u ys a b (accepted v) e p =
+    let whole : ys ++ bytes v ≡ bytes (u ++ v) = ap (λ (l : List ℕ). l ++ bytes v) (sym e) ∙ sym (bytes_append u v) in
+    record { completes = λ c r h. (wrote_same (ys ++ bytes v) (bytes (u ++ v)) whole (wrote_then ys (bytes v) p h.0), h.1) }
+turn_front u ys a b (refused x) e p = record { completes = λ c r h. (h.0 ∙ p.same, h.1, h.2) }
 
--- the same where the front is an outcome with these bytes
-pub turn_text : (o : Outcome (List Marked)) (ys d d' : List ℕ) (n n' : ℕ) (o' : Outcome (List Marked)) → forget o ≡ accepted ys → d' ≡ sets d n ys → n' ≡ n + length ys → Turn d n (o ⊕ o') d' n' o'
-unfolding forget
-turn_text (accepted u) ys d d' n n' o' e p q = turn_front u ys d d' n n' o' (cc) p q
-turn_text (refused r) ys d d' n n' o' e p q = absurd (apart (cc))
+-- the front is an outcome that is written
+pub turn_ok : (o : Outcome (List Marked)) (a b : Writer) (o' : Outcome (List Marked)) → WroteOutcome a o b (Ok tt) → Turn a (o ⊕ o') b o'
+turn_ok (accepted u) a b o' p = turn_front u (bytes u) a b o' refl p.0
+turn_ok (refused r) a b o' p = let q = p.2 in absurd (apart (cc))
 
--- a refusal behind a front is the outcome
-pub refusal_first : (u : List Marked) (o o' : Outcome (List Marked)) (r : PassRefusal) → forget o ≡ refused r → accepted u ⊕ (o ⊕ o') ≡ refused r
-unfolding forget ◌⊕◌
-refusal_first u (accepted t) o' r e = absurd (apart (cc))
-refusal_first u (refused f) o' r e = let q : f ≡ r = cc in ap refused q
-
--- and all that counts of what is left
-pub turn_refused : (d d' : List ℕ) (n n' : ℕ) (o f more : Outcome (List Marked)) (g : Refusal)
-    → Turn d n o d' n' (f ⊕ more)
-    → answer_from n' f ≡ Err g
-    → Turn d n o d' n' f
+-- or one that is refused, which is all that counts
+pub turn_err : {a b : Writer} (o f more : Outcome (List Marked)) → Turn a o b (f ⊕ more) → (c : Writer) (r : Refusal) → WroteOutcome b f c (Err r) → WroteOutcome a o c (Err r)
 unfolding ◌⊕◌
-turn_refused d d' n n' o (accepted t) more g r e = absurd (apart (cc))
-turn_refused d d' n n' o (refused f) more g r e = r
-
--- from the start on
-pub from_start : (o : Outcome (List Marked)) → answer_from 0 o ≡ pass_answer o
-from_start (accepted t) = let z : 0 + length t ≡ length t = omega arith in ap Ok z
-from_start (refused r) = refl
-
-pub leaves_start : (o : Outcome (List Marked)) (d e : List ℕ) → LeavesFrom 0 o d e → Leaves o d e
-leaves_start (accepted t) d e h = h
-leaves_start (refused r) d e h = h
-
--- what is answered and left, by a turn from the start
-pub turn_answer : {d d' : List ℕ} {n : ℕ} {o o' : Outcome (List Marked)} → Turn d 0 o d' n o' → pass_answer o ≡ answer_from n o'
-turn_answer {d} {d'} {n} {o} {o'} t = sym (from_start o) ∙ t.answers
-
-pub turn_leaves : {d d' : List ℕ} {n : ℕ} {o o' : Outcome (List Marked)} → Turn d 0 o d' n o' → (e : List ℕ) → LeavesFrom n o' d' e → Leaves o d e
-turn_leaves {d} {d'} {n} {o} {o'} t e h = leaves_start o d e (t.leaves e h)
+turn_err o (accepted t) more s c r h = let q = h.1 in absurd (apart (cc))
+turn_err o (refused f) more s c r h = s.completes c (Err r) h
 
 -- all is written
-pub turn_done : (d d' : List ℕ) (n : ℕ) (o : Outcome (List Marked)) → Turn d 0 o d' n (accepted []) → (Ok n ≡ pass_answer o) × Leaves o d d'
+pub turn_done : {a b : Writer} (o : Outcome (List Marked)) → Turn a o b (accepted []) → WroteOutcome a o b (Ok tt)
 unfolding bytes
-turn_done d d' n o t =
-    let z : n ≡ n + 0 = omega arith in
-    (ap Ok z ∙ sym (turn_answer t), turn_leaves t d' refl)
+turn_done {a} {b} o t = t.completes b (Ok tt) (wrote_none b, refl)
 
--- it is refused
-pub turn_stopped : (d d' e : List ℕ) (n : ℕ) (o o' : Outcome (List Marked)) (r : PassRefusal) → Turn d 0 o d' n o' → o' ≡ refused r
-    → Leaves (refused r) d e
-    → (pass_answer (refused r) ≡ pass_answer o) × Leaves o d e
-turn_stopped d d' e n o o' r t q h =
-    let s : Turn d 0 o d' n (refused r) = rw q at t in
-    (sym (turn_answer s), turn_leaves s e h)
+-- what a pass answers and leaves that starts at the front of a buffer
+module _ (out : MutBor (List ℕ)) (a b : Writer) (s : Starts out a) where
+  pub outcome_ok : (o : Outcome (List Marked)) → WroteOutcome a o b (Ok tt) → (b.out.ghost_name ≡ out.ghost_name) × (Ok b.len ≡ pass_answer o) × Leaves o out.now b.out.now
+  outcome_ok (accepted t) p =
+      let w = wrote_front out (bytes t) s p.0 in
+      (w.0, ap Ok (w.2 ∙ bytes_length t), w.1)
+  outcome_ok (refused r) p = let q = p.2 in absurd (apart (cc))
+
+  pub outcome_err : (o : Outcome (List Marked)) (r : Refusal) → WroteOutcome a o b (Err r) → (b.out.ghost_name ≡ out.ghost_name) × (Err r ≡ pass_answer o) × Leaves o out.now b.out.now
+  outcome_err (accepted t) r p = let q = p.1 in absurd (apart (cc))
+  outcome_err (refused e) r p = let g = p.2 in let q : r ≡ (handed_back e).refusal = cc in (p.0 ∙ s.same, ap Err q, p.1)
+
+-- the buffer keeps its length
+pub outcome_length : (a b : Writer) (o : Outcome (List Marked)) → WroteOutcome a o b (Ok tt) → length b.out.now ≡ length a.out.now
+outcome_length a b (accepted t) p = wrote_length (bytes t) p.0
+outcome_length a b (refused r) p = let q = p.2 in absurd (apart (cc))
+
+-- ---- an outcome of which the bytes are known
+
+-- it is this text
+pub text_written : {a b : Writer} (o : Outcome (List Marked)) (text : List ℕ) → forget o ≡ accepted text → Wrote a text b → WroteOutcome a o b (Ok tt)
+unfolding forget
+text_written (accepted t) text e p = let q : text ≡ bytes t = cc in (wrote_same text (bytes t) q p, refl)
+text_written (refused r) text e p = absurd (apart (cc))
+
+-- it is nothing
+pub none_written : (a : Writer) (o : Outcome (List Marked)) → forget o ≡ accepted [] → WroteOutcome a o a (Ok tt)
+none_written a o e = text_written o [] e (wrote_none a)

@@ -1,15 +1,16 @@
 -- Stores one after the other, as a loop makes them. Assumes nothing.
 use mathlib.Core.Path.{◌≡◌, refl, sym, ap, ◌∙◌}
-use mathlib.Core.List.{List, [], ◌∷◌, ◌++◌}
+use mathlib.Core.List.{List, [], ◌∷◌, ◌++◌, append_assoc}
 use Prim.Native.Nat.{ℕ, suc, ◌+◌, ◌-◌, ◌≤◌, ◌<◌, min}
 use native.Mathlib.Nat.{add-zero}
 use native.Mathlib.Numerals.{add-one}
 use native.Mathlib.Omega.{arith}
-use borrow.Author.Tests.{eq-eqb, ne_eqb, ltb-true, ltb-false}
-use lib.Dec.{ltb}
-use lib.ListN.{length, take, drop, get_or, set, replicate, drop_of_length-le}
-use lib.Seq.{sets, set_out, sets-eq, take_at}
-use Rattle.spec.proofs.AheadLaws.{drop_one}
+use borrow.Author.Tests.{ltb-true, ltb-false, leb-true, leb-false}
+use lib.Dec.{eqb, ltb, leb}
+use lib.ListN.{length, take, drop, get_or, set, replicate, drop_of_length-le, take-append-drop}
+use lib.Seq.{sets, set_out, sets-eq, take_at, length-sets, length-take-le, drop-drop}
+use Rattle.std.specs.List.{FoldsTo}
+use Rattle.std.proofs.lemmas.List.{drop_more}
 use Rattle.spec.proofs.Choice.{by}
 use Rattle.spec.proofs.RequotedLength.{doubled_le, long_quoted}
 use Rattle.spec.specs.Requote.{doubled, single_quoted}
@@ -30,12 +31,30 @@ pub sets_out : {A : Type 0} (vs d : List A) (i : ℕ) → length d ≤ i → set
 sets_out [] d i h = refl
 sets_out (v ∷ vs) d i h = rw (set_out d i v h) (sets_out vs d (suc i) (omega arith))
 
--- one more of the same item, and none left or no room
-pub fill_step : {A : Type 0} (d : List A) (i to : ℕ) (x : A) → i < to → sets d i (replicate (to - i) x) ≡ sets (set d i x) (i + 1) (replicate (to - (i + 1)) x)
-fill_step d i to x h =
-    let k : to - i ≡ suc (to - (i + 1)) = omega arith in
-    rw (k, add-one i)
+-- a list stored from index n on, as far as there is room for it: fits items
+pub store_part : {A : Type 0} (d vs : List A) (n fits : ℕ) → n ≤ length d → fits ≡ min (length vs) (length d - n)
+    → take n d ++ (take fits vs ++ drop fits (drop n d)) ≡ sets d n vs
+store_part d vs n fits h e =
+    let u = take fits vs in
+    let long : length u ≡ fits = length-take-le fits vs (omega arith) in
+    let behind : drop (n + length u) d ≡ drop fits (drop n d) = ap (λ (k : ℕ). drop (n + k) d) long ∙ sym (drop-drop fits n d ∙ ap (λ (k : ℕ). drop k d) (omega arith)) in
+    let stored : sets d n u ≡ take n d ++ (u ++ drop fits (drop n d)) = rw behind at (sets-eq u d n (omega (arith, long))) ∙ append_assoc (take n d) u (drop fits (drop n d)) in
+    let rest : sets (sets d n u) (n + length u) (drop fits vs) ≡ sets d n u =
+    by (leb (length vs) fits)
+    (λ q. rw (drop_of_length-le vs (leb-true (length vs) fits q)) refl)
+    (λ q. sets_out (drop fits vs) (sets d n u) (n + length u) (omega (arith, long, leb-false (length vs) fits q, length-sets d n u))) in
+    sym (ap (sets d n) (sym (take-append-drop fits vs)) ∙ (sets_append u (drop fits vs) d n ∙ (rest ∙ stored)))
 
+-- what calls that give x and change nothing have given
+pub all_same : {F A : Type 0} (step : F → A → F → Type 0) (x : A) (f : F)
+    → ((y : A) (next : F) → step f y next → (next ≡ f) × (y ≡ x))
+    → (ys : List A) (end : F) → FoldsTo step f ys end → ys ≡ replicate (length ys) x
+all_same step x f each [] end h = refl
+all_same step x f each (y ∷ ys) end h =
+    let e = each y h.0 h.1 in
+    rw (e.1, sym (all_same step x f each ys end (rw e.0 at h.2))) refl
+
+-- the same item, none left or no room
 pub fill_end : {A : Type 0} (d : List A) (i to : ℕ) (x : A) → min to (length d) ≤ i → sets d i (replicate (to - i) x) ≡ d
 fill_end d i to x h =
     by (ltb i to)
@@ -44,37 +63,18 @@ fill_end d i to x h =
     let k : to - i ≡ 0 = omega (arith, ltb-false i to q) in
     rw k)
 
-module _ (c : ℕ) (cs : List ℕ) where
-  two_front : c ≡ 39 → doubled (c ∷ cs) ≡ c ∷ c ∷ doubled cs
-  unfolding doubled
-  two_front e = rw (eq-eqb c 39 e, e)
-
-  one_front : (c ≡ 39 → ⊥) → doubled (c ∷ cs) ≡ c ∷ doubled cs
-  unfolding doubled
-  one_front e = rw (ne_eqb c 39 e)
+-- a byte of a list with each quote twice, and what stands behind it
+doubled_cons : (c : ℕ) (cs : List ℕ) → doubled (c ∷ cs) ≡ doubled (c ∷ []) ++ doubled cs
+unfolding doubled
+doubled_cons c cs = by (eqb c 39) (λ e. rw e refl) (λ e. rw e refl)
 
 module _ (src : List ℕ) (j : ℕ) where
-  pub at_quote : j < length src → get_or src j 0 ≡ 39 → doubled (drop j src) ≡ get_or src j 0 ∷ get_or src j 0 ∷ doubled (drop (j + 1) src)
-  at_quote h e = rw (drop_one src j 0 h) (two_front _ _ e)
+  pub doubled_step : j < length src → doubled (drop j src) ≡ doubled (get_or src j 0 ∷ []) ++ doubled (drop (j + 1) src)
+  doubled_step h = rw (drop_more src j 0 h) (doubled_cons (get_or src j 0) (drop (j + 1) src))
 
-  pub at_plain : j < length src → (get_or src j 0 ≡ 39 → ⊥) → doubled (drop j src) ≡ get_or src j 0 ∷ doubled (drop (j + 1) src)
-  at_plain h e = rw (drop_one src j 0 h, one_front _ _ e)
-
-  pub at_last : length src ≤ j → doubled (drop j src) ≡ []
+  pub doubled_end : length src ≤ j → doubled (drop j src) ≡ []
   unfolding doubled
-  at_last h = rw (drop_of_length-le src h)
-
--- what a turn of `put_doubled` does: the list that is left to store, and its length
-pub record Turn (d : List ℕ) (o : ℕ) (r : List ℕ) (d' : List ℕ) (o' : ℕ) (r' : List ℕ) : Type 0 where
-  pub stored : sets d o r ≡ sets d' o' r'
-  pub counted : o + length r ≡ o' + length r'
-
-module _ (d r r' : List ℕ) (o b : ℕ) where
-  pub turn_one : (d₁ : List ℕ) (o₁ : ℕ) → r ≡ b ∷ r' → d₁ ≡ set d o b → o₁ ≡ o + 1 → Turn d o r d₁ o₁ r'
-  turn_one d₁ o₁ e p k = record { stored = rw (e, p, k, add-one o); counted = rw (e, k) (omega arith) }
-
-  pub turn_two : (d₁ d₂ : List ℕ) (o₁ o₂ : ℕ) → r ≡ b ∷ b ∷ r' → d₁ ≡ set d o b → o₁ ≡ o + 1 → d₂ ≡ set d₁ o₁ b → o₂ ≡ o₁ + 1 → Turn d o r d₂ o₂ r'
-  turn_two d₁ d₂ o₁ o₂ e p k q l = record { stored = rw (e, q, l, p, k, add-one (o + 1), add-one o); counted = rw (e, l, k) (omega arith) }
+  doubled_end h = rw (drop_of_length-le src h)
 
 -- a quote, the list with each quote twice, a quote
 pub stored_quoted : (d d₁ d₂ d₃ xs : List ℕ) (n p q : ℕ) → d₁ ≡ set d n 39 → p ≡ n + 1 → d₂ ≡ sets d₁ p (doubled xs) → q ≡ p + length (doubled xs) → d₃ ≡ set d₂ q 39 → d₃ ≡ sets d n (single_quoted xs)
@@ -83,7 +83,7 @@ stored_quoted d d₁ d₂ d₃ xs n p q a b c e f =
     f ∙ rw (c, e, a, b, add-one n) (sym (sets_append (doubled xs) (39 ∷ []) (set d n 39) (suc n)))
 
 -- what is stored at the front of a buffer that is long enough stands there
-pub front_stored : (d d' c : List ℕ) (n : ℕ) → length c ≡ n → n ≤ length d → d' ≡ sets d 0 c → take n d' ≡ c
+pub front_stored : {A : Type 0} (d d' c : List A) (n : ℕ) → length c ≡ n → n ≤ length d → d' ≡ sets d 0 c → take n d' ≡ c
 front_stored d d' c n e h p =
     let k : 0 + length c ≤ length d = omega arith in
     ap (take n) (p ∙ sets-eq c d 0 k) ∙ take_at c (drop (0 + length c) d) n e

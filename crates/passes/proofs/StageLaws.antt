@@ -8,14 +8,13 @@ use native.Mathlib.Omega.{arith}
 use borrow.Author.Tests.{leb-true, leb-false, lt-ltb, le-ltb}
 use lib.Dec.{leb, ltb}
 use lib.ListN.{length, take, length-take}
-use lib.Seq.{sets, take_at, take_all, take-length, length-take-le}
+use lib.Seq.{sets}
 use Rattle.spec.proofs.Apart.{apart}
 use Rattle.spec.proofs.Choice.{by}
 use Rattle.spec.proofs.LengthLaws.{requoted_length_lem, two_length, one_fits, two_fits, accepted_same}
-use Rattle.spec.proofs.MapLaws.{map_length, marked_length}
-use Rattle.spec.proofs.PartLaws.{marked_take}
+use Rattle.spec.proofs.MapLaws.{marked_length}
 use Rattle.spec.proofs.RefusalBounds.{bytes_length}
-use Rattle.spec.specs.Map.{Marked, map_of, marked, marked_text, bytes}
+use Rattle.spec.specs.Map.{Marked, marked_text, bytes}
 use Rattle.spec.specs.Outcome.{Outcome, accepted, refused, Rewriting, forget}
 use Rattle.spec.specs.Requote.{requoted}
 use Rattle.spec.specs.Elsif.{elsif}
@@ -27,32 +26,16 @@ use Rattle.spec.specs.Answers.{text_limit, call_numbers, result_of, kept_behind}
 use Rattle.spec.specs.declared.Refusal.{Refusal}
 use Rattle.output.specs.Passes.{pass_answer, Leaves}
 use Rattle.output.proofs.StoreLaws.{front_stored}
+use Rattle.output.specs.Written.{counted}
 use Rattle.quotes.specs.QuoteMap.{quote_map}
 use Rattle.quotes.proofs.QuoteMapLaws.{quote_marks}
-use Rattle.set_lines.specs.Writes.{counted}
 use Rattle.passes.specs.Gives.{Gives, finished, limited_answer}
 use Rattle.passes.proofs.BufferEndLaws.{answer_length}
 use Rattle.spec.specs.declared.Accepted.{Accepted}
 
--- ---- the map that a pass reads
-
--- the map at the front of a buffer, read as long as the text is
-pub front_map : (xs m d : List ℕ) → m ≡ kept_behind (map_of xs) d → marked xs (take (length xs) m) ≡ marked_text xs
-unfolding kept_behind marked_text
-front_map xs m d e = ap (marked xs) (ap (take (length xs)) e ∙ take_at (map_of xs) _ (length xs) (map_length xs))
-
--- a map of any kind, read as long as the text is
-front_marks : (xs ms : List ℕ) → marked xs (take (length xs) ms) ≡ marked xs ms
-front_marks xs ms =
-    ap (λ (l : List ℕ). marked l (take (length xs) ms)) (sym (take-length xs))
-    ∙ (marked_take (length xs) xs ms ∙ take_all (length xs) (marked xs ms) (omega (arith, marked_length xs ms)))
-
-pub front_quotes : (xs m d : List ℕ) → m ≡ kept_behind (quote_map xs) d → marked xs (take (length xs) m) ≡ quote_walk 0 xs
-front_quotes xs m d e = front_marks xs m ∙ (ap (marked xs) e ∙ quote_marks xs d)
-
--- bytes copied to the front
-pub front_copied : (d d' f : List ℕ) (k : ℕ) → k ≤ length d → k ≤ length f → d' ≡ sets d 0 (take k f) → take k d' ≡ take k f
-front_copied d d' f k a b e = front_stored d d' (take k f) k (length-take-le k f b) a e
+-- a text with its map of quotes is as long as the text
+pub quotes_length : (xs : List ℕ) → length (quote_walk 0 xs) ≡ length xs
+quotes_length xs = ap length (sym (quote_marks xs [])) ∙ marked_length xs (kept_behind (quote_map xs) [])
 
 -- ---- one pass, within the buffer size or refusal 6
 

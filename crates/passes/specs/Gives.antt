@@ -1,7 +1,7 @@
 -- What the passes answer and leave. Assumes nothing.
 use Rattle.std.specs.Prelude.{◌≡◌, List, ℕ, length, take, Result, Ok, Err}
 use Rattle.spec.specs.Answers.{CallResult}
-use Rattle.set_lines.specs.Writes.{counted}
+use Rattle.output.specs.Written.{counted}
 use Rattle.spec.specs.declared.Refusal.{Refusal}
 use Rattle.spec.specs.declared.Accepted.{Accepted}
 

@@ -1,36 +1,34 @@
 // The five passes one after the other, and what the lent buffers hold when they end.
 #![tactic(auto)]
 
-ghost use Rattle.std.specs.Prelude.{◌≡◌, [], ◌-◌, ◌≤◌, ◌<◌, length, take};
-ghost use Rattle.spec.specs.Raise.{action_of};
-ghost use Rattle.spec.specs.Body.{assign_pass, select_pass, raise_pass, limited, rewriting};
-ghost use Rattle.spec.specs.Answers.{refusal_numbers, call_numbers, result_of, body_result, zeroed_to};
-ghost use Rattle.passes.specs.Gives.{Gives, finished, limited_answer};
+ghost use Rattle.std.specs.Prelude.{◌≡◌, [], ◌≤◌, length, take, replicate};
 ghost use Rattle.std.proofs.lemmas.List.Edits.{sets};
-ghost use Rattle.spec.specs.Map.{marked, marked_text, bytes};
-ghost use Rattle.spec.specs.SelectInto.{quote_walk};
+ghost use Rattle.passes.specs.Gives.{Gives, finished, limited_answer};
+ghost use Rattle.spec.specs.Answers.{call_numbers, result_of, by_table, body_result, zeroed_to};
+ghost use Rattle.spec.specs.Body.{assign_pass, select_pass, raise_pass, limited, rewriting};
 ghost use Rattle.spec.specs.Elsif.{elsif};
+ghost use Rattle.spec.specs.Map.{marked_text, bytes};
+ghost use Rattle.spec.specs.Raise.{action_of};
 
 use assignments::transform_assignments;
 use elsif::transform_elsif;
-use output::{fill, put_all};
-use quotes::map_quotes;
+use output::{BUFFER_SIZE, fill, within_buffer};
+use quotes::quotes_mapped;
 use raise::transform_raise_statements;
 use requote::requote;
-use scanner::map_text;
+use scanner::MappedText;
 use select_into::transform_select_into;
-use set_lines::within_buffer;
 use spec::{Accepted, Actions, Refusal, RefusalNumbers};
 
+// The bytes of a lent buffer that a call fills.
+type Buffer = [u8; BUFFER_SIZE];
+
 // The k bytes at the front of `from` go to the front of `out`.
-#[tactic(auto, using(crate::proofs::StageLaws::front_copied))]
-fn copy_front(out: &mut [u8], from: &[u8], k: usize)
-    requires out_len { length out.old ≡ 65536 }
-    requires from_len { length from.now ≡ 65536 }
-    requires k_bound { k ≤ 65536 }
+fn copy_front(out: &mut Buffer, from: &Buffer, k: usize)
+    requires { k ≤ 65536 }
     ensures { take k out.new ≡ take k from.now }
 {
-    put_all(out, 0, &from[..k]);
+    out[..k].copy_from_slice(&from[..k]);
 }
 
 // How many bytes the output holds with this answer.
@@ -59,10 +57,8 @@ fn answer_of(p: Result<usize, Refusal>) -> Result<Accepted, Refusal>
 }
 
 // The passes end in p; the bytes that it hands back, if any, stand in `from`.
-fn finish(out: &mut [u8], from: &[u8], p: Result<usize, Refusal>) -> Result<Accepted, Refusal>
-    requires out_len { length out.old ≡ 65536 }
-    requires from_len { length from.now ≡ 65536 }
-    requires p_bound { (call_numbers (finished p)).length ≤ 65536 }
+fn finish(out: &mut Buffer, from: &Buffer, p: Result<usize, Refusal>) -> Result<Accepted, Refusal>
+    requires { (call_numbers (finished p)).length ≤ 65536 }
     ensures value { result ≡ finished p }
     ensures out_after { take (call_numbers (finished p)).length out.new ≡ take (call_numbers (finished p)).length from.now }
 {
@@ -71,88 +67,57 @@ fn finish(out: &mut [u8], from: &[u8], p: Result<usize, Refusal>) -> Result<Acce
     r
 }
 
-// The text's map, written at the front of the buffer.
-#[tactic(auto, using(crate::proofs::StageLaws::front_map))]
-fn mapped<'a>(text: &[u8], map: &'a mut [u8]) -> &'a [u8]
-    requires { length text.now ≤ length map.old }
-    ensures same_len { length result.now ≡ length text.now }
-    ensures marks { marked text.now result.now ≡ marked_text text.now }
-{
-    map_text(text, map);
-    &map[..text.len()]
-}
-
-// The same of its map of quotes.
-#[tactic(auto, using(crate::proofs::StageLaws::front_quotes))]
-fn quotes_mapped<'a>(text: &[u8], map: &'a mut [u8]) -> &'a [u8]
-    requires { length text.now ≤ length map.old }
-    ensures same_len { length result.now ≡ length text.now }
-    ensures marks { marked text.now result.now ≡ quote_walk 0 text.now }
-{
-    map_quotes(text, map);
-    &map[..text.len()]
-}
-
 // Pass 2 of a text; `map` takes its map.
-fn elsif_pass(text: &[u8], map: &mut [u8], out: &mut [u8]) -> usize
-    requires text_len_bound { length text.now ≤ 65536 }
-    requires text_in_bounds { length text.now ≤ length map.old }
+#[tactic(auto, using(spec::proofs::MapLaws::text_length))]
+fn elsif_pass(text: &[u8], map: &mut Buffer, out: &mut Buffer) -> usize
+    requires { length text.now ≤ 65536 }
     ensures value { result ≡ length (bytes (elsif (marked_text text.now))) }
     ensures out_after { out.new ≡ sets out.old 0 (bytes (elsif (marked_text text.now))) }
 {
-    transform_elsif(text, mapped(text, map), out)
+    transform_elsif(&MappedText::mapped(text, map), out)
 }
 
 // Pass 3 of a text; `map` takes its map.
-#[tactic(auto, using(crate::proofs::StageLaws::limited_gives), unfolding(spec::specs::Body::assign_pass))]
-fn assign_pass(text: &[u8], map: &mut [u8], out: &mut [u8]) -> Result<usize, Refusal>
-    requires text_len_bound { length text.now ≤ 65536 }
-    requires text_in_bounds { length text.now ≤ length map.old }
-    requires out_len { length out.old ≡ 65536 }
+#[tactic(auto, using(spec::proofs::MapLaws::text_length, crate::proofs::StageLaws::limited_gives), unfolding(spec::specs::Body::assign_pass))]
+fn assign_pass(text: &[u8], map: &mut Buffer, out: &mut Buffer) -> Result<usize, Refusal>
+    requires { length text.now ≤ 65536 }
     ensures { Gives (result_of [] (limited (assign_pass text.now))) (finished result) out.new }
 {
-    limit(transform_assignments(text, mapped(text, map), out))
+    limit(transform_assignments(&MappedText::mapped(text, map), out))
 }
 
 // Pass 4 of a text; `map` takes its map of quotes.
-#[tactic(auto, using(crate::proofs::StageLaws::counted_gives), unfolding(spec::specs::Body::select_pass))]
-fn select_pass(text: &[u8], map: &mut [u8], out: &mut [u8]) -> Result<usize, Refusal>
-    requires text_len_bound { length text.now ≤ 65536 }
-    requires text_in_bounds { length text.now ≤ length map.old }
-    requires out_len { length out.old ≡ 65536 }
+#[tactic(auto, using(crate::proofs::StageLaws::quotes_length, crate::proofs::StageLaws::counted_gives), unfolding(spec::specs::Body::select_pass))]
+fn select_pass(text: &[u8], map: &mut Buffer, out: &mut Buffer) -> Result<usize, Refusal>
+    requires { length text.now ≤ 65536 }
     ensures { Gives (result_of [] (limited (select_pass text.now))) (finished result) out.new }
 {
-    transform_select_into(text, quotes_mapped(text, map), out)
+    transform_select_into(&quotes_mapped(text, map), out)
 }
 
 // Pass 5 of a text; `map` takes its map.
-#[tactic(auto, using(crate::proofs::StageLaws::limited_gives), unfolding(spec::specs::Body::raise_pass))]
+#[tactic(auto, using(spec::proofs::MapLaws::text_length, crate::proofs::StageLaws::limited_gives), unfolding(spec::specs::Body::raise_pass))]
 fn raise_pass(
     text: &[u8],
     actions: Actions,
-    map: &mut [u8],
-    out: &mut [u8],
+    map: &mut Buffer,
+    out: &mut Buffer,
 ) -> Result<usize, Refusal>
-    requires text_len_bound { length text.now ≤ 65536 }
-    requires text_in_bounds { length text.now ≤ length map.old }
-    requires out_len { length out.old ≡ 65536 }
+    requires { length text.now ≤ 65536 }
     ensures { Gives (result_of [] (limited (raise_pass (action_of actions) text.now))) (finished result) out.new }
 {
-    limit(transform_raise_statements(text, mapped(text, map), actions, out))
+    limit(transform_raise_statements(&MappedText::mapped(text, map), actions, out))
 }
 
 // All five passes over the text: each reads the result of the one before, in the buffer where that one left it.
 fn run_passes(
     text: &[u8],
     actions: Actions,
-    output: &mut [u8],
-    work: &mut [u8],
-    spare: &mut [u8],
+    output: &mut Buffer,
+    work: &mut Buffer,
+    spare: &mut Buffer,
 ) -> Result<Accepted, Refusal>
-    requires text_len_bound { length text.now ≤ 16384 }
-    requires output_len { length output.old ≡ 65536 }
-    requires work_len { length work.old ≡ 65536 }
-    requires spare_len { length spare.old ≡ 65536 }
+    requires { length text.now ≤ 16384 }
     ensures { Gives (result_of [] (rewriting (action_of actions) text.now)) result output.new }
 {
     let requoted = requote(text, work);
@@ -167,35 +132,76 @@ fn run_passes(
     finish(output, spare, raised)
 }
 
-// The passes, and zeros behind the result and in the work buffers.
+// How the passes ended: the call's answer, and how many bytes the output holds.
+#[derive(Clone, Copy)]
+struct Ended {
+    answer: Result<Accepted, Refusal>,
+    length: usize,
+}
+
+// The passes with what a table says, whose refusal comes before them and leaves no bytes.
+#[tactic(auto, using(crate::proofs::BufferEndLaws::answer_length), unfolding(spec::specs::Answers::body_result))]
+fn run_table(
+    text: &[u8],
+    table: Result<Actions, Refusal>,
+    output: &mut Buffer,
+    work: &mut Buffer,
+    spare: &mut Buffer,
+) -> Ended
+    requires { length text.now ≤ 16384 }
+    ensures gives { Gives (by_table table (body_result text.now)) result.answer output.new }
+    ensures held { result.length ≡ length (by_table table (body_result text.now)).output }
+    ensures same_len { (length output.new ≡ 65536) × (length work.new ≡ 65536) × (length spare.new ≡ 65536) }
+{
+    match table {
+        Ok(actions) => {
+            let answer = run_passes(text, actions, output, work, spare);
+            Ended {
+                answer,
+                length: output_length(answer),
+            }
+        }
+        Err(refusal) => Ended {
+            answer: Err(refusal),
+            length: 0,
+        },
+    }
+}
+
+// Zeros in the first `size` bytes of a work buffer. Any size, so that the proof computes no list of as many zeros as a call's.
+fn clear(work: &mut [u8], size: usize)
+    ensures { work.new ≡ sets work.old 0 (replicate size 0) }
+{
+    fill(work, 0, size, 0);
+}
+
+// The passes with what a table says, and zeros behind the result and in the work buffers.
 pub fn run_body(
     text: &[u8],
-    actions: Actions,
+    table: Result<Actions, Refusal>,
     output: &mut [u8],
     work: &mut [u8],
     spare: &mut [u8],
-    size: usize,
 ) -> Result<Accepted, Refusal>
-    requires size_value { size ≡ 65536 }
     requires text_len_bound { length text.now ≤ 16384 }
-    requires size_in_bounds { size ≤ length output.old }
-    requires size_in_bounds_2 { size ≤ length work.old }
-    requires size_in_bounds_3 { size ≤ length spare.old }
-    ensures value { result ≡ (body_result text.now actions).answer }
-    ensures output_after { output.new ≡ zeroed_to size (body_result text.now actions).output output.old }
-    ensures work_after { work.new ≡ zeroed_to size [] work.old }
-    ensures spare_after { spare.new ≡ zeroed_to size [] spare.old }
+    requires output_in_bounds { 65536 ≤ length output.old }
+    requires work_in_bounds { 65536 ≤ length work.old }
+    requires spare_in_bounds { 65536 ≤ length spare.old }
+    ensures value { result ≡ (by_table table (body_result text.now)).answer }
+    ensures output_after { output.new ≡ zeroed_to 65536 (by_table table (body_result text.now)).output output.old }
+    ensures work_after { work.new ≡ zeroed_to 65536 [] work.old }
+    ensures spare_after { spare.new ≡ zeroed_to 65536 [] spare.old }
 {
-    let r = run_passes(
-        text,
-        actions,
-        &mut output[..size],
-        &mut work[..size],
-        &mut spare[..size],
-    );
-    let n = output_length(r);
-    fill(output, n, size, 0);
-    fill(work, 0, size, 0);
-    fill(spare, 0, size, 0);
-    r
+    let (Some(out), Some(first), Some(second)) = (
+        output.first_chunk_mut::<BUFFER_SIZE>(),
+        work.first_chunk_mut::<BUFFER_SIZE>(),
+        spare.first_chunk_mut::<BUFFER_SIZE>(),
+    ) else {
+        unreachable!()
+    };
+    let ended = run_table(text, table, out, first, second);
+    fill(output, ended.length, BUFFER_SIZE, 0);
+    clear(work, BUFFER_SIZE);
+    clear(spare, BUFFER_SIZE);
+    ended.answer
 }

@@ -1,9 +1,10 @@
-// The functions of the C interface, for Rattle crates; crate `plpgsql_rewriter_c` exports them to C. Each function's last
-// parameter takes four numbers: for a search its number, the found flag, the place, and the length of what was found or
-// written; for a call its number, the place, the output length and the number of records.
+// The functions of the C interface, for Rattle crates; crate `plpgsql_rewriter_c` exports them to C. There are two crates, since
+// C calls an extern function by its symbol, and a Rattle crate calls one that is not extern. C lends each buffer apart, so the
+// functions take them so. Each function's last parameter takes four numbers: for a search its number, the found flag, the place,
+// and the length of what was found or written; for a call its number, the place, the output length and the number of records.
 #![tactic(auto)]
 
-ghost use Rattle.std.specs.Prelude.{◌≡◌, [], ◌∷◌, length, get_or};
+ghost use Rattle.std.specs.Prelude.{◌≡◌, [], ◌∷◌, length};
 ghost use Rattle.spec.specs.Answers.{map_exit, regions_answer, keyword_answer, byte_answer, needle_answer, word_answer, word_part, search_numbers, handler_answer, unterminated_answer, split_answer, split_map_exit, split_exit, requoted_length_answer, requote_answer, requote_exit, refusal_numbers, body_check, body_answer, body_output, work_exit, function_check, function_answer, function_output, function_text, function_records};
 ghost use Rattle.spec.specs.Levels.{table_of, no_table};
 ghost use Rattle.closed.specs.Answer.{closed_answer};
@@ -12,6 +13,20 @@ ghost use Rattle.searches.specs.Words.{word_found, word_bytes};
 
 use searches::Word;
 use spec::{Accepted, Refusal, RefusalNumbers};
+
+// The four numbers that a function hands back: a type of this crate, so that what searches and calls answer may become one.
+#[derive(Clone, Copy)]
+struct Answer([u32; 4]);
+
+impl Answer {
+    // Puts the numbers where a function's last parameter takes them.
+    fn put(self, answer: &mut [u32; 4])
+        ensures { answer.new ≡ self.0 }
+    {
+        let numbers = self.0;
+        *answer = numbers;
+    }
+}
 
 // A number in 32 bits; a larger one is the largest.
 #[tactic(auto, unfolding(crate::specs::Four::narrow))]
@@ -22,71 +37,80 @@ fn narrowed(n: usize) -> u32
 }
 
 // The four numbers.
-fn four(number: u32, second: usize, third: usize, fourth: usize) -> [u32; 4]
-    ensures { result ≡ number ∷ narrow second ∷ narrow third ∷ narrow fourth ∷ [] }
+fn four(number: u32, second: usize, third: usize, fourth: usize) -> Answer
+    ensures { result.0 ≡ number ∷ narrow second ∷ narrow third ∷ narrow fourth ∷ [] }
 {
-    [number, narrowed(second), narrowed(third), narrowed(fourth)]
+    Answer([number, narrowed(second), narrowed(third), narrowed(fourth)])
 }
 
-// The four numbers of a refused search.
-fn of_search_refusal(r: Refusal) -> [u32; 4]
-    ensures { result ≡ (refusal_numbers r).number ∷ 0 ∷ narrow (refusal_numbers r).place ∷ 0 ∷ [] }
+// Of a refused search. No `From`, here and below: a search's refusal has its place third, a call's second.
+#[tactic(auto, unfolding(crate::specs::Four::narrow))]
+fn of_search_refusal(r: Refusal) -> Answer
+    ensures { result.0 ≡ (refusal_numbers r).number ∷ 0 ∷ narrow (refusal_numbers r).place ∷ 0 ∷ [] }
 {
     let n = RefusalNumbers::from(r);
-    [n.number, 0, narrowed(n.place), 0]
+    four(n.number, 0, n.place, 0)
 }
 
-// The four numbers of a search that seeks something.
-#[tactic(auto, unfolding(crate::specs::Four::narrow))]
-fn of_search(s: Result<Option<usize>, Refusal>) -> [u32; 4]
-    ensures { result ≡ four_found s }
-{
-    match s {
-        Ok(Some(i)) => four(0, 1, i, 0),
-        Ok(None) => four(0, 0, 0, 0),
-        Err(r) => of_search_refusal(r),
-    }
-}
-
-// The four numbers of a search that fills a buffer.
-#[tactic(auto, unfolding(crate::specs::Four::narrow))]
-fn of_filled(f: Result<usize, Refusal>) -> [u32; 4]
-    ensures { result ≡ four_filled f }
-{
-    match f {
-        Ok(n) => four(0, 0, 0, n),
-        Err(r) => of_search_refusal(r),
-    }
-}
-
-// The four numbers of a search for a word.
-#[tactic(auto, unfolding(crate::specs::Four::narrow))]
-fn of_word(found: Result<Option<Word<'_>>, Refusal>) -> [u32; 4]
-    ensures { result ≡ four (search_numbers (word_found found.entry)) (length (word_bytes found.entry)) }
-{
-    match found {
-        Ok(Some(word)) => four(0, 1, word.place, word.bytes.len()),
-        Ok(None) => four(0, 0, 0, 0),
-        Err(r) => of_search_refusal(r),
-    }
-}
-
-// The four numbers of a refused call.
-fn of_call_refusal(r: Refusal) -> [u32; 4]
-    ensures { result ≡ (refusal_numbers r).number ∷ narrow (refusal_numbers r).place ∷ narrow (refusal_numbers r).length ∷ narrow 0 ∷ [] }
+// Of a refused call.
+fn of_call_refusal(r: Refusal) -> Answer
+    ensures { result.0 ≡ (refusal_numbers r).number ∷ narrow (refusal_numbers r).place ∷ narrow (refusal_numbers r).length ∷ narrow 0 ∷ [] }
 {
     let n = RefusalNumbers::from(r);
     four(n.number, n.place, n.length, 0)
 }
 
-// The four numbers of a call.
-#[tactic(auto, unfolding(crate::specs::Four::narrow))]
-fn of_call(r: Result<Accepted, Refusal>) -> [u32; 4]
-    ensures { result ≡ four_called r }
-{
-    match r {
-        Ok(accepted) => four(0, 0, accepted.length, accepted.records),
-        Err(r) => of_call_refusal(r),
+// Of a search that seeks something.
+impl From<Result<Option<usize>, Refusal>> for Answer {
+    ghost from_gives = { λ found a. a.0 ≡ four_found found };
+
+    #[tactic(auto, unfolding(crate::specs::Four::narrow))]
+    fn from(found: Result<Option<usize>, Refusal>) -> Answer {
+        match found {
+            Ok(Some(i)) => four(0, 1, i, 0),
+            Ok(None) => four(0, 0, 0, 0),
+            Err(r) => of_search_refusal(r),
+        }
+    }
+}
+
+// Of a search that fills a buffer.
+impl From<Result<usize, Refusal>> for Answer {
+    ghost from_gives = { λ filled a. a.0 ≡ four_filled filled };
+
+    #[tactic(auto, unfolding(crate::specs::Four::narrow))]
+    fn from(filled: Result<usize, Refusal>) -> Answer {
+        match filled {
+            Ok(n) => four(0, 0, 0, n),
+            Err(r) => of_search_refusal(r),
+        }
+    }
+}
+
+// Of a search for a word.
+impl From<Result<Option<Word<'_>>, Refusal>> for Answer {
+    ghost from_gives = { λ found a. a.0 ≡ four (search_numbers (word_found found)) (length (word_bytes found)) };
+
+    #[tactic(auto, unfolding(crate::specs::Four::narrow))]
+    fn from(found: Result<Option<Word<'_>>, Refusal>) -> Answer {
+        match found {
+            Ok(Some(word)) => four(0, 1, word.place, word.bytes.len()),
+            Ok(None) => four(0, 0, 0, 0),
+            Err(r) => of_search_refusal(r),
+        }
+    }
+}
+
+// Of a call.
+impl From<Result<Accepted, Refusal>> for Answer {
+    ghost from_gives = { λ answer a. a.0 ≡ four_called answer };
+
+    #[tactic(auto, unfolding(crate::specs::Four::narrow))]
+    fn from(answer: Result<Accepted, Refusal>) -> Answer {
+        match answer {
+            Ok(accepted) => four(0, 0, accepted.length, accepted.records),
+            Err(r) => of_call_refusal(r),
+        }
     }
 }
 
@@ -95,7 +119,7 @@ pub fn plpgsql_regions(text: &[u8], map: &mut [u8], answer: &mut [u32; 4])
     ensures map_after { map.new ≡ map_exit text.now map.old [] }
     ensures answer_after { answer.new ≡ four_filled (regions_answer text.now map.old) }
 {
-    *answer = of_filled(searches::regions(text, map));
+    Answer::from(searches::regions(text, map)).put(answer);
 }
 
 // `find_keyword`.
@@ -109,7 +133,7 @@ pub fn plpgsql_find_keyword(
     ensures map_after { map.new ≡ map_exit text.now map.old keyword.now }
     ensures answer_after { answer.new ≡ four_found (keyword_answer text.now map.old keyword.now from) }
 {
-    *answer = of_search(searches::find_keyword(text, map, keyword, from));
+    Answer::from(searches::find_keyword(text, map, keyword, from)).put(answer);
 }
 
 // `find_in_code`.
@@ -117,7 +141,7 @@ pub fn plpgsql_find_in_code(text: &[u8], map: &mut [u8], byte: u8, answer: &mut 
     ensures map_after { map.new ≡ map_exit text.now map.old [] }
     ensures answer_after { answer.new ≡ four_found (byte_answer text.now map.old byte) }
 {
-    *answer = of_search(searches::find_in_code(text, map, byte));
+    Answer::from(searches::find_in_code(text, map, byte)).put(answer);
 }
 
 // `find_str_in_code`.
@@ -125,7 +149,7 @@ pub fn plpgsql_find_str_in_code(text: &[u8], map: &mut [u8], needle: &[u8], answ
     ensures map_after { map.new ≡ map_exit text.now map.old needle.now }
     ensures answer_after { answer.new ≡ four_found (needle_answer text.now map.old needle.now) }
 {
-    *answer = of_search(searches::find_str_in_code(text, map, needle));
+    Answer::from(searches::find_str_in_code(text, map, needle)).put(answer);
 }
 
 // `next_word_in_code`: place and length stand for the part that it hands back.
@@ -133,7 +157,7 @@ pub fn plpgsql_next_word_in_code(text: &[u8], map: &mut [u8], from: usize, answe
     ensures map_after { map.new ≡ map_exit text.now map.old [] }
     ensures answer_after { answer.new ≡ four (search_numbers (word_answer text.now map.old from)) (length (word_part text.now map.old from)) }
 {
-    *answer = of_word(searches::next_word_in_code(text, map, from));
+    Answer::from(searches::next_word_in_code(text, map, from)).put(answer);
 }
 
 // `split_in_code`; the fourth number counts the pieces.
@@ -148,14 +172,14 @@ pub fn plpgsql_split_in_code(
     ensures starts_after { starts.new ≡ split_exit text.now map.old starts.old separator }
     ensures answer_after { answer.new ≡ four_filled (split_answer text.now map.old starts.old separator) }
 {
-    *answer = of_filled(searches::split_in_code(text, map, starts, separator));
+    Answer::from(searches::split_in_code(text, map, starts, separator)).put(answer);
 }
 
 // `requoted_length`; the fourth number is that length.
 pub fn plpgsql_requoted_length(text: &[u8], answer: &mut [u32; 4])
     ensures { answer.new ≡ four_filled (requoted_length_answer text.now) }
 {
-    *answer = of_filled(searches::requoted_length(text));
+    Answer::from(searches::requoted_length(text)).put(answer);
 }
 
 // `requote_dollar_literals`; the fourth number is the length of the result.
@@ -163,14 +187,14 @@ pub fn plpgsql_requote_dollar_literals(text: &[u8], output: &mut [u8], answer: &
     ensures output_after { output.new ≡ requote_exit text.now output.old }
     ensures answer_after { answer.new ≡ four_filled (requote_answer text.now output.old) }
 {
-    *answer = of_filled(searches::requote_dollar_literals(text, output));
+    Answer::from(searches::requote_dollar_literals(text, output)).put(answer);
 }
 
 // `has_unterminated_dollar_quote`.
 pub fn plpgsql_has_unterminated_dollar_quote(text: &[u8], answer: &mut [u32; 4])
     ensures { answer.new ≡ four_found (unterminated_answer text.now) }
 {
-    *answer = of_search(searches::has_unterminated_dollar_quote(text));
+    Answer::from(searches::has_unterminated_dollar_quote(text)).put(answer);
 }
 
 // `has_exception_handler`.
@@ -178,7 +202,7 @@ pub fn plpgsql_has_exception_handler(text: &[u8], map: &mut [u8], answer: &mut [
     ensures map_after { map.new ≡ map_exit text.now map.old [] }
     ensures answer_after { answer.new ≡ four_found (handler_answer text.now map.old) }
 {
-    *answer = of_search(searches::has_exception_handler(text, map));
+    Answer::from(searches::has_exception_handler(text, map)).put(answer);
 }
 
 // The body call.
@@ -194,7 +218,7 @@ pub fn plpgsql_transform_body(
     ensures spare_after { spare.new ≡ work_exit (body_check text.now output.old work.old spare.old) spare.old }
     ensures answer_after { answer.new ≡ four_called (body_answer no_table text.now output.old work.old spare.old) }
 {
-    *answer = of_call(preprocessor::transform_body(text, output, work, spare));
+    Answer::from(preprocessor::transform_body(text, output, work, spare)).put(answer);
 }
 
 // The body call with the actions of a table.
@@ -211,7 +235,9 @@ pub fn plpgsql_transform_body_by_levels(
     ensures spare_after { spare.new ≡ work_exit (body_check text.now output.old work.old spare.old) spare.old }
     ensures answer_after { answer.new ≡ four_called (body_answer (table_of table.now) text.now output.old work.old spare.old) }
 {
-    *answer = of_call(preprocessor::transform_body_by_levels(text, table, output, work, spare));
+    Answer::from(preprocessor::transform_body_by_levels(text, table, output, work, spare)).put(
+        answer,
+    );
 }
 
 // The function call.
@@ -231,7 +257,9 @@ pub fn plpgsql_preprocess(
     ensures records_after { records.new ≡ function_records no_table text.now output.old work.old spare.old declared.old records.old }
     ensures answer_after { answer.new ≡ four_called (function_answer no_table text.now output.old work.old spare.old declared.old records.old) }
 {
-    *answer = of_call(preprocessor::preprocess(text, output, work, spare, declared, records));
+    Answer::from(preprocessor::preprocess(text, output, work, spare, declared, records)).put(
+        answer,
+    );
 }
 
 // The function call with the actions of a table.
@@ -252,9 +280,9 @@ pub fn plpgsql_preprocess_by_levels(
     ensures records_after { records.new ≡ function_records (table_of table.now) text.now output.old work.old spare.old declared.old records.old }
     ensures answer_after { answer.new ≡ four_called (function_answer (table_of table.now) text.now output.old work.old spare.old declared.old records.old) }
 {
-    *answer = of_call(preprocessor::preprocess_by_levels(
+    Answer::from(preprocessor::preprocess_by_levels(
         text, table, output, work, spare, declared, records,
-    ));
+    )).put(answer);
 }
 
 // `is_closed`: whether a body may be rewritten apart from what stands behind it.
@@ -262,5 +290,5 @@ pub fn plpgsql_is_closed(text: &[u8], map: &mut [u8], answer: &mut [u32; 4])
     ensures map_after { map.new ≡ map_exit text.now map.old [] }
     ensures answer_after { answer.new ≡ four_found (closed_answer text.now map.old) }
 {
-    *answer = of_search(closed::is_closed(text, map));
+    Answer::from(closed::is_closed(text, map)).put(answer);
 }

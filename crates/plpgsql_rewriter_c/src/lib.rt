@@ -1,5 +1,7 @@
 // The functions of include/plpgsql_rewriter.h, for C: the static library is made of this crate. Each calls the function of its
-// name in crate `plpgsql_rewriter` and meets the same clauses. A slice is a pointer and a length in C.
+// name in crate `plpgsql_rewriter` and meets the same clauses. There are two crates, since C calls an extern function by its symbol,
+// and a Rattle crate calls one that is not extern. A slice is a pointer and a length in C, and C lends each buffer apart, so the
+// functions take them so.
 #![tactic(auto)]
 
 ghost use Rattle.std.specs.Prelude.{◌≡◌, [], length};

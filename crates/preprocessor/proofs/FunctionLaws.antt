@@ -11,7 +11,6 @@ use lib.Seq.{drop-append-add, drop-drop}
 use Rattle.spec.proofs.Apart.{apart}
 use Rattle.spec.proofs.Choice.{by}
 use Rattle.spec.proofs.RefusalCalls.{function_passes}
-use Rattle.spec.proofs.MapLaws.{text_length}
 use Rattle.spec.proofs.RecordLaws.{numbers_length}
 use Rattle.spec.proofs.WalkLaws.{marked_kept}
 use Rattle.spec.specs.Bytes.{ascii}
@@ -22,16 +21,14 @@ use Rattle.spec.specs.Raise.{action_of}
 use Rattle.spec.specs.Raise.{Actions}
 use Rattle.spec.specs.Body.{rewriting}
 use Rattle.spec.specs.Declarations.{Declared, record_limit, record_width, records_of, body_from, body_of, packed, numbers_of}
-use Rattle.spec.specs.Answers.{CallResult, result_of, body_result, function_result, without_records, kept_behind, zeroed_to}
-use Rattle.spec.specs.Parts.{part}
-use Rattle.declared_parts.proofs.BetweenLaws.{between_length}
+use Rattle.spec.specs.Answers.{CallResult, result_of, body_result, function_result, by_table, without_records, kept_behind, zeroed_to}
 use Rattle.declared_records.proofs.HeldLaws.{sets_drop}
-use Rattle.declarations.proofs.SectionLaws.{records_in_lem, section_in}
-use Rattle.declarations.proofs.PackedLaws.{packed_small}
-use Rattle.declarations.specs.SectionRecords.{records_of_section, records_in, section_of, parsed_of, Packed, Holds}
+use Rattle.declarations.proofs.SectionLaws.{records_in_lem}
+use Rattle.declarations.proofs.PackedLaws.{packed_fits}
+use Rattle.declarations.specs.SectionRecords.{records_in, parsed_of, Packed, Holds}
 use Rattle.declarations.specs.declared.DeclaredSizes.{DeclaredSizes}
 use Rattle.spec.specs.declared.Refusal.TheVariants as refusal
-use Rattle.preprocessor.specs.AnswerRecords.{with_records, if_accepted}
+use Rattle.preprocessor.specs.AnswerRecords.{passed, sizes_of, with_records, if_accepted}
 use Rattle.spec.specs.declared.Refusal.{Refusal}
 use Rattle.spec.specs.declared.Accepted.{Accepted}
 
@@ -106,20 +103,6 @@ pub zeroed_same : (n : ℕ) (ys d e : List ℕ) → drop n d ≡ drop n e → ze
 unfolding zeroed_to
 zeroed_same n ys d e h = rw h refl
 
--- the texts are at most twice as long as the text
-pub packed_fits : (xs : List ℕ) → length (packed (records_of xs)) ≤ 2 * length xs
-unfolding records_in
-packed_fits xs =
-    let t = marked_text xs in
-    let f = first (keyword_here (ascii "DECLARE")) 0 t in
-    let g = first (keyword_here (ascii "BEGIN")) 0 t in
-    let s = section_in t f g refl refl in
-    let a = (section_of f g).from in
-    let b = (section_of f g).to in
-    let e : length (packed (records_of_section (part a b t))) ≡ length (packed (records_of xs)) =
-    ap (λ (ds : List Declared). length (packed ds)) (ap records_of_section s.found ∙ records_in_lem xs) in
-    omega (arith, packed_small (part a b t), between_length t a b s.ordered s.within, text_length xs, s.within, e)
-
 -- `work` held the text's map when the declarations were read
 module _ (xs work work' : List ℕ) (m : work' ≡ kept_behind (map_of xs) work) where
   mapped : marked xs work' ≡ marked_text xs
@@ -128,65 +111,123 @@ module _ (xs work work' : List ℕ) (m : work' ≡ kept_behind (map_of xs) work)
   the_records : records_in (marked xs work') ≡ records_of xs
   the_records = ap records_in mapped ∙ records_in_lem xs
 
-  -- there are c records, whose texts have n bytes, and the passes ran over the body, which starts at `start`
-  module _ (k : Actions) (start : ℕ) (p : DeclaredSizes) (b : drop start xs ≡ body_from (first (keyword_here (ascii "BEGIN")) 0 (marked xs work')) xs)
-      (q : parsed_of (records_in (marked xs work')) ≡ Ok p) where
-    told : (length (records_of xs) ≤ 512) × (length (records_of xs) ≡ p.records) × (length (packed (records_of xs)) ≡ p.bytes)
-    told = told_count (records_of xs) p (ap parsed_of (sym the_records) ∙ q)
+  module _ (d d' rs rs' : List ℕ) (held : Holds (records_in (marked xs work')) d d' rs rs') where
+    held_records : Holds (records_of xs) d d' rs rs'
+    held_records = subst (λ (ds : List Declared). Holds ds d d' rs rs') the_records held
 
-    the_body : body_of xs ≡ drop start xs
-    unfolding body_of
-    the_body = sym (b ∙ ap (λ t. body_from (first (keyword_here (ascii "BEGIN")) 0 t) xs) mapped)
+    -- the declarations are read: p says how many there are, and how many bytes their texts have
+    module _ (p : DeclaredSizes) (q : parsed_of (records_in (marked xs work')) ≡ Ok p) where
+      told : (length (records_of xs) ≤ 512) × (length (records_of xs) ≡ p.records) × (length (packed (records_of xs)) ≡ p.bytes)
+      told = told_count (records_of xs) p (ap parsed_of (sym the_records) ∙ q)
 
-    result : function_result xs k ≡ result_of (records_of xs) (rewriting (action_of k) (drop start xs))
-    unfolding record_limit
-    result = function_passes xs k told.0 ∙ ap (λ ys. result_of (records_of xs) (rewriting (action_of k) ys)) the_body
+      count_small : p.records ≤ 512
+      count_small = omega (arith, told.0, told.1)
 
-    pub count_small : p.records ≤ 512
-    count_small = omega (arith, told.0, told.1)
+      texts_small : length xs ≤ 16384 → p.bytes ≤ 65536
+      texts_small h = omega (arith, packed_fits xs, told.2, h)
 
-    pub numbers_small : 10 * p.records + 10 ≤ 5130
-    numbers_small = omega (arith, count_small)
+      packed_as : Packed (records_of xs) d d' rs'
+      packed_as = held_records.accepted told.0
 
-    pub texts_small : length xs ≤ 16384 → p.bytes ≤ 65536
-    texts_small h = omega (arith, packed_fits xs, told.2, h)
+      texts_kept : length xs ≤ 16384 → drop 65536 d' ≡ drop 65536 d
+      texts_kept h = ap (drop 65536) packed_as.texts ∙ sets_drop (packed (records_of xs)) d 0 65536 (omega (arith, packed_fits xs, h))
 
-    pub output_is : (body_result (drop start xs) k).output ≡ (function_result xs k).output
-    unfolding body_result
-    output_is = records_output (records_of xs) (rewriting (action_of k) (drop start xs)) ∙ sym (ap (λ (f : CallResult). f.output) result)
+      -- and the passes run over the body, which starts at `start`
+      module _ (k : Actions) (start : ℕ) (b : drop start xs ≡ body_from (first (keyword_here (ascii "BEGIN")) 0 (marked xs work')) xs) where
+        the_body : body_of xs ≡ drop start xs
+        unfolding body_of
+        the_body = sym (b ∙ ap (λ t. body_from (first (keyword_here (ascii "BEGIN")) 0 t) xs) mapped)
 
-    module _ (r : Result Accepted Refusal) (a : r ≡ (body_result (drop start xs) k).answer) where
-      pub answer_is : with_records p.records r ≡ (function_result xs k).answer
-      unfolding body_result
-      answer_is =
-          rw (← told.1, a) (records_answer (records_of xs) (rewriting (action_of k) (drop start xs)) ∙ sym (ap (λ (f : CallResult). f.answer) result))
+        result : function_result xs k ≡ result_of (records_of xs) (rewriting (action_of k) (drop start xs))
+        unfolding record_limit
+        result = function_passes xs k told.0 ∙ ap (λ ys. result_of (records_of xs) (rewriting (action_of k) ys)) the_body
 
-      module _ (d d' rs rs' : List ℕ) (held : Holds (records_in (marked xs work')) d d' rs rs') where
-        packed_as : Packed (records_of xs) d d' rs'
-        packed_as = (subst (λ (ds : List Declared). Holds ds d d' rs rs') the_records held).accepted told.0
-
-        pub texts_are : take (if_accepted r p.bytes) d' ≡ (function_result xs k).declared
+        output_is : (body_result (drop start xs) k).output ≡ (function_result xs k).output
         unfolding body_result
-        texts_are =
-            rw (← told.2, a)
-            (texts_held (records_of xs) (rewriting (action_of k) (drop start xs)) d' packed_as.front ∙ sym (ap (λ (f : CallResult). f.declared) result))
+        output_is = records_output (records_of xs) (rewriting (action_of k) (drop start xs)) ∙ sym (ap (λ (f : CallResult). f.output) result)
 
-        pub numbers_are : take (if_accepted r (10 * p.records + 10)) rs' ≡ (function_result xs k).records
-        unfolding body_result
-        numbers_are =
-            rw (← told.1, a)
-            (numbers_held (records_of xs) (rewriting (action_of k) (drop start xs)) rs' packed_as.numbers ∙ sym (ap (λ (f : CallResult). f.records) result))
+        module _ (r : Result Accepted Refusal) (a : r ≡ (body_result (drop start xs) k).answer) where
+          answer_is : with_records p.records r ≡ (function_result xs k).answer
+          unfolding body_result
+          answer_is =
+              rw (← told.1, a) (records_answer (records_of xs) (rewriting (action_of k) (drop start xs)) ∙ sym (ap (λ (f : CallResult). f.answer) result))
 
-        pub texts_kept : length xs ≤ 16384 → drop 65536 d' ≡ drop 65536 d
-        texts_kept h = ap (drop 65536) packed_as.texts ∙ sets_drop (packed (records_of xs)) d 0 65536 (omega (arith, packed_fits xs, h))
+          texts_are : take (if_accepted r p.bytes) d' ≡ (function_result xs k).declared
+          unfolding body_result
+          texts_are =
+              rw (← told.2, a)
+              (texts_held (records_of xs) (rewriting (action_of k) (drop start xs)) d' packed_as.front ∙ sym (ap (λ (f : CallResult). f.declared) result))
 
-  -- there are too many names
-  module _ (k : Actions) (r : Refusal) (q : parsed_of (records_in (marked xs work')) ≡ Err r) where
-    many : (512 < length (records_of xs)) × (r ≡ refusal.TooManyNames)
-    many = parsed_names (records_of xs) r (ap parsed_of (sym the_records) ∙ q)
+          numbers_are : take (if_accepted r (10 * p.records + 10)) rs' ≡ (function_result xs k).records
+          unfolding body_result
+          numbers_are =
+              rw (← told.1, a)
+              (numbers_held (records_of xs) (rewriting (action_of k) (drop start xs)) rs' packed_as.numbers ∙ sym (ap (λ (f : CallResult). f.records) result))
 
-    pub refused_is : function_result xs k ≡ without_records r []
-    refused_is = names_refused xs k many.0 ∙ ap (λ (f : Refusal). without_records f []) (sym many.1)
+    -- there are too many names
+    module _ (r : Refusal) (q : parsed_of (records_in (marked xs work')) ≡ Err r) where
+      many : (512 < length (records_of xs)) × (r ≡ refusal.TooManyNames)
+      many = parsed_names (records_of xs) r (ap parsed_of (sym the_records) ∙ q)
 
-    pub texts_same : (d d' rs rs' : List ℕ) → Holds (records_in (marked xs work')) d d' rs rs' → d' ≡ d
-    texts_same d d' rs rs' held = (subst (λ (ds : List Declared). Holds ds d d' rs rs') the_records held).refused many.0
+      refused_is : (k : Actions) → function_result xs k ≡ without_records r []
+      refused_is k = names_refused xs k many.0 ∙ ap (λ (f : Refusal). without_records f []) (sym many.1)
+
+      texts_same : d' ≡ d
+      texts_same = held_records.refused many.0
+
+    -- what the call comes to: with what a table says, what the declarations are read as, and the answer of the passes
+    pub record Called (start : ℕ) (t : Result Actions Refusal) (q : Result DeclaredSizes Refusal) (r : Result Accepted Refusal) : Type 0 where
+      pub answer : with_records (sizes_of q).records r ≡ (by_table t (function_result xs)).answer
+      pub output : (by_table (passed t q) (body_result (drop start xs))).output ≡ (by_table t (function_result xs)).output
+      pub texts : take (if_accepted r (sizes_of q).bytes) d' ≡ (by_table t (function_result xs)).declared
+      pub numbers : take (if_accepted r (10 * (sizes_of q).records + 10)) rs' ≡ (by_table t (function_result xs)).records
+      pub count : (sizes_of q).records ≤ 512
+      pub small : (sizes_of q).bytes ≤ 65536
+      pub kept : drop 65536 d' ≡ drop 65536 d
+
+    pub called : length xs ≤ 16384 → (start : ℕ) → drop start xs ≡ body_from (first (keyword_here (ascii "BEGIN")) 0 (marked xs work')) xs
+        → (t : Result Actions Refusal) (q : Result DeclaredSizes Refusal) (r : Result Accepted Refusal)
+        → parsed_of (records_in (marked xs work')) ≡ q
+        → r ≡ (by_table (passed t q) (body_result (drop start xs))).answer
+        → Called start t q r
+    called h start b (Ok k) (Ok p) r e a =
+        record {
+          answer = answer_is p e k start b r a;
+          output = output_is p e k start b;
+          texts = texts_are p e k start b r a;
+          numbers = numbers_are p e k start b r a;
+          count = count_small p e;
+          small = texts_small p e h;
+          kept = texts_kept p e h;
+        }
+    called h start b (Ok k) (Err f) r e a =
+        let q = refused_is f e k in
+        record {
+          answer = rw (q, a) refl;
+          output = rw q refl;
+          texts = rw (q, a) refl;
+          numbers = rw (q, a) refl;
+          count = omega arith;
+          small = omega arith;
+          kept = ap (drop 65536) (texts_same f e);
+        }
+    called h start b (Err f) (Ok p) r e a =
+        rw a record {
+          answer = refl;
+          output = refl;
+          texts = refl;
+          numbers = refl;
+          count = count_small p e;
+          small = texts_small p e h;
+          kept = texts_kept p e h;
+        }
+    called h start b (Err f) (Err g) r e a =
+        rw a record {
+          answer = refl;
+          output = refl;
+          texts = refl;
+          numbers = refl;
+          count = omega arith;
+          small = omega arith;
+          kept = ap (drop 65536) (texts_same g e);
+        }

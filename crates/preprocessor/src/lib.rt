@@ -1,18 +1,18 @@
-// The two rewriting calls, with a table of levels and without one.
+// The two rewriting calls, with a table of levels and without one, since C calls both.
 #![tactic(auto)]
 
-ghost use Rattle.std.specs.Prelude.{◌≡◌, ◌&&◌, [], ◌≤◌, leb, length, Err};
+ghost use Rattle.std.specs.Prelude.{◌≡◌, ◌&&◌, [], ◌≤◌, leb, length};
 ghost use Rattle.spec.specs.Levels.{table_of, no_table};
-ghost use Rattle.spec.specs.Answers.{zeroed_to, body_result, function_result, by_table, body_check, body_answer, body_output, work_exit, function_check, function_answer, function_output, function_text, function_records};
-ghost use Rattle.preprocessor.specs.AnswerRecords.{with_records, if_accepted};
+ghost use Rattle.spec.specs.Answers.{zeroed_to, function_result, by_table, body_check, body_answer, body_output, work_exit, function_check, function_answer, function_output, function_text, function_records};
+ghost use Rattle.preprocessor.specs.AnswerRecords.{passed, sizes_of, with_records, if_accepted};
 
 use checks::check_texts;
-use declarations::{body_start, parse_declarations};
+use declarations::{DeclaredSizes, body_start, parse_declarations};
 use declared_records::{RECORD_NUMBERS, RECORD_WIDTH};
 use levels::{no_table, read_table};
 use output::{BUFFER_SIZE, fill};
 use passes::run_body;
-use scanner::map_text;
+use scanner::{MappedText, map_text};
 use spec::{Accepted, Actions, Refusal};
 
 // The most bytes that a call's text may have.
@@ -23,53 +23,6 @@ fn are_lent(output: usize, work: usize, spare: usize) -> bool
     ensures { result ≡ (leb 65536 output && (leb 65536 work && leb 65536 spare)) }
 {
     BUFFER_SIZE <= output && BUFFER_SIZE <= work && BUFFER_SIZE <= spare
-}
-
-// This refusal, with zeros in the output and the work buffers.
-fn refuse_body(
-    output: &mut [u8],
-    work: &mut [u8],
-    spare: &mut [u8],
-    size: usize,
-    refusal: Refusal,
-) -> Result<Accepted, Refusal>
-    requires size_in_bounds { size ≤ length output.old }
-    requires size_in_bounds_2 { size ≤ length work.old }
-    requires size_in_bounds_3 { size ≤ length spare.old }
-    ensures value { result ≡ Err refusal }
-    ensures output_after { output.new ≡ zeroed_to size [] output.old }
-    ensures work_after { work.new ≡ zeroed_to size [] work.old }
-    ensures spare_after { spare.new ≡ zeroed_to size [] spare.old }
-{
-    fill(output, 0, size, 0);
-    fill(work, 0, size, 0);
-    fill(spare, 0, size, 0);
-    Err(refusal)
-}
-
-// The body call with what a table says, once the checks have passed: a table's refusal comes before the passes.
-fn run_table(
-    text: &[u8],
-    table: Result<Actions, Refusal>,
-    output: &mut [u8],
-    work: &mut [u8],
-    spare: &mut [u8],
-    size: usize,
-) -> Result<Accepted, Refusal>
-    requires size_value { size ≡ 65536 }
-    requires text_len_bound { length text.now ≤ 16384 }
-    requires size_in_bounds { size ≤ length output.old }
-    requires size_in_bounds_2 { size ≤ length work.old }
-    requires size_in_bounds_3 { size ≤ length spare.old }
-    ensures value { result ≡ (by_table table (body_result text.now)).answer }
-    ensures output_after { output.new ≡ zeroed_to size (by_table table (body_result text.now)).output output.old }
-    ensures work_after { work.new ≡ zeroed_to size [] work.old }
-    ensures spare_after { spare.new ≡ zeroed_to size [] spare.old }
-{
-    match table {
-        Ok(actions) => run_body(text, actions, output, work, spare, size),
-        Err(r) => refuse_body(output, work, spare, size, r),
-    }
 }
 
 // The body call with what a table says, once it is read.
@@ -88,7 +41,7 @@ pub fn transform_body_by_table(
 {
     let enough = are_lent(output.len(), work.len(), spare.len());
     check_texts(TEXT_LIMIT, enough, text, b"")?;
-    run_table(text, table, output, work, spare, BUFFER_SIZE)
+    run_body(text, table, output, work, spare)
 }
 
 // The body call: the five passes over a trigger's body. The output holds the result and then zeros; the work buffers
@@ -123,7 +76,7 @@ pub fn transform_body_by_levels(
     transform_body_by_table(text, read_table(table), output, work, spare)
 }
 
-// Whether all five buffers are long enough.
+// Whether all five buffers are long enough. Five lengths of one kind: the buffers themselves would be five slices, two kinds of them.
 fn all_lent(output: usize, work: usize, spare: usize, declared: usize, records: usize) -> bool
     ensures { result ≡ ((leb 65536 output && (leb 65536 work && leb 65536 spare)) && (leb 65536 declared && leb 5130 records)) }
 {
@@ -134,8 +87,7 @@ fn all_lent(output: usize, work: usize, spare: usize, declared: usize, records: 
 fn with_records(r: Result<Accepted, Refusal>, count: usize) -> Result<Accepted, Refusal>
     ensures { result ≡ with_records count r }
 {
-    let accepted = r?;
-    Ok(Accepted {
+    r.map(|accepted| Accepted {
         records: count,
         ..accepted
     })
@@ -148,81 +100,31 @@ fn if_accepted(r: Result<Accepted, Refusal>, n: usize) -> usize
     if r.is_ok() { n } else { 0 }
 }
 
-// This refusal, with zeros in all buffers.
-fn refuse_function(
-    output: &mut [u8],
-    work: &mut [u8],
-    spare: &mut [u8],
-    declared: &mut [u8],
-    records: &mut [u32],
-    size: usize,
-    numbers: usize,
-    refusal: Refusal,
-) -> Result<Accepted, Refusal>
-    requires size_in_bounds { size ≤ length output.old }
-    requires size_in_bounds_2 { size ≤ length work.old }
-    requires size_in_bounds_3 { size ≤ length spare.old }
-    requires size_in_bounds_4 { size ≤ length declared.old }
-    requires numbers_in_bounds { numbers ≤ length records.old }
-    ensures value { result ≡ Err refusal }
-    ensures output_after { output.new ≡ zeroed_to size [] output.old }
-    ensures work_after { work.new ≡ zeroed_to size [] work.old }
-    ensures spare_after { spare.new ≡ zeroed_to size [] spare.old }
-    ensures declared_after { declared.new ≡ zeroed_to size [] declared.old }
-    ensures records_after { records.new ≡ zeroed_to numbers [] records.old }
+// What a table says, unless the declarations are refused: a table's refusal comes before 7.
+fn passed(
+    table: Result<Actions, Refusal>,
+    parsed: Result<DeclaredSizes, Refusal>,
+) -> Result<Actions, Refusal>
+    ensures { result ≡ passed table parsed }
 {
-    let r = refuse_body(output, work, spare, size, refusal);
-    fill(declared, 0, size, 0);
-    fill(records, 0, numbers, 0);
-    r
+    let actions = table?;
+    parsed?;
+    Ok(actions)
+}
+
+// How many records there are and how many bytes their texts have, none if the declarations are refused.
+fn sizes_of(parsed: Result<DeclaredSizes, Refusal>) -> DeclaredSizes
+    ensures { result ≡ sizes_of parsed }
+{
+    parsed.unwrap_or(DeclaredSizes {
+        records: 0,
+        bytes: 0,
+    })
 }
 
 // The records, then the passes over the body, and zeros behind what the buffers hold; `work` takes the text's map first.
+#[tactic(auto, using(spec::proofs::MapLaws::marked_length))]
 fn run_function(
-    text: &[u8],
-    actions: Actions,
-    output: &mut [u8],
-    work: &mut [u8],
-    spare: &mut [u8],
-    declared: &mut [u8],
-    records: &mut [u32],
-    size: usize,
-    numbers: usize,
-) -> Result<Accepted, Refusal>
-    requires size_value { size ≡ 65536 }
-    requires numbers_value { numbers ≡ 5130 }
-    requires text_len_bound { length text.now ≤ 16384 }
-    requires size_in_bounds { size ≤ length output.old }
-    requires size_in_bounds_2 { size ≤ length work.old }
-    requires size_in_bounds_3 { size ≤ length spare.old }
-    requires size_in_bounds_4 { size ≤ length declared.old }
-    requires numbers_in_bounds { numbers ≤ length records.old }
-    ensures value { result ≡ (function_result text.now actions).answer }
-    ensures output_after { output.new ≡ zeroed_to size (function_result text.now actions).output output.old }
-    ensures work_after { work.new ≡ zeroed_to size [] work.old }
-    ensures spare_after { spare.new ≡ zeroed_to size [] spare.old }
-    ensures declared_after { declared.new ≡ zeroed_to size (function_result text.now actions).declared declared.old }
-    ensures records_after { records.new ≡ zeroed_to numbers (function_result text.now actions).records records.old }
-{
-    map_text(text, work);
-    let start = body_start(text, work);
-    match parse_declarations(text, work, declared, records) {
-        Ok(sizes) => {
-            let r = run_body(&text[start..], actions, output, work, spare, size);
-            let n = if_accepted(r, sizes.bytes);
-            let k = if_accepted(r, RECORD_WIDTH * sizes.records + RECORD_WIDTH);
-            fill(declared, n, size, 0);
-            fill(records, k, numbers, 0);
-            with_records(r, sizes.records)
-        }
-        Err(refusal) => refuse_function(
-            output, work, spare, declared, records, size, numbers, refusal,
-        ),
-    }
-}
-
-// The function call with what a table says, once the checks have passed: a table's refusal comes before 7.
-fn run_function_table(
     text: &[u8],
     table: Result<Actions, Refusal>,
     output: &mut [u8],
@@ -230,30 +132,31 @@ fn run_function_table(
     spare: &mut [u8],
     declared: &mut [u8],
     records: &mut [u32],
-    size: usize,
-    numbers: usize,
 ) -> Result<Accepted, Refusal>
-    requires size_value { size ≡ 65536 }
-    requires numbers_value { numbers ≡ 5130 }
     requires text_len_bound { length text.now ≤ 16384 }
-    requires size_in_bounds { size ≤ length output.old }
-    requires size_in_bounds_2 { size ≤ length work.old }
-    requires size_in_bounds_3 { size ≤ length spare.old }
-    requires size_in_bounds_4 { size ≤ length declared.old }
-    requires numbers_in_bounds { numbers ≤ length records.old }
+    requires output_in_bounds { 65536 ≤ length output.old }
+    requires work_in_bounds { 65536 ≤ length work.old }
+    requires spare_in_bounds { 65536 ≤ length spare.old }
+    requires declared_in_bounds { 65536 ≤ length declared.old }
+    requires records_in_bounds { 5130 ≤ length records.old }
     ensures value { result ≡ (by_table table (function_result text.now)).answer }
-    ensures output_after { output.new ≡ zeroed_to size (by_table table (function_result text.now)).output output.old }
-    ensures work_after { work.new ≡ zeroed_to size [] work.old }
-    ensures spare_after { spare.new ≡ zeroed_to size [] spare.old }
-    ensures declared_after { declared.new ≡ zeroed_to size (by_table table (function_result text.now)).declared declared.old }
-    ensures records_after { records.new ≡ zeroed_to numbers (by_table table (function_result text.now)).records records.old }
+    ensures output_after { output.new ≡ zeroed_to 65536 (by_table table (function_result text.now)).output output.old }
+    ensures work_after { work.new ≡ zeroed_to 65536 [] work.old }
+    ensures spare_after { spare.new ≡ zeroed_to 65536 [] spare.old }
+    ensures declared_after { declared.new ≡ zeroed_to 65536 (by_table table (function_result text.now)).declared declared.old }
+    ensures records_after { records.new ≡ zeroed_to 5130 (by_table table (function_result text.now)).records records.old }
 {
-    match table {
-        Ok(actions) => run_function(
-            text, actions, output, work, spare, declared, records, size, numbers,
-        ),
-        Err(r) => refuse_function(output, work, spare, declared, records, size, numbers, r),
-    }
+    // Not `MappedText::mapped`, which promises nothing of what the lent map holds at the end.
+    map_text(text, work);
+    let mapped = MappedText::new(text, work);
+    let start = body_start(&mapped);
+    let parsed = parse_declarations(&mapped, declared, records);
+    let r = run_body(&text[start..], passed(table, parsed), output, work, spare);
+    let sizes = sizes_of(parsed);
+    fill(declared, if_accepted(r, sizes.bytes), BUFFER_SIZE, 0);
+    let numbers = if_accepted(r, RECORD_WIDTH * sizes.records + RECORD_WIDTH);
+    fill(records, numbers, RECORD_NUMBERS, 0);
+    with_records(r, sizes.records)
 }
 
 // The function call with what a table says, once it is read.
@@ -282,17 +185,7 @@ fn preprocess_by_table(
         records.len(),
     );
     check_texts(TEXT_LIMIT, enough, text, b"")?;
-    run_function_table(
-        text,
-        table,
-        output,
-        work,
-        spare,
-        declared,
-        records,
-        BUFFER_SIZE,
-        RECORD_NUMBERS,
-    )
+    run_function(text, table, output, work, spare, declared, records)
 }
 
 // The function call: the declarations' records, and the five passes over the body. The output holds the result and then

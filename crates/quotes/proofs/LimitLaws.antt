@@ -1,14 +1,13 @@
 -- ` LIMIT ` read byte by byte says whether it stands in the text; a text may come in parts. Assumes nothing.
-use mathlib.Core.Path.{◌≡◌, refl, sym, ◌∙◌}
-use mathlib.Core.Bool.{Bool, true, false, cond, ◌&&◌, ◌||◌}
+use mathlib.Core.Path.{◌≡◌, refl, sym, ap, ◌∙◌}
+use mathlib.Core.Bool.{Bool, true, false, cond, ◌&&◌, ◌||◌, or_self_left}
 use mathlib.Core.List.{List, [], ◌∷◌, ◌++◌}
-use Prim.Native.Nat.{ℕ, zero, suc, ◌+◌, ◌≤◌, ◌<◌}
+use Prim.Native.Nat.{ℕ, zero, suc, ◌≤◌, ◌<◌}
 use native.Mathlib.Omega.{arith}
 use borrow.Author.Tests.{eqb-true, eqb-false, ne_eqb}
-use lib.Dec.{eqb}
-use lib.ListN.{length, drop, get_or, drop_of_length-le}
+use lib.Dec.{eqb, leb}
+use lib.ListN.{drop, get_or}
 use lib.Seq.{drop-cons}
-use Rattle.spec.proofs.AheadLaws.{drop_one}
 use Rattle.spec.proofs.Choice.{by}
 use Rattle.spec.proofs.WalkLaws.{starts_case}
 use Rattle.spec.specs.Bytes.{ascii, within, is_lower, upper, prefix_by}
@@ -22,6 +21,15 @@ pub limit_append : (k : ℕ) (a b : List ℕ) → limit_from k (a ++ b) ≡ limi
 unfolding limit_from
 limit_append k [] b = refl
 limit_append k (c ∷ a) b = limit_append (limit_next k c) a b
+
+-- no byte, and one byte more
+pub limit_none : (k : ℕ) → k ≡ limit_from k []
+unfolding limit_from
+limit_none k = refl
+
+pub limit_more : (k n r c : ℕ) (xs : List ℕ) → n ≡ limit_from k xs → r ≡ limit_next n c → r ≡ limit_from k (xs ++ (c ∷ []))
+unfolding limit_from
+limit_more k n r c xs e f = f ∙ (ap (λ (m : ℕ). limit_next m c) e ∙ sym (limit_append k xs (c ∷ [])))
 
 abbrev word : List ℕ
 word = ascii " LIMIT "
@@ -61,21 +69,30 @@ letter (suc (suc (suc zero))) h e = omega arith
 letter (suc (suc (suc (suc zero)))) h e = omega arith
 letter (suc (suc (suc (suc (suc k))))) h e = omega arith
 
-or_same : (a b : Bool) → (a || (a || b)) ≡ (a || b)
-or_same true b = refl
-or_same false b = refl
-
 -- a word in front is one of them
 front_in : (cs : List ℕ) → (prefix_by upper word cs || limit_in cs) ≡ limit_in cs
 unfolding limit_in prefix_by
 front_in [] = refl
-front_in (c ∷ cs) = or_same (prefix_by upper word (c ∷ cs)) (limit_in cs)
+front_in (c ∷ cs) = or_self_left (prefix_by upper word (c ∷ cs)) (limit_in cs)
 
 -- all 7 matched stay matched
-limit_full : (cs : List ℕ) → limit_from 7 cs ≡ 7
+pub limit_full : (cs : List ℕ) → limit_from 7 cs ≡ 7
 unfolding limit_from limit_next
 limit_full [] = refl
 limit_full (c ∷ cs) = limit_full cs
+
+-- behind a space 7 are matched, or 1
+pub limit_space : (k : ℕ) → k ≤ 7 → limit_next k 32 ≡ cond (leb 6 k) 7 1
+unfolding limit_next upper is_lower within
+limit_space zero h = refl
+limit_space (suc zero) h = refl
+limit_space (suc (suc zero)) h = refl
+limit_space (suc (suc (suc zero))) h = refl
+limit_space (suc (suc (suc (suc zero)))) h = refl
+limit_space (suc (suc (suc (suc (suc zero))))) h = refl
+limit_space (suc (suc (suc (suc (suc (suc zero)))))) h = refl
+limit_space (suc (suc (suc (suc (suc (suc (suc zero))))))) h = refl
+limit_space (suc (suc (suc (suc (suc (suc (suc (suc k)))))))) h = absurd (omega arith)
 
 -- the word from k on against a text with a first byte
 prefix_next : (k c : ℕ) (cs : List ℕ) → k < 7
@@ -111,7 +128,7 @@ limit_read (c ∷ cs) k h =
         → (suc k < 7 → eqb (limit_from (suc k) cs) 7 ≡ (prefix_by upper (drop (suc k) word) cs || limit_in cs))
         → eqb (limit_from (suc k) cs) 7
         ≡ (prefix_by upper (drop (suc k) word) cs || ((eqb (upper c) 32 && prefix_by upper (drop 1 word) cs) || limit_in cs))
-    hit zero h e more = rw e (more (omega arith) ∙ sym (or_same (prefix_by upper (drop 1 word) cs) (limit_in cs)))
+    hit zero h e more = rw e (more (omega arith) ∙ sym (or_self_left (prefix_by upper (drop 1 word) cs) (limit_in cs)))
     hit (suc k) h e more =
         by (eqb k 5)
         (λ f. rw (eqb-true k 5 f, limit_full cs) refl)
@@ -124,13 +141,3 @@ limit_read (c ∷ cs) k h =
 pub limit_marks : (t : List Marked) → has_limit t ≡ eqb (limit_from 0 (bytes t)) 7
 unfolding has_limit first
 limit_marks t = limit_found [] t ∙ sym (limit_read (bytes t) 0 (omega arith) ∙ front_in (bytes t))
-
--- one byte more from i on, and none left
-module _ (xs : List ℕ) (i k : ℕ) where
-  pub limit_step : i < length xs → limit_from k (drop i xs) ≡ limit_from (limit_next k (get_or xs i 0)) (drop (i + 1) xs)
-  unfolding limit_from
-  limit_step h = rw (drop_one xs i 0 h) refl
-
-  pub limit_end : length xs ≤ i → limit_from k (drop i xs) ≡ k
-  unfolding limit_from
-  limit_end h = rw (drop_of_length-le xs h) refl

@@ -1,4 +1,5 @@
 -- The map of `'` and `"`: its length, the marked text that it makes, and its storing byte by byte. Assumes nothing.
+use Rattle.std.proofs.lemmas.List.{drop_more}
 use mathlib.Core.Path.{◌≡◌, refl, ◌∙◌}
 use mathlib.Core.Bool.{not, ◌&&◌}
 use mathlib.Core.List.{List, [], ◌∷◌, ◌++◌}
@@ -8,7 +9,6 @@ use native.Mathlib.Omega.{arith}
 use lib.Dec.{eqb}
 use lib.ListN.{length, drop, get_or, set, drop_of_length-le}
 use lib.Seq.{sets, sets-eq}
-use Rattle.spec.proofs.AheadLaws.{drop_one}
 use Rattle.spec.proofs.Choice.{by}
 use Rattle.spec.specs.Answers.{kept_behind}
 use Rattle.spec.specs.Bytes.{is_quote}
@@ -55,7 +55,7 @@ module _ (xs : List ℕ) (i q : ℕ) (d : List ℕ) where
       → sets d i (quote_map_from q (drop i xs))
       ≡ sets (set d i (quote_flag q (get_or xs i 0))) (i + 1) (quote_map_from (quote_after q (get_or xs i 0)) (drop (i + 1) xs))
   unfolding quote_map_from
-  quotes_step h = rw (drop_one xs i 0 h, add-one i) refl
+  quotes_step h = rw (drop_more xs i 0 h, add-one i) refl
 
   pub quotes_end : length xs ≤ i → sets d i (quote_map_from q (drop i xs)) ≡ d
   unfolding quote_map_from

@@ -1,6 +1,7 @@
 // One search, and the numbers of its answer.
 use crate::kind::Kind;
-use crate::numbers::{NO_ANSWER, Numbers};
+use searches::Word;
+use stored_list::{Found, Numbers};
 
 // What a search is asked of a text. A sought or splitting byte is the needle's first.
 #[derive(Clone, Copy)]
@@ -17,6 +18,14 @@ pub struct Counts {
     pub starts: usize,
 }
 
+// Where a word stands, and its length.
+fn found_word(word: Word<'_>) -> Found {
+    Found {
+        place: word.place,
+        length: word.bytes.len(),
+    }
+}
+
 // Any search. `bytes` is lent as the map or the output.
 pub fn ask(kind: Kind, question: Question<'_>, bytes: &mut [u8], starts: &mut [u32]) -> Numbers {
     let Question { text, needle, from } = question;
@@ -26,7 +35,9 @@ pub fn ask(kind: Kind, question: Question<'_>, bytes: &mut [u8], starts: &mut [u
         Kind::Keyword => searches::find_keyword(text, bytes, needle, from).into(),
         Kind::Byte => searches::find_in_code(text, bytes, byte).into(),
         Kind::Needle => searches::find_str_in_code(text, bytes, needle).into(),
-        Kind::NextWord => searches::next_word_in_code(text, bytes, from).into(),
+        Kind::NextWord => searches::next_word_in_code(text, bytes, from)
+            .map(|word| word.map(found_word))
+            .into(),
         Kind::Split => searches::split_in_code(text, bytes, starts, byte).into(),
         Kind::Requote => searches::requote_dollar_literals(text, bytes).into(),
         Kind::RequotedLength => searches::requoted_length(text).into(),
@@ -35,22 +46,24 @@ pub fn ask(kind: Kind, question: Question<'_>, bytes: &mut [u8], starts: &mut [u
     }
 }
 
-// The same with the front of two buffers lent.
+// What stands for a line that asks for no search, or lends more than there is. It has numbers, since a line of the list can
+// name them: then that is the answer that it expects.
+pub const NO_ANSWER: Numbers = Numbers {
+    number: 9,
+    place: 0,
+    length: 0,
+    count: 0,
+};
+
+// The same with the front of two buffers lent; none if the line asks for no search or lends more than there is.
 pub fn ask_lent(
     kind: Option<Kind>,
     question: Question<'_>,
     bytes: &mut [u8],
     starts: &mut [u32],
     lent: Counts,
-) -> Numbers {
-    let Some(kind) = kind else {
-        return NO_ANSWER;
-    };
-    let Some(bytes) = bytes.get_mut(..lent.bytes) else {
-        return NO_ANSWER;
-    };
-    let Some(starts) = starts.get_mut(..lent.starts) else {
-        return NO_ANSWER;
-    };
-    ask(kind, question, bytes, starts)
+) -> Option<Numbers> {
+    let bytes = bytes.get_mut(..lent.bytes)?;
+    let starts = starts.get_mut(..lent.starts)?;
+    Some(ask(kind?, question, bytes, starts))
 }

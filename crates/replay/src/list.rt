@@ -5,10 +5,10 @@ use crate::ask::Counts;
 use crate::kind::Kind;
 use crate::question::agrees;
 use crate::rows;
-use stored_list::{Fault, Row, Text, count, fault_of, field, note};
+use stored_list::{Fault, Replay, Row, Text, count, fault_of, field, note};
 
 #[derive(Drop)]
-pub struct Replay {
+pub struct SearchReplay {
     text: Text,
     // What is lent, if a line said so.
     limits: Option<Counts>,
@@ -16,22 +16,18 @@ pub struct Replay {
     wrong: bool,
     // What the next search's buffers are changed at.
     fault: Option<Fault>,
-    tally: [Row; 13],
+    tally: [Row; rows::COUNT],
 }
 
-impl Replay {
-    pub fn new() -> Replay {
-        Replay {
+impl SearchReplay {
+    pub fn new() -> SearchReplay {
+        SearchReplay {
             text: Text::new(),
             limits: None,
             wrong: false,
             fault: None,
-            tally: [Row::default(); 13],
+            tally: [Row::default(); rows::COUNT],
         }
-    }
-
-    pub fn tally(&self) -> &[Row] {
-        &self.tally
     }
 
     // What is lent: without a line that says so more than any search of the text needs.
@@ -64,12 +60,13 @@ impl Replay {
         note(&mut self.tally, row, same);
         self.fault = None;
     }
+}
 
-    // Takes one line.
-    pub fn take_line(&mut self, line: &[u8]) {
+impl Replay for SearchReplay {
+    fn take_line(&mut self, line: &[u8]) {
         match line.first().copied() {
             Some(b't') => {
-                self.text.set_runs(line);
+                self.text.set_line(line);
                 self.limits = None;
                 self.wrong = false;
                 self.fault = None;
@@ -81,11 +78,15 @@ impl Replay {
                 });
             }
             Some(b'x') => self.wrong = true,
-            Some(b'z') => self.fault = fault_of(line),
+            Some(b'z') => self.fault = Some(fault_of(line)),
             letter => {
                 let kind = letter.and_then(|letter| Kind::try_from(letter).ok());
                 self.compare(kind, line);
             }
         }
+    }
+
+    fn tally(&self) -> &[Row] {
+        &self.tally
     }
 }

@@ -5,18 +5,14 @@
 mod ask;
 mod kind;
 mod list;
-mod numbers;
 mod question;
 mod rows;
 
-use crate::list::Replay;
+use crate::list::SearchReplay;
 use crate::rows::NAMES;
 use std::io;
-use stored_list::{for_each_line, print_rows};
+use stored_list::replay_list;
 
 fn main(rt: HostRuntime) -> io::Result<()> {
-    let mut lines = [0u8; 65536];
-    let mut replay = Replay::new();
-    for_each_line(&mut rt.stdin(), &mut lines, |line| replay.take_line(line));
-    print_rows(&rt, &NAMES, replay.tally())
+    replay_list(&mut rt.stdin(), &rt, SearchReplay::new(), &NAMES)
 }

@@ -1,29 +1,22 @@
 // A line about the text: KIND NEEDLE FROM NUMBER FOUND PLACE LENGTH RESULT. The search is made, and its numbers and what it
 // wrote are compared with the line's.
-use crate::ask::{Counts, Question, ask_lent};
+use crate::ask::{Counts, NO_ANSWER, Question, ask_lent};
 use crate::kind::Kind;
-use crate::numbers::Numbers;
 use stored_list::{
-    Fault, START_NUMBERS, TEXT_BYTES, count, decode, field, inject, is_marked, marked, number,
+    Fault, Numbers, START_NUMBERS, TEXT_BYTES, count, decode, expected, field, inject, is_marked,
+    marked, number,
 };
+
+// The fields that hold NUMBER, PLACE, LENGTH and FOUND.
+const NUMBERS: [usize; 4] = [3, 5, 6, 4];
 
 // The first field of a result; a list of numbers takes several.
 const RESULT: usize = 7;
 
-// The numbers of the lent buffers in a line that changes a place.
+// The numbers of the lent buffers in a line that changes a place. They are the list's: a line may name any other number too.
 const BYTES: usize = 0;
 
 const STARTS: usize = 1;
-
-// The numbers that a line expects, if it has them.
-fn expected(line: &[u8]) -> Option<Numbers> {
-    Some(Numbers {
-        number: number(field(line, 3))?,
-        found: number(field(line, 4))?,
-        place: number(field(line, 5))?,
-        length: number(field(line, 6))?,
-    })
-}
 
 // Whether a field holds the map, a digit for each byte. `-` is the empty map, and `*` any map.
 fn is_map(map: &[u8], digits: &[u8]) -> bool {
@@ -43,23 +36,17 @@ fn is_map(map: &[u8], digits: &[u8]) -> bool {
 
 // Whether a field holds the output in hex; `*` stands for any output.
 fn is_output(output: &[u8], hex: &[u8]) -> bool {
-    if hex.first() == Some(&b'*') {
-        return true;
-    }
     let mut bytes = [0u8; 4096];
     let n = decode(hex, &mut bytes);
-    &bytes[..n] == output
+    hex.first() == Some(&b'*') || &bytes[..n] == output
 }
 
 // Whether the starts are those of the line's last fields, and there are no more fields.
 fn are_starts(starts: &[u32], line: &[u8]) -> bool {
     let mut fields = line.split(|b| *b == b' ').skip(RESULT);
-    for start in starts {
-        if fields.next().and_then(|field| number(field)) != Some(*start as usize) {
-            return false;
-        }
-    }
-    fields.next().unwrap_or(&[]).is_empty()
+    starts.iter().all(|start| fields.next().and_then(|field| number(field))
+        == Some(*start as usize))
+        && fields.next().unwrap_or(&[]).is_empty()
 }
 
 // How much a search writes that is not refused: an output, or the map of n bytes, and the starts of a split.
@@ -84,40 +71,35 @@ fn written(kind: Option<Kind>, got: Numbers, n: usize) -> Counts {
     }
 }
 
-// Whether what a search wrote is the line's result; one that is refused has none.
-fn is_result(kind: Option<Kind>, line: &[u8], got: Numbers, bytes: &[u8], starts: &[u32]) -> bool {
-    if got.number != 0 {
-        return true;
-    }
-    match kind {
-        Some(Kind::Regions) => is_map(bytes, field(line, RESULT)),
-        Some(Kind::Requote) => is_output(bytes, field(line, RESULT)),
-        Some(Kind::Split) => are_starts(starts, line),
-        _ => true,
-    }
+// What a search answered, and the buffers that it wrote to.
+#[derive(Clone, Copy)]
+struct Answer<'a> {
+    numbers: Numbers,
+    bytes: &'a [u8],
+    starts: &'a [u32],
 }
 
-// Whether the answer is the line's, and nothing is written behind the result in what was lent.
-fn is_answer(
-    kind: Option<Kind>,
-    line: &[u8],
-    got: Numbers,
-    bytes: &[u8],
-    starts: &[u32],
-    lent: Counts,
-    n: usize,
-) -> bool {
-    let told = written(kind, got, n);
-    expected(line) == Some(got)
-        && is_marked(bytes, told.bytes, lent.bytes)
-        && is_marked(starts, told.starts, lent.starts)
-        && is_result(
-            kind,
-            line,
-            got,
-            bytes.get(..told.bytes).unwrap_or(&[]),
-            starts.get(..told.starts).unwrap_or(&[]),
-        )
+// Whether what a search wrote is the line's result; one that is refused has none.
+fn is_result(kind: Option<Kind>, line: &[u8], answer: Answer<'_>, told: Counts) -> bool {
+    let bytes = answer.bytes.get(..told.bytes).unwrap_or(&[]);
+    let starts = answer.starts.get(..told.starts).unwrap_or(&[]);
+    answer.numbers.number != 0
+        || match kind {
+            Some(Kind::Regions) => is_map(bytes, field(line, RESULT)),
+            Some(Kind::Requote) => is_output(bytes, field(line, RESULT)),
+            Some(Kind::Split) => are_starts(starts, line),
+            _ => true,
+        }
+}
+
+// Whether the answer is the line's, and nothing is written behind the result in what was lent. No `==`: a line may leave open what
+// was written, and a refusal leaves nothing to compare.
+fn is_answer(kind: Option<Kind>, line: &[u8], answer: Answer<'_>, lent: Counts, n: usize) -> bool {
+    let told = written(kind, answer.numbers, n);
+    expected(line, NUMBERS) == Some(answer.numbers)
+        && is_marked(answer.bytes, told.bytes, lent.bytes)
+        && is_marked(answer.starts, told.starts, lent.starts)
+        && is_result(kind, line, answer, told)
 }
 
 // The search of a line on buffers of which the front is lent, and whether its answer is the line's, after a place was changed.
@@ -137,8 +119,13 @@ pub fn agrees(
     };
     let mut bytes = marked::<u8, TEXT_BYTES>();
     let mut starts = marked::<u32, START_NUMBERS>();
-    let got = ask_lent(kind, question, &mut bytes, &mut starts, lent);
+    let numbers = ask_lent(kind, question, &mut bytes, &mut starts, lent).unwrap_or(NO_ANSWER);
     inject(&mut bytes, BYTES, fault);
     inject(&mut starts, STARTS, fault);
-    is_answer(kind, line, got, &bytes, &starts, lent, text.len())
+    let answer = Answer {
+        numbers,
+        bytes: &bytes,
+        starts: &starts,
+    };
+    is_answer(kind, line, answer, lent, text.len())
 }

@@ -16,6 +16,11 @@ pub const NAMES: [&str; 13] = [
     "wrong_answers",
 ];
 
+// How many rows there are.
+pub const COUNT: usize = NAMES.len();
+
+// The row of the lines that ask for no search: a row of the report, and no code for none. A row is counted by its number, as a line
+// of the other list names it; a search's is that of its kind.
 pub const UNKNOWN: usize = 10;
 
 pub const LIMITS: usize = 11;

@@ -1,7 +1,10 @@
 // A line `b` or `f` with NUMBER PLACE LENGTH RECORDS: the body call or the function call is made, with a table of levels if the
 // letter is a capital, and its numbers and all lent buffers are compared with what they must be.
-use crate::call::{Buffers, Call, CallNumbers, Lent};
-use stored_list::{Fault, Mark, field, inject, is_filled, is_marked, number};
+use crate::call::{Buffers, Call, Lent};
+use stored_list::{Fault, Mark, expected, inject, is_filled, is_marked};
+
+// The fields that hold NUMBER, PLACE, LENGTH and RECORDS.
+const NUMBERS: [usize; 4] = [1, 2, 3, 4];
 
 // How many bytes of each lent buffer a call fills; the replay states its sizes by itself.
 const SIZE: usize = 65536;
@@ -9,7 +12,7 @@ const SIZE: usize = 65536;
 // How many record numbers the function call fills.
 const RECORD_NUMBERS: usize = 5130;
 
-// The numbers of the lent buffers in a line that changes a place.
+// The numbers of the lent buffers in a line that changes a place. They are the list's: a line may name any other number too.
 const OUTPUT: usize = 0;
 
 const WORK: usize = 1;
@@ -29,16 +32,6 @@ pub struct Given<'a> {
     pub declared: &'a [u8],
     pub records: &'a [u32],
     pub lent: Lent,
-}
-
-// The numbers that a line expects, if it has them.
-fn expected(line: &[u8]) -> Option<CallNumbers> {
-    Some(CallNumbers {
-        number: number(field(line, 1))?,
-        place: number(field(line, 2))?,
-        length: number(field(line, 3))?,
-        records: number(field(line, 4))?,
-    })
 }
 
 // Whether a call with this number writes nothing.
@@ -104,11 +97,10 @@ pub fn agrees(call: Call, line: &[u8], given: Given<'_>, fault: Option<Fault>) -
     let mut buffers = Buffers::marked();
     let got = buffers.make_call(call, given.text, given.table, given.lent);
     inject_all(&mut buffers, fault);
-    if expected(line) != Some(got) || !are_left(got.number, &buffers, given) {
-        return false;
-    }
-    match call {
-        Call::Body => true,
-        Call::Function => are_more_left(got.number, &buffers, given),
-    }
+    expected(line, NUMBERS) == Some(got)
+        && are_left(got.number, &buffers, given)
+        && match call {
+            Call::Body => true,
+            Call::Function => are_more_left(got.number, &buffers, given),
+        }
 }

@@ -1,8 +1,8 @@
 // The two rewriting calls, with a table of levels or without one, on the front of buffers that hold marks before, and the
 // numbers of their answers.
 use preprocessor::{preprocess, preprocess_by_levels, transform_body, transform_body_by_levels};
-use spec::{Accepted, Refusal, RefusalNumbers};
-use stored_list::{START_NUMBERS, TEXT_BYTES, marked};
+use spec::{Accepted, Refusal};
+use stored_list::{Numbers, START_NUMBERS, TEXT_BYTES, marked};
 
 #[derive(Clone, Copy)]
 pub enum Call {
@@ -10,47 +10,14 @@ pub enum Call {
     Function,
 }
 
-// Number, place, output length, records.
-#[derive(Clone, Copy, Default, PartialEq)]
-pub struct CallNumbers {
-    pub number: usize,
-    pub place: usize,
-    pub length: usize,
-    pub records: usize,
-}
-
-// What stands for a call that is lent more than there is; no call answers it.
-const NO_CALL: CallNumbers = CallNumbers {
+// What stands for a call that is lent more than there is. It has numbers, since a line of the list can name them: then that is the
+// answer that it expects.
+const NO_CALL: Numbers = Numbers {
     number: 99,
     place: 0,
     length: 0,
-    records: 0,
+    count: 0,
 };
-
-impl From<Refusal> for CallNumbers {
-    fn from(refusal: Refusal) -> CallNumbers {
-        let told = RefusalNumbers::from(refusal);
-        CallNumbers {
-            number: told.number as usize,
-            place: told.place,
-            length: told.length,
-            records: 0,
-        }
-    }
-}
-
-impl From<Result<Accepted, Refusal>> for CallNumbers {
-    fn from(answer: Result<Accepted, Refusal>) -> CallNumbers {
-        match answer {
-            Ok(accepted) => CallNumbers {
-                length: accepted.length,
-                records: accepted.records,
-                ..CallNumbers::default()
-            },
-            Err(refusal) => refusal.into(),
-        }
-    }
-}
 
 // How many bytes and numbers of the buffers are lent.
 #[derive(Clone, Copy, Default)]
@@ -83,9 +50,10 @@ impl Buffers {
         }
     }
 
-    // The body call; none if more is lent than there is.
-    fn body(
+    // The call, with the table if there is one; none if more is lent than there is.
+    fn rewrite(
         &mut self,
+        call: Call,
         text: &[u8],
         table: Option<&[u8]>,
         lent: Lent,
@@ -93,22 +61,12 @@ impl Buffers {
         let output = self.output.get_mut(..lent.output)?;
         let work = self.work.get_mut(..lent.work)?;
         let spare = self.spare.get_mut(..lent.spare)?;
-        Some(match table {
-            Some(table) => transform_body_by_levels(text, table, output, work, spare),
-            None => transform_body(text, output, work, spare),
-        })
-    }
-
-    // The same for the function call.
-    fn function(
-        &mut self,
-        text: &[u8],
-        table: Option<&[u8]>,
-        lent: Lent,
-    ) -> Option<Result<Accepted, Refusal>> {
-        let output = self.output.get_mut(..lent.output)?;
-        let work = self.work.get_mut(..lent.work)?;
-        let spare = self.spare.get_mut(..lent.spare)?;
+        if matches!(call, Call::Body) {
+            return Some(match table {
+                Some(table) => transform_body_by_levels(text, table, output, work, spare),
+                None => transform_body(text, output, work, spare),
+            });
+        }
         let declared = self.declared.get_mut(..lent.declared)?;
         let records = self.records.get_mut(..lent.records)?;
         Some(match table {
@@ -119,21 +77,15 @@ impl Buffers {
         })
     }
 
-    // The call, with the table if there is one.
+    // The numbers of the call's answer.
     pub fn make_call(
         &mut self,
         call: Call,
         text: &[u8],
         table: Option<&[u8]>,
         lent: Lent,
-    ) -> CallNumbers {
-        let answer = match call {
-            Call::Body => self.body(text, table, lent),
-            Call::Function => self.function(text, table, lent),
-        };
-        match answer {
-            Some(rewritten) => rewritten.into(),
-            None => NO_CALL,
-        }
+    ) -> Numbers {
+        self.rewrite(call, text, table, lent)
+            .map_or(NO_CALL, |answer| answer.into())
     }
 }

@@ -5,10 +5,10 @@
 use crate::answer::{Given, agrees};
 use crate::call::{Call, Lent};
 use crate::rows;
-use stored_list::{Fault, NumberList, Row, Text, count, fault_of, field, note};
+use stored_list::{Fault, NumberList, Replay, Row, Text, count, fault_of, field, note};
 
 #[derive(Drop)]
-pub struct Replay {
+pub struct CallReplay {
     text: Text,
     table: Text,
     // The output, the declaration text and the record numbers that are expected.
@@ -20,7 +20,7 @@ pub struct Replay {
     row: usize,
     // What the next call's buffers are changed at.
     fault: Option<Fault>,
-    tally: [Row; 11],
+    tally: [Row; rows::COUNT],
 }
 
 // The lengths that a line gives. One that is missing is too large to be lent.
@@ -34,9 +34,9 @@ fn lent_of(line: &[u8]) -> Lent {
     }
 }
 
-impl Replay {
-    pub fn new() -> Replay {
-        Replay {
+impl CallReplay {
+    pub fn new() -> CallReplay {
+        CallReplay {
             text: Text::new(),
             table: Text::new(),
             output: Text::new(),
@@ -45,24 +45,21 @@ impl Replay {
             lent: Lent::default(),
             row: rows::UNKNOWN,
             fault: None,
-            tally: [Row::default(); 11],
+            tally: [Row::default(); rows::COUNT],
         }
-    }
-
-    pub fn tally(&self) -> &[Row] {
-        &self.tally
     }
 
     // A new text; no output and no declarations are expected yet, and no place is changed.
     fn take_text(&mut self, line: &[u8]) {
-        self.text.set_runs(line);
+        self.text.set_line(line);
         self.output.clear();
         self.declared.clear();
         self.records.clear();
         self.fault = None;
     }
 
-    // Makes the call of a line and counts it.
+    // Makes the call of a line and counts it. Whether it has the table is a flag, the case of the line's letter: the table itself could
+    // not be lent beside `&mut self`.
     fn compare(&mut self, call: Call, by_levels: bool, line: &[u8]) {
         let given = Given {
             text: self.text.as_slice(),
@@ -76,18 +73,19 @@ impl Replay {
         note(&mut self.tally, self.row, same);
         self.fault = None;
     }
+}
 
-    // Takes one line.
-    pub fn take_line(&mut self, line: &[u8]) {
+impl Replay for CallReplay {
+    fn take_line(&mut self, line: &[u8]) {
         match line.first().copied() {
             Some(b't') => self.take_text(line),
-            Some(b'g') => self.table.set_runs(line),
-            Some(b'e') => self.output.set_runs(line),
-            Some(b'd') => self.declared.set_runs(line),
-            Some(b'n') => self.records.set_numbers(line),
+            Some(b'g') => self.table.set_line(line),
+            Some(b'e') => self.output.set_line(line),
+            Some(b'd') => self.declared.set_line(line),
+            Some(b'n') => self.records.set_line(line),
             Some(b'l') => self.lent = lent_of(line),
             Some(b's') => self.row = count(field(line, 1)),
-            Some(b'z') => self.fault = fault_of(line),
+            Some(b'z') => self.fault = Some(fault_of(line)),
             Some(b'b') => self.compare(Call::Body, false, line),
             Some(b'B') => self.compare(Call::Body, true, line),
             Some(b'f') => self.compare(Call::Function, false, line),
@@ -97,5 +95,9 @@ impl Replay {
                 self.fault = None;
             }
         }
+    }
+
+    fn tally(&self) -> &[Row] {
+        &self.tally
     }
 }

@@ -13,5 +13,8 @@ pub const NAMES: [&str; 11] = [
     "wrong_answers",
 ];
 
-// The row of the lines that are of no kind.
+// How many rows there are.
+pub const COUNT: usize = NAMES.len();
+
+// The row of the lines that are of no kind: a row of the report, and no code for none. A line of the list names a row by its number.
 pub const UNKNOWN: usize = 9;

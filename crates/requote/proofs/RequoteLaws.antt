@@ -6,7 +6,7 @@ use mathlib.Core.List.{List, [], ◌∷◌, ◌++◌, map}
 use Prim.Native.Nat.{ℕ, suc, ◌+◌, ◌-◌, ◌≤◌, ◌<◌, zero-le}
 use native.Mathlib.Omega.{arith}
 use lib.ListN.{length, take, drop, get_or, length-append, length-drop, drop_of_length-le}
-use lib.Seq.{sets, length-take-le}
+use lib.Seq.{length-take-le}
 use Rattle.std.specs.List.{filter}
 use lib.Dec.{eqb}
 use Rattle.spec.proofs.AheadLaws.{drop_front}
@@ -18,7 +18,9 @@ use Rattle.spec.specs.Requote.{requote_span, requote_lexeme, requoted, quotes_in
 use Rattle.spec.specs.Spans.{dollar_of, span_of, span_at, span_len, Lexeme, lexeme_at, lexemes_from, lexemes}
 use Rattle.spec.specs.declared.Span.{Span}
 use Rattle.spec.specs.declared.Span.TheVariants.{Code}
-use Rattle.output.proofs.StoreLaws.{sets_more}
+use Rattle.output.proofs.WriterLaws.{Left, left_more}
+use Rattle.output.specs.Written.{Wrote}
+use Rattle.output.specs.declared.Writer.{Writer}
 use Rattle.spans.specs.Openers.{opens_span}
 use Rattle.spans.proofs.OpenerLaws.{at_plain}
 use Rattle.spans.proofs.StepLaws.{by_front, Stepped, stepped}
@@ -38,11 +40,6 @@ pub requoted_step : (c : ℕ) (cs : List ℕ)
 unfolding requoted concat requote_lexeme lexeme_at
 requoted_step c cs = ap (λ (ls : List Lexeme). concat (map requote_lexeme ls)) (lexemes_step c cs)
 
--- what a turn of `requote` does: n bytes of the result are in d before it, n' are in d' after it
-pub record Turn (xs : List ℕ) (at to : ℕ) (d : List ℕ) (n : ℕ) (d' : List ℕ) (n' : ℕ) : Type 0 where
-  pub counted : n + length (requoted (drop at xs)) ≡ n' + length (requoted (drop to xs))
-  pub stored : sets d n (requoted (drop at xs)) ≡ sets d' n' (requoted (drop to xs))
-
 module _ (xs : List ℕ) (at : ℕ) (s : Span) (to : ℕ) (t : Stepped xs at s to) where
   long : to - at ≡ span_len (span_at (drop at xs))
   long = omega (arith, t.far, ap span_len t.front)
@@ -56,17 +53,9 @@ module _ (xs : List ℕ) (at : ℕ) (s : Span) (to : ℕ) (t : Stepped xs at s t
   pub inside_within : inside_end s ≤ to - at
   inside_within = rw (long, t.front) (inside_le (drop at xs))
 
-  pub requote_turn : (d d' : List ℕ) (n n' : ℕ)
-      → n' ≡ n + length (requote_span s (take (to - at) (drop at xs)))
-      → d' ≡ sets d n (requote_span s (take (to - at) (drop at xs)))
-      → Turn xs at to d n d' n'
-  requote_turn d d' n n' p q =
-      let u = requote_span s (take (to - at) (drop at xs)) in
-      let v = requoted (drop to xs) in
-      record {
-        counted = omega (arith, p, ap length requoted_ahead, length-append u v);
-        stored = sets_more d d' _ u v n n' requoted_ahead q p;
-      }
+  -- what a turn of `requote` writes is the front of what is left
+  pub requote_turn : (text : List ℕ) {a b c : Writer} → Left a text b (requoted (drop at xs)) → Wrote b (requote_span s (take (to - at) (drop at xs))) c → Left a text c (requoted (drop to xs))
+  requote_turn text l p = left_more text _ _ (requoted (drop to xs)) l requoted_ahead p
 
   -- the length by the span in front and what is behind it
   pub length_turn : requoted_length (drop at xs) ≡ requoted_span_length s (take (to - at) (drop at xs)) + requoted_length (drop to xs)

@@ -3,55 +3,49 @@
 
 ghost use Rattle.std.specs.Prelude.{◌≡◌, ◌+◌, ◌*◌, ◌^◌, ◌≤◌, ◌<◌, length, take, drop};
 ghost use Rattle.std.proofs.lemmas.List.Edits.{sets};
-ghost use Rattle.spec.specs.Requote.{single_quoted, requote_span, requoted, quotes_in, requoted_span_length, requoted_length};
+ghost use Rattle.spec.specs.Requote.{requote_span, requoted, quotes_in, requoted_span_length, requoted_length};
+ghost use Rattle.output.specs.Written.{Wrote};
 ghost use Rattle.requote.specs.Inside.{inside_end};
 
-use output::{put_all, put_single_quoted};
+use output::Writer;
 use spans::{Cursor, next_span, opens_span, span_len};
-use spec::Span;
+use spec::{DollarQuoted, Span};
 
-// The k bytes of `span` from a on, in single quotes.
-fn put_inside(out: &mut [u8], n: usize, span: &[u8], a: usize, k: usize) -> usize
-    requires span_bound { n + 2 * length span.now + 2 < 2 ^ 63 }
-    requires k_in_bounds { a + k ≤ length span.now }
-    ensures value { result ≡ n + length (single_quoted (take k (drop a span.now))) }
-    ensures out_after { out.new ≡ sets out.old n (single_quoted (take k (drop a span.now))) }
+// What stands between the delimiters of a dollar literal with the bytes `span`.
+fn inside<'a>(span: &'a [u8], d: DollarQuoted) -> &'a [u8]
+    requires { d.inner_start + d.inner_len ≤ length span.now }
+    ensures { result.now ≡ take d.inner_len (drop d.inner_start span.now) }
 {
-    put_single_quoted(out, n, &span[a..a + k])
+    &span[d.inner_start..][..d.inner_len]
 }
 
 // What becomes of the span s with the bytes `span`.
-#[tactic(auto, unfolding(spec::specs::Requote::requote_span))]
-fn put_span(out: &mut [u8], n: usize, span: &[u8], s: Span) -> usize
-    requires span_bound { n + 2 * length span.now + 2 < 2 ^ 63 }
+#[tactic(auto, using(crate::proofs::RequoteLaws::part_laws), unfolding(spec::specs::Requote::requote_span))]
+fn put_span(written: &mut Writer<'_>, span: &[u8], s: Span)
+    requires span_bound { written.old.len + 2 * length span.now + 2 < 2 ^ 63 }
     requires s_in_bounds { inside_end s ≤ length span.now }
-    ensures value { result ≡ n + length (requote_span s span.now) }
-    ensures out_after { out.new ≡ sets out.old n (requote_span s span.now) }
+    ensures { Wrote written.old (requote_span s span.now) written.new }
 {
     match s {
-        Span::Verbatim(_) | Span::Code(_) => put_all(out, n, span),
-        Span::Dollar(d) => put_inside(out, n, span, d.inner_start, d.inner_len),
+        Span::Verbatim(_) | Span::Code(_) => written.put_all(span),
+        Span::Dollar(d) => written.put_single_quoted(inside(span, d)),
     }
 }
 
 // The requoted text, as far as `out` reaches; the result is how many bytes it has.
+#[tactic(auto, using(spans::proofs::StepLaws::step_taken, spans::proofs::StepLaws::step_done, crate::proofs::RequoteLaws::requote_turn, crate::proofs::RequoteLaws::inside_within, crate::proofs::RequoteLaws::requoted_over, output::proofs::WriterLaws::left_start, output::proofs::WriterLaws::left_done, output::proofs::WriterLaws::wrote_front))]
 pub fn requote(text: &[u8], out: &mut [u8]) -> usize
     requires { length text.now ≤ 65536 }
     ensures value { result ≡ length (requoted text.now) }
     ensures out_after { out.new ≡ sets out.old 0 (requoted text.now) }
 {
-    let mut n: usize = 0;
+    let mut written = Writer::new(out);
     let mut cursor = Cursor { at: 0 };
-    loop {
-        let from = cursor.at;
-        let step = cursor.step(text);
-        let Some((s, next)) = step else {
-            return n;
-        };
-        let to = next.at;
-        n = put_span(out, n, &text[from..to], s);
+    while let Some((s, next)) = cursor.step(text) {
+        put_span(&mut written, &text[cursor.at..next.at], s);
         cursor = next;
     }
+    written.len
 }
 
 // How many `'` stand in `text`.
@@ -61,14 +55,13 @@ fn quotes_in(text: &[u8]) -> usize
     text.iter().filter(|b| **b == b'\'').count()
 }
 
-// How many bytes the k bytes of `span` from a on make in single quotes.
+// How many bytes a text makes in single quotes.
 #[tactic(auto, using(crate::proofs::RequoteLaws::part_laws))]
-fn inside_len(span: &[u8], a: usize, k: usize) -> usize
-    requires span_len_bound { length span.now ≤ 65536 }
-    requires k_in_bounds { a + k ≤ length span.now }
-    ensures { result ≡ 2 + k + quotes_in (take k (drop a span.now)) }
+fn single_quoted_len(text: &[u8]) -> usize
+    requires { length text.now ≤ 65536 }
+    ensures { result ≡ 2 + length text.now + quotes_in text.now }
 {
-    2 + k + quotes_in(&span[a..a + k])
+    2 + text.len() + quotes_in(text)
 }
 
 // The length of what becomes of the span s with the bytes `span`.
@@ -80,7 +73,7 @@ fn requoted_span_len(span: &[u8], s: Span) -> usize
 {
     match s {
         Span::Verbatim(_) | Span::Code(_) => span.len(),
-        Span::Dollar(d) => inside_len(span, d.inner_start, d.inner_len),
+        Span::Dollar(d) => single_quoted_len(inside(span, d)),
     }
 }
 

@@ -2,20 +2,10 @@
 ghost use Rattle.std.specs.Prelude.{◌≤◌, IfOk, length};
 
 use std::io;
-use std::io::Read;
+use std::io::{Read, Write};
 
 // One byte more than a call's text may have: with it the text is too long, whatever follows.
 pub const TEXT_SIZE: usize = 16385;
-
-// Puts more bytes behind the n bytes of the text, as far as it reaches, and gives how many it has then.
-fn append(text: &mut [u8], n: usize, more: &[u8]) -> usize
-    requires { n ≤ length text.old }
-    ensures { result ≤ length text.old }
-{
-    let k = more.len().min(text.len() - n);
-    text[n..n + k].copy_from_slice(&more[..k]);
-    n + k
-}
 
 // Reads the file to its end and gives the text. Bytes that the buffer has no room for are read and dropped, so that whoever
 // writes them sees no error. A proved loop has to end, so its turns are bounded by a number that no input uses up.
@@ -29,7 +19,8 @@ pub fn read_text<'a>(file: &mut impl Read, text: &'a mut [u8]) -> io::Result<&'a
         if more == 0 {
             return Ok(&text[..n]);
         }
-        n = append(text, n, &chunk[..more]);
+        let mut room = &mut text[n..];
+        n += room.write(&chunk[..more])?;
     }
     Err(io::Error::other("no end was found"))
 }

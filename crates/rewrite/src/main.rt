@@ -10,41 +10,36 @@ mod table;
 use crate::failure::{Reported, report};
 use crate::input::{TEXT_SIZE, read_text};
 use crate::print::print_answer;
-use crate::table::read_table;
-use plpgsql_rewriter::{plpgsql_preprocess, plpgsql_preprocess_by_levels};
+use crate::table::{default_table, read_table};
+use plpgsql_rewriter::plpgsql_preprocess_by_levels;
 use std::env::Env;
 use std::io;
 use std::rt::Files;
 
-// Makes the function call, with a table if there is one, and prints its answer.
-fn rewrite(rt: &impl Print, text: &[u8], table: Option<&[u8]>) -> io::Result<()> {
-    let mut output = [0u8; 65536];
-    let mut work = [0u8; 65536];
-    let mut spare = [0u8; 65536];
-    let mut declared = [0u8; 65536];
-    let mut records = [0u32; 5130];
+// How many bytes of each buffer and how many record numbers a call fills: a caller of the interface states them by itself, as the
+// header gives them.
+const BUFFER_SIZE: usize = 65536;
+
+const RECORD_NUMBERS: usize = 5130;
+
+// Makes the function call with a table, and prints its answer.
+fn rewrite(rt: &impl Print, text: &[u8], table: &[u8]) -> io::Result<()> {
+    let mut output = [0u8; BUFFER_SIZE];
+    let mut work = [0u8; BUFFER_SIZE];
+    let mut spare = [0u8; BUFFER_SIZE];
+    let mut declared = [0u8; BUFFER_SIZE];
+    let mut records = [0u32; RECORD_NUMBERS];
     let mut answer = [0u32; 4];
-    match table {
-        Some(table) => plpgsql_preprocess_by_levels(
-            text,
-            table,
-            &mut output,
-            &mut work,
-            &mut spare,
-            &mut declared,
-            &mut records,
-            &mut answer,
-        ),
-        None => plpgsql_preprocess(
-            text,
-            &mut output,
-            &mut work,
-            &mut spare,
-            &mut declared,
-            &mut records,
-            &mut answer,
-        ),
-    }
+    plpgsql_preprocess_by_levels(
+        text,
+        table,
+        &mut output,
+        &mut work,
+        &mut spare,
+        &mut declared,
+        &mut records,
+        &mut answer,
+    );
     print_answer(rt, answer, &output)
 }
 
@@ -59,7 +54,11 @@ fn run(rt: &(impl Input + Env + Files + Print + Eprint)) -> Result<(), Reported>
     ))?;
     let mut table = [0u8; 4096];
     let table = read_table(rt, &mut table)?;
-    rewrite(rt, text, table).map_err(|error| report(rt, "standard output", error))
+    rewrite(rt, text, table.unwrap_or(default_table())).map_err(|error| report(
+        rt,
+        "standard output",
+        error,
+    ))
 }
 
 // What fails is named on standard error, and the exit status is 0 all the same.

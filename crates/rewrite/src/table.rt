@@ -1,5 +1,6 @@
 // The table of levels, in the file that the argument names.
-ghost use Rattle.std.specs.Prelude.{◌≤◌, IfOk, IfSome, length};
+ghost use Rattle.std.specs.Prelude.{◌≡◌, ◌≤◌, IfOk, IfSome, length};
+ghost use Rattle.spec.specs.Levels.{table_of, no_table};
 
 use crate::failure::{Reported, report};
 use crate::input::read_text;
@@ -42,4 +43,12 @@ pub fn read_table<'a>(
     let path = std::str::from_utf8(&path[..n]).map_err(|_error| bad_name(rt, "not UTF-8"))?;
     let table = open_and_read(rt, path, table).map_err(|error| report(rt, path, error))?;
     Ok(Some(table))
+}
+
+// The table that is taken if the argument names none: it says what the calls without a table do.
+#[tactic(auto, unfolding(spec::proofs::LevelRowForms::levelled))]
+pub fn default_table() -> &'static [u8]
+    ensures { table_of result.now ≡ no_table }
+{
+    b"DEBUG drop\nLOG drop\nINFO drop\nNOTICE drop\nWARNING drop\nEXCEPTION abort\n"
 }

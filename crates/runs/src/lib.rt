@@ -1,14 +1,42 @@
-// Runs of the bytes of a set in a text: where they end, where they start, whether there is one, and a text
-// without W at both ends.
+// Places in a text, and runs of the bytes of a set in it: where they end, where they start, whether there is one,
+// and a text without W at both ends.
 #![tactic(auto)]
 
 ghost use Rattle.std.specs.Prelude.{◌≡◌, ◌+◌, ◌≤◌, length, take, drop};
 ghost use Rattle.spec.specs.Lists.{take_while, drop_end, any};
+ghost use Rattle.runs.specs.Places.{piece_at, place_between};
 ghost use Rattle.runs.specs.Sets.{in_set, trimmed};
 
 use classes::{is_ident_byte, is_n, is_w};
 
-// A set of bytes.
+// Where a piece of a text begins, and how many bytes it has.
+#[derive(Clone, Copy)]
+pub struct Place {
+    pub at: usize,
+    pub len: usize,
+}
+
+impl Place {
+    // The bytes from one offset up to the other, if there are any.
+    #[tactic(auto, unfolding(crate::specs::Places::place_between))]
+    pub fn between(at: usize, end: usize) -> Option<Place>
+        ensures { result ≡ place_between at end }
+    {
+        (at < end).then(|| Place { at, len: end - at })
+    }
+
+    // What stands there in a text, as far as the text reaches.
+    #[tactic(auto, using(std::proofs::lemmas::List::take_rest))]
+    pub fn of<'a>(self, text: &'a [u8]) -> &'a [u8]
+        ensures { result.now ≡ piece_at text.now self }
+    {
+        let rest = text.get(self.at..).unwrap_or(&[]);
+        rest.get(..self.len).unwrap_or(rest)
+    }
+}
+
+// A set of bytes. An enum, and no test as a closure: with it a contract gives a run by the set's name, and what was tried to put each
+// set's loop into the callers took as many instructions (docs/DECISIONS.md, "What the runs cost").
 #[derive(Clone, Copy)]
 pub enum Set {
     W,
@@ -22,12 +50,9 @@ pub enum Set {
     Only(u8),
     // All but this byte.
     Except(u8),
-    // Bytes up to 127.
-    Ascii,
 }
 
 // Whether b is in the set.
-#[tactic(auto, unfolding(spec::specs::Bytes::is_high))]
 fn is_in(set: Set, b: u8) -> bool
     ensures { result ≡ in_set set b }
 {
@@ -39,7 +64,6 @@ fn is_in(set: Set, b: u8) -> bool
         Set::NotWNor(c) => !is_w(b) && b != c,
         Set::Only(c) => b == c,
         Set::Except(c) => b != c,
-        Set::Ascii => b.is_ascii(),
     }
 }
 

@@ -7,3 +7,4 @@ pub mod WordLaws
 pub mod NeedleLaws
 pub mod SplitLaws
 pub mod HandlerLaws
+pub mod PartLaws

@@ -10,8 +10,7 @@ use Rattle.spec.specs.Map.{marked}
 use Rattle.spec.specs.Search.{needle_here}
 use Rattle.spec.proofs.WalkLaws.{front_live_lem, starts_exact_at, passes_at, prefix_exact}
 
--- m is the map byte at i
-pub needle_at : (w xs ms : List ℕ) (i m : ℕ) → i < length xs → m ≡ get_or ms i 0
-    → passes_at (needle_here w) (marked xs ms) i ≡ (eqb m 0 && is_prefix w (drop i xs))
+pub needle_at : (w xs ms : List ℕ) (i : ℕ) → i < length xs
+    → passes_at (needle_here w) (marked xs ms) i ≡ (eqb (get_or ms i 0) 0 && is_prefix w (drop i xs))
 unfolding needle_here
-needle_at w xs ms i m h e = rw (front_live_lem xs ms i h, ← e, starts_exact_at w xs ms i, prefix_exact) refl
+needle_at w xs ms i h = rw (front_live_lem xs ms i h, starts_exact_at w xs ms i, prefix_exact) refl

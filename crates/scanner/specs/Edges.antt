@@ -1,9 +1,10 @@
 -- The edges of a keyword, by offsets. Assumes nothing.
-use Rattle.std.specs.Prelude.{ℕ, ◌+◌, ◌-◌, Bool, false, cond, not, ◌&&◌, List, eqb, get_or}
+use Rattle.std.specs.Prelude.{ℕ, ◌+◌, Bool, not, ◌&&◌, List, reverse, take, drop}
 use Rattle.spec.specs.Bytes.{is_word}
+use Rattle.spec.specs.Map.{Marked, front_byte, front_live}
 
 -- the n bytes at i start live and have no word byte on either side
-unfoldable pub edges : List ℕ → List ℕ → ℕ → ℕ → Bool
-edges xs ms n i =
-    eqb (get_or ms i 0) 0
-    && (not (cond (eqb i 0) false (is_word (get_or xs (i - 1) 0))) && not (is_word (get_or xs (i + n) 0)))
+unfoldable pub edges : List Marked → ℕ → ℕ → Bool
+edges t n i =
+    front_live (drop i t)
+    && (not (is_word (front_byte (reverse (take i t)))) && not (is_word (front_byte (drop (i + n) t))))

@@ -1,31 +1,46 @@
 // The public searches. Each checks the text and the lent buffers first, and a refused one writes nothing. An accepted one
-// leaves the text's map at the front of the lent map.
+// leaves the text's map at the front of the lent map. C calls each and lends each buffer apart, so the functions take them so.
 #![tactic(auto)]
 
-ghost use Rattle.std.specs.Prelude.{◌≡◌, [], ◌∷◌, ◌≤◌, ◌+◌, ◌&&◌, leb, length};
+ghost use Rattle.std.specs.Prelude.{◌≡◌, [], ◌+◌, ◌&&◌, leb, length};
+ghost use Rattle.std.specs.Fn.{FnOnceReturnsAt};
+ghost use Rattle.spec.specs.Map.{marked_text};
 ghost use Rattle.spec.specs.Answers.{map_check, map_exit, if_passed, yes_no, regions_answer, keyword_answer, byte_answer, needle_answer, word_answer, word_part, handler_answer, unterminated_answer, split_check, split_answer, split_map_exit, split_exit, requoted_length_answer, requote_answer, requote_exit};
 ghost use Rattle.searches.specs.Words.{word_found, word_bytes};
 
 use checks::check_texts;
 use requote::{requote, requoted_len};
-use scanner::{
-    find_byte_in, find_keyword_in, find_str_in, has_handler_in, has_unterminated, map_text,
-    split_in, word_end, word_start,
-};
+use scanner::{MappedText, has_unterminated, map_text};
 use spec::Refusal;
 
 // The most bytes that a search's text may have.
 const SEARCH_LIMIT: usize = 65536;
 
 // The checks of a search that is lent a map, and the map if they pass.
-#[tactic(auto, using(crate::proofs::CheckedLaws::map_passed, crate::proofs::CheckedLaws::sets_front), unfolding(spec::specs::Answers::map_check, spec::specs::Answers::map_exit, spec::specs::Answers::search_limit))]
-pub fn map_checked(text: &[u8], map: &mut [u8], needle: &[u8]) -> Result<(), Refusal>
+#[tactic(auto, using(crate::proofs::CheckedLaws::map_passed), unfolding(spec::specs::Answers::map_check, spec::specs::Answers::map_exit, spec::specs::Answers::search_limit))]
+fn map_checked(text: &[u8], map: &mut [u8], needle: &[u8]) -> Result<(), Refusal>
     ensures value { result ≡ map_check text.now map.old needle.now }
     ensures map_after { map.new ≡ map_exit text.now map.old needle.now }
 {
     check_texts(SEARCH_LIMIT, text.len() <= map.len(), text, needle)?;
+    // Here and in `split_in_code` not `MappedText::mapped`, which promises nothing of what the lent map holds at the end.
     map_text(text, map);
     Ok(())
+}
+
+// What a search of the text with its map gives, where the checks pass.
+pub fn searched<T, F: FnOnce(&MappedText<'_>) -> T>(
+    text: &[u8],
+    map: &mut [u8],
+    needle: &[u8],
+    search: F,
+) -> Result<T, Refusal>
+    requires { F.IsAlwaysCallable search }
+    ensures value { (a : T) → ((r : T) → FnOnceReturnsAt F.FnOnce search (marked_text text.now) r → r ≡ a) → result ≡ if_passed (map_check text.now map.old needle.now) a }
+    ensures map_after { map.new ≡ map_exit text.now map.old needle.now }
+{
+    map_checked(text, map, needle)?;
+    Ok(search(&MappedText::new(text, map)))
 }
 
 // The place of a yes/no search.
@@ -41,12 +56,11 @@ pub fn regions(text: &[u8], map: &mut [u8]) -> Result<usize, Refusal>
     ensures value { result ≡ regions_answer text.now map.old }
     ensures map_after { map.new ≡ map_exit text.now map.old [] }
 {
-    map_checked(text, map, b"")?;
-    Ok(0)
+    searched(text, map, b"", |_| 0)
 }
 
 // The least offset at or after `from` where `keyword` stands live, as a whole word, in any letter case.
-#[tactic(auto, using(crate::proofs::CheckedLaws::passed_marks), unfolding(spec::specs::Answers::keyword_answer, spec::specs::Search::find_keyword))]
+#[tactic(auto, unfolding(spec::specs::Answers::keyword_answer, spec::specs::Search::find_keyword))]
 pub fn find_keyword(
     text: &[u8],
     map: &mut [u8],
@@ -56,22 +70,20 @@ pub fn find_keyword(
     ensures value { result ≡ keyword_answer text.now map.old keyword.now from }
     ensures map_after { map.new ≡ map_exit text.now map.old keyword.now }
 {
-    map_checked(text, map, keyword)?;
-    Ok(find_keyword_in(text, map, keyword, from))
+    searched(text, map, keyword, |t| t.find_keyword(keyword, from))
 }
 
 // The least offset of the live byte b.
-#[tactic(auto, using(crate::proofs::CheckedLaws::passed_marks), unfolding(spec::specs::Answers::byte_answer, spec::specs::Search::find_in_code))]
+#[tactic(auto, unfolding(spec::specs::Answers::byte_answer, spec::specs::Search::find_in_code))]
 pub fn find_in_code(text: &[u8], map: &mut [u8], b: u8) -> Result<Option<usize>, Refusal>
     ensures value { result ≡ byte_answer text.now map.old b }
     ensures map_after { map.new ≡ map_exit text.now map.old [] }
 {
-    map_checked(text, map, b"")?;
-    Ok(find_byte_in(text, map, b, 0))
+    searched(text, map, b"", |t| t.find_byte(b, 0))
 }
 
 // The least offset where `needle` stands, its first byte live.
-#[tactic(auto, using(crate::proofs::CheckedLaws::passed_marks), unfolding(spec::specs::Answers::needle_answer, spec::specs::Search::find_str_in_code))]
+#[tactic(auto, unfolding(spec::specs::Answers::needle_answer, spec::specs::Search::find_str_in_code))]
 pub fn find_str_in_code(
     text: &[u8],
     map: &mut [u8],
@@ -80,8 +92,7 @@ pub fn find_str_in_code(
     ensures value { result ≡ needle_answer text.now map.old needle.now }
     ensures map_after { map.new ≡ map_exit text.now map.old needle.now }
 {
-    map_checked(text, map, needle)?;
-    Ok(find_str_in(text, map, needle, 0))
+    searched(text, map, needle, |t| t.find_str(needle, 0))
 }
 
 // A word of live text: its offset, and its bytes, which are a part of the caller's text.
@@ -91,8 +102,9 @@ pub struct Word<'a> {
     pub bytes: &'a [u8],
 }
 
-// The next word of live text at or after `from`.
-#[tactic(auto, using(crate::proofs::CheckedLaws::passed_marks), unfolding(spec::specs::Answers::word_answer, spec::specs::Answers::word_part))]
+// The next word of live text at or after `from`. Not by `searched`: its closure may hand back the word's two ends alone, and that was
+// tried: the proof did not close at the part between them, nor at what is answered.
+#[tactic(auto, using(crate::proofs::CheckedLaws::passed_marks, crate::proofs::NextWordLaws::found_within, crate::proofs::NextWordLaws::found_place, crate::proofs::NextWordLaws::found_text, crate::proofs::NextWordLaws::none_place, crate::proofs::NextWordLaws::none_text), unfolding(spec::specs::Answers::word_answer, spec::specs::Answers::word_part))]
 pub fn next_word_in_code<'a>(
     text: &'a [u8],
     map: &mut [u8],
@@ -103,8 +115,9 @@ pub fn next_word_in_code<'a>(
     ensures map_after { map.new ≡ map_exit text.now map.old [] }
 {
     map_checked(text, map, b"")?;
-    let start = word_start(text, map, from);
-    let end = word_end(text, map, start);
+    let mapped = MappedText::new(text, map);
+    let start = mapped.word_start(from);
+    let end = mapped.word_end(start);
     if start < end {
         let bytes = &text[start..end];
         Ok(Some(Word {
@@ -117,13 +130,12 @@ pub fn next_word_in_code<'a>(
 }
 
 // Whether a live EXCEPTION has WHEN as its next live word.
-#[tactic(auto, using(crate::proofs::CheckedLaws::passed_marks), unfolding(spec::specs::Answers::handler_answer, spec::specs::Search::has_exception_handler))]
+#[tactic(auto, unfolding(spec::specs::Answers::handler_answer, spec::specs::Search::has_exception_handler))]
 pub fn has_exception_handler(text: &[u8], map: &mut [u8]) -> Result<Option<usize>, Refusal>
     ensures value { result ≡ handler_answer text.now map.old }
     ensures map_after { map.new ≡ map_exit text.now map.old [] }
 {
-    map_checked(text, map, b"")?;
-    Ok(yes_no(has_handler_in(text, map)))
+    searched(text, map, b"", |t| yes_no(t.has_handler()))
 }
 
 // Whether a dollar literal opens and never closes.
@@ -151,7 +163,7 @@ fn split_checked(text: &[u8], map: &[u8], starts: &[u32]) -> Result<(), Refusal>
 }
 
 // Where each piece between live bytes `separator` starts; the answer is how many there are.
-#[tactic(auto, using(crate::proofs::CheckedLaws::split_passed, spec::proofs::WalkLaws::marked_kept), unfolding(spec::specs::Answers::split_answer, spec::specs::Answers::split_map_exit, spec::specs::Answers::split_exit, spec::specs::Search::split_in_code))]
+#[tactic(auto, using(crate::proofs::CheckedLaws::split_passed, spec::proofs::WalkLaws::marked_kept, spec::proofs::MapLaws::marked_length), unfolding(spec::specs::Answers::split_answer, spec::specs::Answers::split_map_exit, spec::specs::Answers::split_exit, spec::specs::Search::split_in_code))]
 pub fn split_in_code(
     text: &[u8],
     map: &mut [u8],
@@ -164,7 +176,7 @@ pub fn split_in_code(
 {
     split_checked(text, map, starts)?;
     map_text(text, map);
-    Ok(split_in(text, map, starts, separator))
+    Ok(MappedText::new(text, map).split(starts, separator))
 }
 
 // The length of the requoted text, before anything is written.

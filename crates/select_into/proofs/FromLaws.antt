@@ -1,22 +1,20 @@
--- The FROM part, and what the lines share, by offsets. Assumes nothing.
-use mathlib.Core.Path.{◌≡◌, refl, sym, ap, ◌∙◌}
+-- The FROM part and the last line, by offsets, and the lengths of parts. Assumes nothing.
+use mathlib.Core.Path.{◌≡◌, sym, ap, ◌∙◌}
 use mathlib.Core.Bool.{not}
 use mathlib.Core.List.{List}
-use Prim.Native.Nat.{ℕ, ◌-◌, ◌≤◌}
+use Prim.Native.Nat.{ℕ, ◌+◌, ◌≤◌}
 use native.Mathlib.Omega.{arith}
 use lib.Dec.{eqb}
-use lib.ListN.{length, take, drop}
+use lib.ListN.{length, take, drop, length-take, length-drop}
 use lib.Seq.{take-take}
 use Rattle.spec.proofs.EndLaws.{drop_end_take, end_drop}
-use Rattle.spec.proofs.AheadLaws.{rest_of, drop_take}
 use Rattle.spec.proofs.ListLaws.{drop_end_le}
-use Rattle.spec.specs.Bytes.{ascii, is_w}
+use Rattle.spec.specs.Bytes.{is_w}
 use Rattle.spec.specs.Lists.{drop_end}
-use Rattle.quotes.specs.Limits.{limit_from}
-use Rattle.set_lines.specs.Lines.{shared}
+use Rattle.set_lines.specs.Lines.{Shared, shared_by}
 use Rattle.spec.proofs.RunPlaces.{start_from}
 use Rattle.runs.proofs.RunLaws.{start_whole}
-use Rattle.select_into.specs.Pairs.{last_line, from_text, shared_of}
+use Rattle.select_into.specs.Pairs.{last_line, from_text}
 
 -- it is a front of what stands from FROM on
 from_front : (xs : List ℕ) → from_text xs ≡ take (length (from_text xs)) xs
@@ -38,19 +36,24 @@ pub from_short : (xs : List ℕ) → length (from_text xs) ≤ length xs
 unfolding from_text
 from_short xs = omega (arith, drop_end_le (λ c. eqb c 59) (drop_end is_w xs), drop_end_le is_w xs)
 
--- the parts that `put_pairs` hands on
-pub shared_same : (xs from : List ℕ) (front s f m a k₀ k n : ℕ)
-    → from ≡ from_text (take (length xs - f) (drop f xs))
-    → m ≡ start_from is_w from (length from)
-    → a ≡ start_from (λ c. not (eqb c 10)) xs front
-    → k₀ ≡ limit_from 0 (take (s - front) (drop front xs))
-    → k ≡ limit_from k₀ (ascii "SELECT ")
-    → n ≡ limit_from 1 from
-    → shared (take (s - front) (drop front xs)) (take m from) (take (front - a) (drop a xs)) k (eqb n 7)
-    ≡ shared_of xs front s f
-unfolding shared_of last_line
-shared_same xs from front s f m a k₀ k n e g h p q r =
-    let part : from ≡ from_text (drop f xs) = e ∙ ap from_text (rest_of xs f) in
-    let last =
-    end_drop (λ c. not (eqb c 10)) (take front xs) ∙ (ap (λ (i : ℕ). drop i (take front xs)) (sym h) ∙ drop_take a front xs) in
-    rw (q, p, r, (start_whole is_w from m g).1, part, last) refl
+-- the last line is cut out where it starts
+pub last_cut : (xs : List ℕ) (k : ℕ) → k ≡ start_from (λ c. not (eqb c 10)) xs (length xs) → drop k xs ≡ last_line xs
+unfolding last_line
+last_cut xs k e =
+    ap (λ (n : ℕ). drop n xs) (start_whole (λ c. not (eqb c 10)) xs k e).0 ∙ sym (end_drop (λ c. not (eqb c 10)) xs)
+
+-- a part is no longer than the list
+pub part_short : {A : Type 0} (n a : ℕ) (xs : List A) → length (take n (drop a xs)) ≤ length xs
+part_short n a xs = omega (arith, length-take n (drop a xs), length-drop a xs)
+
+-- the parts that the lines share are no longer than those that they come from
+pub shared_short : (h : Shared) (w from indent : List ℕ) → h ≡ shared_by w from indent
+    → length h.with_text + length h.from_text + length h.indent ≤ length w + length from + length indent
+shared_short h w from indent e =
+    omega (
+      arith,
+      ap (λ (s : Shared). length s.with_text) e,
+      ap (λ (s : Shared). length s.from_text) e,
+      ap (λ (s : Shared). length s.indent) e,
+      drop_end_le is_w from,
+    )

@@ -1,24 +1,25 @@
 -- The lines of pass 4 as bytes are those that are written. Assumes nothing.
+use Rattle.std.proofs.lemmas.Bool.{cond_both}
 use mathlib.Core.Path.{◌≡◌, refl, sym, ap, ◌∙◌}
 use mathlib.Core.Bool.{Bool, true, false, cond, not, ◌||◌, or-true, or-false}
 use mathlib.Core.List.{List, [], ◌∷◌, ◌++◌, append-nil, reverse}
-use Prim.Native.Nat.{ℕ, zero, suc, ◌≤◌, ◌<◌}
+use Prim.Native.Nat.{ℕ, suc, ◌≤◌, ◌<◌}
 use native.Mathlib.Omega.{arith}
 use borrow.Author.Tests.{eqb-false}
 use lib.Dec.{eqb, leb}
 use lib.ListN.{length, get_or, length-append, length-map}
 use Rattle.spec.proofs.ByteSets.{gap_w}
 use Rattle.spec.proofs.BytesLaws.{bytes_append, bytes_lives, bytes_end, bytes_while, bytes_reverse}
-use Rattle.spec.proofs.Choice.{by, cond_case, cond_le}
-use Rattle.spec.specs.Bytes.{ascii, is_w, upper, is_lower, within}
+use Rattle.spec.proofs.Choice.{by, cond_le}
+use Rattle.spec.specs.Bytes.{ascii, is_w, upper}
 use Rattle.spec.specs.Lists.{is_empty, take_while, drop_end}
 use Rattle.spec.specs.Map.{Marked, live, byte, bytes, lives, of_byte}
 use Rattle.spec.specs.Parts.{trim_end}
 use Rattle.spec.specs.SelectInto.{has_limit, subquery, set_line, set_lines, indentation}
 use Rattle.quotes.specs.Limits.{limit_next, limit_from}
-use Rattle.set_lines.specs.Lines.{spaced, query_text, limit_text, line_text, limited, break_text, shared_line, lines_text}
-use Rattle.select_into.specs.Pairs.{shared_by, last_line}
-use Rattle.quotes.proofs.LimitLaws.{limit_marks, limit_append}
+use Rattle.set_lines.specs.Lines.{spaced, query_text, limit_text, line_text, limited, break_text, shared_by, shared_line, lines_text}
+use Rattle.select_into.specs.Pairs.{last_line}
+use Rattle.quotes.proofs.LimitLaws.{limit_marks, limit_append, limit_full, limit_space}
 use Rattle.spec.proofs.EndLaws.{drop_end_gone, drop_end_kept}
 use Rattle.select_into.proofs.FromEndLaws.{Trimmed}
 
@@ -73,16 +74,11 @@ module _ (w c : List ℕ) (trimmed : drop_end is_w c ≡ c) (some : 0 < length c
 
 -- ---- ` LIMIT `
 
-full : (f : List ℕ) → limit_from 7 f ≡ 7
-unfolding limit_from limit_next
-full [] = refl
-full (c ∷ f) = full f
-
 -- never more than 7 are matched
 next_bound : (k c : ℕ) → k ≤ 7 → limit_next k c ≤ 7
 unfolding limit_next
 next_bound k c h =
-    cond_case (λ (n : ℕ). n ≤ 7) (eqb k 7) 7 _ (λ _. omega arith)
+    cond_both (eqb k 7) 7 _ (λ (n : ℕ). n ≤ 7) (λ _. omega arith)
     (λ e. cond_le (eqb (upper c) (get_or (ascii " LIMIT ") k 0)) (suc k) _ 7 (omega (arith, eqb-false k 7 e)) (cond_le (eqb (upper c) 32) 1 0 7 (omega arith) (omega arith)))
 
 bound : (xs : List ℕ) (k : ℕ) → k ≤ 7 → limit_from k xs ≤ 7
@@ -90,24 +86,11 @@ unfolding limit_from
 bound [] k h = h
 bound (c ∷ xs) k h = bound xs (limit_next k c) (next_bound k c h)
 
--- behind a space 7 are matched, or 1
-next_space : (k : ℕ) → k ≤ 7 → limit_next k 32 ≡ cond (leb 6 k) 7 1
-unfolding limit_next upper is_lower within
-next_space zero h = refl
-next_space (suc zero) h = refl
-next_space (suc (suc zero)) h = refl
-next_space (suc (suc (suc zero))) h = refl
-next_space (suc (suc (suc (suc zero)))) h = refl
-next_space (suc (suc (suc (suc (suc zero))))) h = refl
-next_space (suc (suc (suc (suc (suc (suc zero)))))) h = refl
-next_space (suc (suc (suc (suc (suc (suc (suc zero))))))) h = refl
-next_space (suc (suc (suc (suc (suc (suc (suc (suc k)))))))) h = absurd (omega arith)
-
 behind_space : (k : ℕ) (f : List ℕ) → k ≤ 7 → eqb (limit_from k (32 ∷ f)) 7 ≡ (eqb (limit_from 1 f) 7 || leb 6 k)
 unfolding limit_from
 behind_space k f h =
-    rw (next_space k h)
-    (by (leb 6 k) (λ e. rw (e, full f) (sym (or-true (eqb (limit_from 1 f) 7)))) (λ e. rw e (sym (or-false (eqb (limit_from 1 f) 7)))))
+    rw (limit_space k h)
+    (by (leb 6 k) (λ e. rw (e, limit_full f) (sym (or-true (eqb (limit_from 1 f) 7)))) (λ e. rw e (sym (or-false (eqb (limit_from 1 f) 7)))))
 
 -- whether the subquery has one, part by part
 query_limited : (w f c : List Marked)

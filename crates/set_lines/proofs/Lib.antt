@@ -1,3 +1,2 @@
 pub mod SetLineLaws
 pub mod ListedLaws
-pub mod PutLaws

@@ -1,7 +1,7 @@
 -- The lines of pass 4 as bytes. Assumes nothing.
-use Rattle.std.specs.Prelude.{Bool, cond, not, ◌||◌, List, [], ◌∷◌, ◌++◌, ℕ, leb}
-use Rattle.spec.specs.Bytes.{ascii}
-use Rattle.spec.specs.Lists.{is_empty}
+use Rattle.std.specs.Prelude.{Bool, cond, not, ◌||◌, List, [], ◌∷◌, ◌++◌, ℕ, eqb, leb}
+use Rattle.spec.specs.Bytes.{ascii, is_w}
+use Rattle.spec.specs.Lists.{is_empty, drop_end}
 use Rattle.spec.specs.Map.{Marked, bytes}
 use Rattle.quotes.specs.Limits.{limit_from}
 
@@ -41,6 +41,10 @@ pub record Shared : Type 0 where
 abbrev pub shared : List ℕ → List ℕ → List ℕ → ℕ → Bool → Shared
 shared with_text from_text indent matched tail =
     record { with_text = with_text; from_text = from_text; indent = indent; matched = matched; tail = tail }
+
+-- the same of a statement with this WITH part, FROM part and indentation
+abbrev pub shared_by : List ℕ → List ℕ → List ℕ → Shared
+shared_by w f indent = shared w (drop_end is_w f) indent (limit_from (limit_from 0 w) (ascii "SELECT ")) (eqb (limit_from 1 f) 7)
 
 unfoldable pub shared_line : Shared → List ℕ → List ℕ → List ℕ
 shared_line s c v = line_text s.with_text s.from_text (limited s.matched s.tail c) c v

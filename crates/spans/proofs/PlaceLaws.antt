@@ -1,6 +1,11 @@
 -- Where a pattern stands first in a text: at an index that a walk has come to, nowhere, and read back. Assumes nothing.
-use Rattle.std.proofs.Common.{◌≡◌, refl, List, [], ◌∷◌, ℕ, ◌<◌, ◌≤◌, false, Some, None, length, get_or, arith, ltb}
-use borrow.Author.Tests.{lt-ltb, ltb-true, ltb-false, ne_eqb}
+use Rattle.std.proofs.Common.{◌≡◌, refl, sym, ◌∙◌, List, [], ◌∷◌, ℕ, ◌+◌, ◌<◌, ◌≤◌, true, false, Option, Some, None, length, drop, get_or, arith, ltb, eqb}
+use Prim.Native.Nat.{zero, suc}
+use native.Mathlib.Numerals.{add-one}
+use Rattle.std.specs.Option.{MatchOption}
+use Rattle.spec.proofs.AheadLaws.{drop_front}
+use Rattle.spans.proofs.TagLaws.{at_found, at_missed}
+use borrow.Author.Tests.{lt-ltb, le-ltb, ltb-true, ltb-false, ne_eqb}
 use Rattle.spec.proofs.Choice.{by}
 use Rattle.spec.specs.Bytes.{is_prefix}
 use Rattle.spec.specs.Spans.{seek_len}
@@ -19,6 +24,11 @@ not_in_empty [] xs h e = absurd (omega arith)
 not_in_empty (a ∷ p) [] h e = refl
 not_in_empty (a ∷ p) (x ∷ xs) h e = absurd (omega arith)
 
+-- the first byte is tested ahead
+pub first_differs : (p xs : List ℕ) (i : ℕ) → 0 < length p → (get_or xs i 0 ≡ get_or p 0 0 → ⊥)
+    → eqb (get_or xs i 0) (get_or p 0 0) ≡ is_prefix p (drop i xs)
+first_differs p xs i h f = ne_eqb _ _ f ∙ sym (not_first p (drop i xs) h (λ q. f (sym (drop_front xs i 0) ∙ q)))
+
 module _ (p xs : List ℕ) where
   pub place_found : (i : ℕ) → i < length xs → seek_len p xs ≡ i → Some i ≡ seek_place p xs
   place_found i h e = simp (e, lt-ltb i (length xs) h)
@@ -31,3 +41,20 @@ module _ (p xs : List ℕ) where
 
   pub none_found : None ≡ seek_place p xs → length xs ≤ seek_len p xs
   none_found e = by (ltb (seek_len p xs) (length xs)) (λ q. absurd (cc)) (λ q. ltb-false (seek_len p xs) (length xs) q)
+
+  -- where the pattern does not stand at the first k places, it is looked for behind them
+  seek_behind : (k : ℕ) → k ≤ length xs → ((j : ℕ) → j < k → is_prefix p (drop j xs) ≡ false) → seek_len p xs ≡ k + seek_len p (drop k xs)
+  seek_behind zero h f = omega arith
+  seek_behind (suc k) h f =
+      omega (arith, seek_behind k (omega arith) (λ j q. f j (omega arith)), rw add-one at (at_missed xs k (omega arith) p (f k (omega arith))))
+
+  -- from what the library says of `find` over a range of offsets
+  pub find_seeks : (r : Option ℕ)
+      → MatchOption r ((k : ℕ) → 0 ≤ k → k < length xs → is_prefix p (drop k xs) ≡ false)
+      (λ i. (0 ≤ i) × (i < length xs) × (is_prefix p (drop i xs) ≡ true) × ((k : ℕ) → 0 ≤ k → k < i → is_prefix p (drop k xs) ≡ false))
+      → r ≡ seek_place p xs
+  find_seeks None h =
+      let e = seek_behind (length xs) (omega arith) (λ j q. h j (omega arith) q) in
+      rw (le-ltb (seek_len p xs) (length xs) (omega (arith, e))) refl
+  find_seeks (Some i) h =
+      place_found i h.1 (seek_behind i (omega (arith, h.1)) (λ j q. h.3 j (omega arith) q) ∙ at_found xs i h.1 p h.2)

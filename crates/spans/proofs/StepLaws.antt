@@ -7,7 +7,6 @@ use borrow.Author.Tests.{ltb-true, ltb-false}
 use lib.Dec.{ltb}
 use lib.ListN.{length, drop, length-drop}
 use lib.Seq.{drop-drop}
-use Rattle.spec.proofs.Choice.{cond_case}
 use Rattle.spec.proofs.SpanLaws.{span_le, span_pos}
 use Rattle.spec.specs.Spans.{span_at, span_len}
 use Rattle.spec.specs.declared.Span.{Span}
@@ -16,6 +15,7 @@ use Rattle.spans.specs.declared.Cursor.{Cursor}
 use Rattle.std.specs.Prelude.{Option, Some, None}
 use Rattle.std.specs.Option.{unwrap_or}
 use Rattle.std.proofs.lemmas.Option.{none-some}
+use Rattle.std.proofs.lemmas.Bool.{cond_both}
 
 -- what holds of every text with a first byte holds of a text that is not empty
 pub by_front : (P : List ℕ → Type 0) → ((c : ℕ) (cs : List ℕ) → P (c ∷ cs)) → (xs : List ℕ) → 0 < length xs → P xs
@@ -51,7 +51,7 @@ module _ (xs : List ℕ) (at : ℕ) where
   pub step_taken : (s : Span) (next : Cursor) → step_at xs at ≡ Some (s, next) → Stepped xs at s next.at
   unfolding step_at
   step_taken s next =
-      cond_case (λ (r : Option (Span × Cursor)). r ≡ Some (s, next) → Stepped xs at s next.at) (ltb at (length xs)) _ _
+      cond_both (ltb at (length xs)) _ _ (λ (r : Option (Span × Cursor)). r ≡ Some (s, next) → Stepped xs at s next.at)
       (λ b e.
       let made : Span × Cursor = (span_at (drop at xs), record { at = at + span_len (span_at (drop at xs)) }) in
       let same : made ≡ (s, next) = ap (λ (o : Option (Span × Cursor)). unwrap_or o made) e in
@@ -64,6 +64,6 @@ module _ (xs : List ℕ) (at : ℕ) where
   pub step_done : step_at xs at ≡ None → length xs ≤ at
   unfolding step_at
   step_done =
-      cond_case (λ (r : Option (Span × Cursor)). r ≡ None → length xs ≤ at) (ltb at (length xs)) _ _
+      cond_both (ltb at (length xs)) _ _ (λ (r : Option (Span × Cursor)). r ≡ None → length xs ≤ at)
       (λ b e. absurd (none-some _ (sym e)))
       (λ b e. ltb-false _ _ b)

@@ -1,4 +1,5 @@
 -- `line_len` and `tag_len` by runs of bytes, and `seek_len` at an index. Assumes nothing.
+use Rattle.std.proofs.lemmas.List.{drop_more}
 use mathlib.Core.Path.{◌≡◌, refl, ap}
 use mathlib.Core.Bool.{true, false, not}
 use mathlib.Core.List.{List, [], ◌∷◌}
@@ -6,8 +7,7 @@ use Prim.Native.Nat.{ℕ, suc, ◌+◌, ◌≤◌, ◌<◌}
 use native.Mathlib.Nat.{le_of_suc-le-suc}
 use native.Mathlib.Omega.{arith}
 use lib.Dec.{eqb}
-use lib.ListN.{length, drop, drop_of_length-le}
-use Rattle.spec.proofs.AheadLaws.{drop_one}
+use lib.ListN.{length, drop}
 use Rattle.spec.proofs.Choice.{by}
 use Rattle.spec.specs.Bytes.{is_ident, is_prefix}
 use Rattle.spec.specs.Lists.{take_while}
@@ -47,11 +47,7 @@ module _ (c : ℕ) (cs : List ℕ) where
 module _ (xs : List ℕ) (i : ℕ) where
   module _ (h : i < length xs) where
     pub at_found : (p : List ℕ) → is_prefix p (drop i xs) ≡ true → i + seek_len p (drop i xs) ≡ i
-    at_found p e = rw (drop_one xs i 0 h, seek_front _ _ p (rw (drop_one xs i 0 h) at e)) (omega arith)
+    at_found p e = rw (drop_more xs i 0 h, seek_front _ _ p (rw (drop_more xs i 0 h) at e)) (omega arith)
 
     pub at_missed : (p : List ℕ) → is_prefix p (drop i xs) ≡ false → i + seek_len p (drop i xs) ≡ i + 1 + seek_len p (drop (i + 1) xs)
-    at_missed p e = rw (drop_one xs i 0 h, seek_step _ _ p (rw (drop_one xs i 0 h) at e)) (omega arith)
-
-  pub seek_over : length xs ≤ i → (p : List ℕ) → i + seek_len p (drop i xs) ≡ i
-  unfolding seek_len
-  seek_over h p = rw (drop_of_length-le xs h) (omega arith)
+    at_missed p e = rw (drop_more xs i 0 h, seek_step _ _ p (rw (drop_more xs i 0 h) at e)) (omega arith)

@@ -2,13 +2,14 @@
 #![tactic(auto)]
 
 ghost use Rattle.std.specs.Prelude.{◌≡◌, cond, ◌+◌, ◌≤◌, ◌<◌, length, drop};
+ghost use Rattle.spec.specs.Bytes.{is_prefix};
 ghost use Rattle.spec.specs.Spans.{escapes, quoted_len, block_len, line_len, tag_len, opens_dollar, dollar_of, span_at, span_len};
 ghost use Rattle.spec.specs.declared.Span.TheVariants.{Dollar, Code};
 ghost use Rattle.spans.specs.Openers.{opens_span};
 ghost use Rattle.spans.specs.Places.{seek_place};
 ghost use Rattle.spans.specs.Steps.{step_at};
 
-use classes::{byte_at, in_range, is_pair, starts_with};
+use classes::{byte_at, is_pair, starts_with};
 use runs::{Set, run_end};
 use spec::{DollarQuoted, Span};
 
@@ -83,7 +84,17 @@ fn line_len(rest: &[u8]) -> usize
     ensures { result ≡ line_len rest.now }
 {
     let n = run_end(rest, Set::Except(b'\n'), 0);
-    if n < rest.len() { n + 1 } else { n }
+    (n + 1).min(rest.len())
+}
+
+// Whether `pat`, which is not empty, stands at i. Most places fail at the first byte.
+#[tactic(auto, using(std::proofs::lemmas::List::take_rest, crate::proofs::PlaceLaws::first_differs))]
+fn stands_at(text: &[u8], pat: &[u8], i: usize) -> bool
+    requires pat_nonempty { 0 < length pat.now }
+    requires i_in_bounds { i < length text.now }
+    ensures { result ≡ is_prefix pat.now (drop i text.now) }
+{
+    text[i] == pat[0] && starts_with(&text[i..], pat)
 }
 
 // Where `pat`, which is not empty, stands first in `text`.
@@ -91,26 +102,22 @@ fn seek(text: &[u8], pat: &[u8]) -> Option<usize>
     requires { 0 < length pat.now }
     ensures { result ≡ seek_place pat.now text.now }
 {
-    let first = pat[0];
-    for (i, b) in text.iter().enumerate() {
-        // Most places fail at the first byte.
-        if *b == first && starts_with(&text[i..], pat) {
-            return Some(i);
-        }
-    }
-    None
+    (0..text.len()).find(
+        |i|
+            requires i_in_bounds { i.now < length text.now }
+            requires pat_nonempty { 0 < length pat.now }
+        { stands_at(text, pat, *i) },
+    )
 }
 
 // Whether a dollar literal opens, its tag being t bytes long.
-#[tactic(auto, unfolding(spec::specs::Spans::opens_dollar, spec::specs::Bytes::is_digit))]
+#[tactic(auto, unfolding(spec::specs::Spans::opens_dollar, spec::specs::Bytes::is_digit, spec::specs::Bytes::within))]
 fn opens_here(rest: &[u8], t: usize) -> bool
     requires t_value { t ≡ tag_len (drop 1 rest.now) }
     requires t_in_bounds { t ≤ length rest.now }
     ensures { result ≡ opens_dollar rest.now }
 {
-    byte_at(rest, 0) == b'$'
-        && !in_range(b'0', b'9', byte_at(rest, 1))
-        && byte_at(rest, 1 + t) == b'$'
+    byte_at(rest, 0) == b'$' && !byte_at(rest, 1).is_ascii_digit() && byte_at(rest, 1 + t) == b'$'
 }
 
 // The literal at the front of `rest` whose opening delimiter has n bytes.
@@ -158,7 +165,7 @@ pub fn opens_span(b: u8) -> bool
 }
 
 // The span at the front of `rest`.
-#[tactic(auto, using(crate::proofs::OpenerLaws::span_laws))]
+#[tactic(auto, using(crate::proofs::OpenerLaws::span_laws), unfolding(spec::specs::Bytes::is_pair))]
 pub fn next_span(rest: &[u8]) -> Span
     ensures { result ≡ span_at rest.now }
 {
@@ -171,21 +178,14 @@ pub fn next_span(rest: &[u8]) -> Span
     if c == b'$' {
         return dollar_quoted(rest);
     }
-    let d = byte_at(rest, 1);
-    if is_pair(b'-', b'-', c, d) {
-        return Span::Verbatim(2 + line_len(&rest[2..]));
+    match (c, byte_at(rest, 1)) {
+        (b'-', b'-') => Span::Verbatim(2 + line_len(&rest[2..])),
+        (b'/', b'*') => Span::Verbatim(block_comment_len(rest)),
+        (b'\'', _) => Span::Verbatim(quoted_len(rest, b'\'', true)),
+        (b'"', _) => Span::Verbatim(quoted_len(rest, b'"', false)),
+        // What is left is a `-` or `/` that starts no comment.
+        _ => Span::Code(1),
     }
-    if is_pair(b'/', b'*', c, d) {
-        return Span::Verbatim(block_comment_len(rest));
-    }
-    if c == b'\'' {
-        return Span::Verbatim(quoted_len(rest, b'\'', true));
-    }
-    if c == b'"' {
-        return Span::Verbatim(quoted_len(rest, b'"', false));
-    }
-    // What is left is a `-` or `/` that starts no comment.
-    Span::Code(1)
 }
 
 // How many bytes a span takes.
@@ -199,7 +199,8 @@ pub fn span_len(s: Span) -> usize
     }
 }
 
-// A place in a text, for a walk from span to span.
+// A place in a text, for a walk from span to span. The project's list of forms names this one: a cursor by value, whose step takes it
+// and gives the span and the next cursor. The walks move it in a `while let`.
 #[derive(Clone, Copy)]
 pub struct Cursor {
     pub at: usize,
@@ -207,7 +208,7 @@ pub struct Cursor {
 
 impl Cursor {
     // The span here, and the cursor advanced behind it; nothing at the text's end.
-    #[tactic(auto, using(spec::proofs::AheadLaws::rest_of, spec::proofs::SpanLaws::span_le), unfolding(crate::specs::Steps::step_at))]
+    #[tactic(auto, using(std::proofs::lemmas::List::take_rest, spec::proofs::SpanLaws::span_le), unfolding(crate::specs::Steps::step_at))]
     pub fn step(self, text: &[u8]) -> Option<(Span, Cursor)>
         ensures { result ≡ step_at text.now self.at }
     {

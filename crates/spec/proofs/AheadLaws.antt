@@ -5,16 +5,12 @@ use Prim.Native.Nat.{ℕ, zero, suc, ◌+◌, ◌-◌, ◌<◌}
 use native.Mathlib.Nat.{add-zero}
 use native.Mathlib.Numerals.{add-one, add-two}
 use native.Mathlib.Omega.{arith}
-use lib.ListN.{length, take, drop, get_or, length-drop}
-use lib.Seq.{drop-cons, get_or-drop, take_all, take-nil}
+use lib.ListN.{length, take, drop, get_or}
+use lib.Seq.{drop-cons, get_or-drop, take-nil}
 
 -- the first element of what is dropped to
 pub drop_front {ℓ} : {A : Type ℓ} (xs : List A) (i : ℕ) (d : A) → get_or (drop i xs) 0 d ≡ get_or xs i d
 drop_front xs i d = rw add-zero at (get_or-drop i xs 0 d)
-
--- one element ahead
-pub drop_one {ℓ} : {A : Type ℓ} (xs : List A) (i : ℕ) (d : A) → i < length xs → drop i xs ≡ get_or xs i d ∷ drop (i + 1) xs
-drop_one xs i d h = rw add-one (drop-cons xs i d h)
 
 -- two bytes ahead
 pub drop_two : (xs : List ℕ) (i : ℕ) → i + 1 < length xs → drop i xs ≡ get_or xs i 0 ∷ get_or xs (i + 1) 0 ∷ drop (i + 2) xs
@@ -25,10 +21,6 @@ drop_two xs i h =
 -- the tail of those two
 pub tail_one : (xs : List ℕ) (i : ℕ) → i + 1 < length xs → get_or xs (i + 1) 0 ∷ drop (i + 2) xs ≡ drop (i + 1) xs
 tail_one xs i h = rw (add-two, add-one) (sym (drop-cons xs (suc i) 0 (omega arith)))
-
--- a part from i to the end is what is dropped to
-pub rest_of {ℓ} : {A : Type ℓ} (xs : List A) (i : ℕ) → take (length xs - i) (drop i xs) ≡ drop i xs
-rest_of xs i = take_all (length xs - i) (drop i xs) (omega (arith, length-drop i xs))
 
 -- a front without its first elements
 module _ {A : Type 0} where

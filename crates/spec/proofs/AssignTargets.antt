@@ -1,6 +1,8 @@
 -- The first kind of qualified target: the walk for a live `:=` with `q.n` before it finds the leftmost such place, and none
 -- exactly if there is none. Assumes nothing.
 use Rattle.std.specs.Prelude.{Option, Some, None}
+use Rattle.std.proofs.lemmas.Bool.{cond_both, and_from}
+use Rattle.std.proofs.lemmas.List.{drop_more}
 use mathlib.Core.Path.{◌≡◌, refl, sym, ap, ◌∙◌}
 use mathlib.Core.Bool.{Bool, true, false, cond, not, ◌&&◌, false≢true}
 use mathlib.Core.List.{List, [], ◌∷◌, reverse}
@@ -10,9 +12,8 @@ use native.Mathlib.Omega.{arith}
 use borrow.Author.Tests.{eqb-true, eqb-false, eq-eqb, ne_eqb, not-true}
 use lib.Dec.{eqb}
 use lib.ListN.{length, take, drop, get_or, drop_of_length-le}
-use Rattle.spec.proofs.AheadLaws.{drop_one}
 use Rattle.spec.proofs.Apart.{apart}
-use Rattle.spec.proofs.Choice.{by, cond_case, and_left, and_right, and_both}
+use Rattle.spec.proofs.Choice.{by, and_left, and_right}
 use Rattle.spec.proofs.FirstTarget.{Exactly, choice_exactly, walk_exactly, walk_none}
 use Rattle.spec.proofs.ListLaws.{empty_length}
 use Rattle.spec.proofs.RefusalBounds.{bytes_length}
@@ -65,7 +66,7 @@ assign_says t i = (sound, complete)
     complete r =
         let n = byte_inside t (i + 1) (omega (arith, r.equals)) in
         here
-        ∙ and_both l m (eq-eqb (get_or (flags t) i 1) 0 r.is_live_lem)
+        ∙ and_from l m (eq-eqb (get_or (flags t) i 1) 0 r.is_live_lem)
         (at_prefix (λ (b : ℕ). b) (ascii ":=") (bytes t) i (record { fits = omega (arith, bytes_length t); same = same r }))
 
 -- ---- the name before it
@@ -182,7 +183,7 @@ assigned_at t i = cond (assign_here (reverse (take i t)) (drop i t)) (target_bef
 
 assigned_exactly : (t : List Marked) (i : ℕ) → i < length t → Exactly (assigned_at t i) (IsAssignTarget t i)
 assigned_exactly t i h r =
-    cond_case (λ (o : Option Target). (o ≡ Some r) ↔ IsAssignTarget t i r) (assign_here (reverse (take i t)) (drop i t)) _ _
+    cond_both (assign_here (reverse (take i t)) (drop i t)) _ _ (λ (o : Option Target). (o ≡ Some r) ↔ IsAssignTarget t i r)
     (λ e.
     let c = (assign_says t i).0 e in
     let b = before_exactly t i (omega arith) (ap is_ident c.colon ∙ sign_not_ident 58 refl) r in
@@ -205,7 +206,7 @@ module _ (t : List Marked) where
   step : (i : ℕ) → i < length t → walk i ≡ or_else (assigned_at t i) (walk (i + 1))
   unfolding walk
   step i h =
-      walk_front (reverse (take i t)) (drop i t) (drop (i + 1) t) (get_or t i (live 0)) (drop_one t i (live 0) h)
+      walk_front (reverse (take i t)) (drop i t) (drop (i + 1) t) (get_or t i (live 0)) (drop_more t i (live 0) h)
       ∙ ap (λ (b : List Marked). or_else (assigned_at t i) (assign_target b (drop (i + 1) t))) (sym (back_step t i (live 0) h))
 
   inside : (i : ℕ) (r : Target) → IsAssignTarget t i r → i < length t

@@ -1,19 +1,13 @@
 -- The bytes of a marked text: of its parts, of two texts joined, and by tests that read bytes only. Assumes nothing.
+use Rattle.std.proofs.lemmas.List.{take-map, drop-map}
 use mathlib.Core.Path.{◌≡◌, refl, sym, ap, ◌∙◌}
 use mathlib.Core.Bool.{Bool, ◌&&◌}
-use mathlib.Core.List.{List, [], ◌∷◌, ◌++◌, map, reverse, reverse_aux}
-use Prim.Native.Nat.{ℕ, zero, suc}
+use mathlib.Core.List.{List, [], ◌∷◌, ◌++◌, map, reverse, reverse_aux, map-append}
+use Prim.Native.Nat.{ℕ}
 use lib.ListN.{length, take, drop, get_or, length-map}
 use Rattle.spec.proofs.Choice.{by}
-use Rattle.spec.proofs.MapLaws.{map_append}
-use Rattle.spec.proofs.WalkLaws.{map_take}
 use Rattle.spec.specs.Lists.{is_empty, take_while, drop_while, drop_end}
 use Rattle.spec.specs.Map.{Marked, byte, bytes, lives, front_byte, of_byte}
-
-map_drop : {A B : Type 0} (f : A → B) (n : ℕ) (l : List A) → map f (drop n l) ≡ drop n (map f l)
-map_drop f zero l = refl
-map_drop f (suc n) [] = refl
-map_drop f (suc n) (x ∷ l) = map_drop f n l
 
 map_reverse_onto : {A B : Type 0} (f : A → B) (l r : List A) → map f (reverse_aux l r) ≡ reverse_aux (map f l) (map f r)
 map_reverse_onto f [] r = refl
@@ -21,15 +15,15 @@ map_reverse_onto f (x ∷ l) r = map_reverse_onto f l (x ∷ r)
 
 pub bytes_take : (n : ℕ) (t : List Marked) → bytes (take n t) ≡ take n (bytes t)
 unfolding bytes
-bytes_take n t = map_take byte n t
+bytes_take n t = sym (take-map byte n t)
 
 pub bytes_drop : (n : ℕ) (t : List Marked) → bytes (drop n t) ≡ drop n (bytes t)
 unfolding bytes
-bytes_drop n t = map_drop byte n t
+bytes_drop n t = sym (drop-map byte n t)
 
 pub bytes_append : (s t : List Marked) → bytes (s ++ t) ≡ bytes s ++ bytes t
 unfolding bytes
-bytes_append s t = map_append byte s t
+bytes_append s t = map-append byte s t
 
 pub bytes_reverse : (t : List Marked) → bytes (reverse t) ≡ reverse (bytes t)
 unfolding bytes

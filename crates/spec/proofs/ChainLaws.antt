@@ -1,5 +1,6 @@
 -- The chain of the declaration records: it visits each record once, in rising byte order of names. Assumes nothing.
 use mathlib.Core.Option as maybe
+use Rattle.std.proofs.lemmas.Bool.{and_from}
 use mathlib.Core.Path.{◌≡◌, refl, sym, ap, ◌∙◌}
 use mathlib.Core.Bool.{Bool, true, false, cond, not, ◌&&◌, ◌||◌, false≢true}
 use mathlib.Core.List.{List, [], ◌∷◌, map}
@@ -9,7 +10,7 @@ use native.Mathlib.Omega.{arith}
 use borrow.Author.Tests.{not-true, eqb-true, eqb-false, eq-eqb, ne_eqb}
 use lib.Dec.{eqb}
 use lib.ListN.{length, get_or, get_elem?}
-use Rattle.spec.proofs.Choice.{by, and_left, and_right, and_both, or_left, or_right}
+use Rattle.spec.proofs.Choice.{by, and_left, and_right, or_left, or_right}
 use Rattle.spec.proofs.NameOrder.{same_sym, before_irrefl, before_trans, by_order}
 use Rattle.spec.proofs.RecordLaws.{named, distinct, names, length_names, number_at, number_next}
 use Rattle.spec.specs.Bytes.{is_same, is_before}
@@ -272,7 +273,7 @@ unfolding rising
 walk_rising ds f i [] w = refl
 walk_rising ds f i (k ∷ []) w = refl
 walk_rising ds f i (k ∷ m ∷ ks) w =
-    and_both (is_before (name_of ds k) (name_of ds m)) _ w.1.0.passes (walk_rising ds (is_before (name_of ds k)) _ (m ∷ ks) w.1)
+    and_from (is_before (name_of ds k) (name_of ds m)) _ w.1.0.passes (walk_rising ds (is_before (name_of ds k)) _ (m ∷ ks) w.1)
 
 -- the last of these numbers, k if there are none
 unfoldable pub last_or : ℕ → List ℕ → ℕ

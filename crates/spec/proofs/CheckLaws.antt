@@ -1,5 +1,6 @@
 -- The first byte over 127, and the checks that come first: each answer exactly on its condition. Assumes nothing.
 use Rattle.std.specs.Prelude.{Option, Some, None, Result, Ok, Err, ⊤}
+use Rattle.std.proofs.lemmas.Bool.{cond_both}
 use mathlib.Core.Path.{◌≡◌, refl, sym, ap, ◌∙◌}
 use mathlib.Core.Bool.{Bool, true, false, not, false≢true}
 use mathlib.Core.List.{List, [], ◌∷◌}
@@ -9,7 +10,7 @@ use native.Mathlib.Omega.{arith}
 use borrow.Author.Tests.{ltb-true, ltb-false, lt-ltb, le-ltb, not-true, not-false}
 use lib.Dec.{ltb}
 use lib.ListN.{length, get_or}
-use Rattle.spec.proofs.Choice.{by, cond_case}
+use Rattle.spec.proofs.Choice.{by}
 use Rattle.spec.proofs.MapLaws.{map_length}
 use Rattle.spec.proofs.WalkLaws.{live_inside, while_passes, while_fails, while_exactly}
 use Rattle.spec.proofs.FirstLaws.{NoneOf}
@@ -111,11 +112,11 @@ module _ (limit : ℕ) (enough : Bool) (xs needle : List ℕ) where
   pub holds : CheckCondition limit enough xs needle (check_of limit enough xs needle)
   unfolding check_of
   holds =
-      cond_case (CheckCondition limit enough xs needle) (ltb limit (length xs)) _ _
+      cond_both (ltb limit (length xs)) _ _ (CheckCondition limit enough xs needle)
       (λ e. too_long refl (ltb-true limit (length xs) e))
       (λ e.
       let fits = ltb-false limit (length xs) e in
-      cond_case (CheckCondition limit enough xs needle) enough _ _ (λ y. text fits y (first_high xs) refl) (λ n. too_short refl fits n))
+      cond_both enough _ _ (CheckCondition limit enough xs needle) (λ y. text fits y (first_high xs) refl) (λ n. too_short refl fits n))
     where
       inner : length xs ≤ limit → enough ≡ true → NoHigh xs → (f : Option ℕ) → first_high needle ≡ f → CheckCondition limit enough xs needle (ascii_check f (Ok tt))
       inner fits y n (Some i) e = not_ascii refl fits y (inr (n, high_found needle i e))

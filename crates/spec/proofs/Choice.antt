@@ -19,11 +19,6 @@ neither_less m n a b =
     by (ltb m n) (λ q. absurd (a (ltb-true m n q)))
     (λ q. by (ltb n m) (λ r. absurd (b (ltb-true n m r))) (λ r. omega (arith, ltb-false m n q, ltb-false n m r)))
 
--- what holds of both arms, each under its test, holds of the choice
-pub cond_case : {A : Type 0} (P : A → Type 0) (b : Bool) (x y : A) → (b ≡ true → P x) → (b ≡ false → P y) → P (cond b x y)
-cond_case P true x y p q = p refl
-cond_case P false x y p q = q refl
-
 -- of something that is made unless b: made, b is false; not made, b is true
 pub made_some : {A : Type 0} (b : Bool) (x d : A) → cond b None (Some x) ≡ Some d → (b ≡ false) × (x ≡ d)
 made_some true x d e = absurd (apart (cc))
@@ -45,10 +40,6 @@ and_left false b h = absurd (false≢true h)
 pub and_right : (a b : Bool) → (a && b) ≡ true → b ≡ true
 and_right true b h = h
 and_right false b h = absurd (false≢true h)
-
-pub and_both : (a b : Bool) → a ≡ true → b ≡ true → (a && b) ≡ true
-and_both true b p q = q
-and_both false b p q = absurd (false≢true p)
 
 -- where `or` fails, both sides fail
 pub or_left : (a b : Bool) → (a || b) ≡ false → a ≡ false

@@ -3,9 +3,10 @@
 -- Assumes nothing.
 use mathlib.Core.Option as maybe
 use Rattle.std.specs.Prelude.{Option, Some, None}
+use Rattle.std.proofs.lemmas.Bool.{and_from}
 use mathlib.Core.Path.{◌≡◌, refl, sym, ap, ◌∙◌}
 use mathlib.Core.Bool.{Bool, true, false, cond, ◌&&◌, and-true, false≢true}
-use mathlib.Core.List.{List, [], ◌∷◌, ◌++◌, map, append-nil}
+use mathlib.Core.List.{List, [], ◌∷◌, ◌++◌, map, append-nil, map-append}
 use mathlib.Core.Logic.{◌↔◌}
 use Prim.Native.Nat.{ℕ, suc, ◌-◌}
 use native.Mathlib.Omega.{arith}
@@ -14,9 +15,8 @@ use lib.Dec.{eqb}
 use lib.ListN.{length, take, drop, get_elem?, length-append, take-append-drop}
 use lib.Seq.{drop_at}
 use Rattle.spec.proofs.Apart.{apart}
-use Rattle.spec.proofs.Choice.{by, made_some, made_none, and_left, and_right, and_both}
+use Rattle.spec.proofs.Choice.{by, made_some, made_none, and_left, and_right}
 use Rattle.spec.proofs.ListLaws.{empty_nil, concat_append}
-use Rattle.spec.proofs.MapLaws.{map_append}
 use Rattle.spec.proofs.RecordLaws.{record_named, part_declares, last_named, parts_of, records_named}
 use Rattle.spec.specs.Bytes.{ascii, upper, is_lower, within}
 use Rattle.spec.specs.Lists.{is_empty, concat}
@@ -83,7 +83,7 @@ not_null_says ws =
           (take i ws, f.0, f.1, sym (take-append-drop i ws) ∙ ap (λ (l : List (List Marked)). take i ws ++ l) f.2, f.3, f.4),
       λ s.
           ap is_not_null s.3
-          ∙ (not_null_last s.0 s.1 s.2 ∙ and_both (is_word_text (ascii "NOT") s.1) (is_word_text (ascii "NULL") s.2) s.4 s.5),
+          ∙ (not_null_last s.0 s.1 s.2 ∙ and_from (is_word_text (ascii "NOT") s.1) (is_word_text (ascii "NULL") s.2) s.4 s.5),
     )
 
 -- ---- the words that stood behind the name
@@ -177,7 +177,7 @@ unfolding are_words
 are_both [] b us vs h k = rw (none_are us h) k
 are_both (x ∷ a) b us vs h k =
     let f = first_is x a us h in
-    rw f.2 (and_both (is_word_text x f.0) _ f.3 (are_both a b f.1 vs f.4 k))
+    rw f.2 (and_from (is_word_text x f.0) _ f.3 (are_both a b f.1 vs f.4 k))
 
 -- a word that is a text has its length, and matches it
 pub word_is : (a : List ℕ) (w : List Marked) → is_word_text a w ≡ true → (length w ≡ length a) × (starts_ignoring_case a w ≡ true)
@@ -238,13 +238,13 @@ join_inside : (us vs : List (List ℕ)) (ws : List (List Marked)) → is_empty w
     → join_texts (us ++ (join_words ws ∷ vs)) ≡ join_texts (us ++ (map bytes ws ++ vs))
 unfolding join_texts concat is_empty
 join_inside us vs [] h = absurd (false≢true (sym h))
-join_inside us vs (w ∷ ws) h = rw (join_words_lem (w ∷ ws)) (simp (map_append, concat_append))
+join_inside us vs (w ∷ ws) h = rw (join_words_lem (w ∷ ws)) (simp (map-append, concat_append))
 
 -- texts may be put in capitals first
 behind_capitals : (texts : List (List ℕ)) → map upper (behind_spaces texts) ≡ behind_spaces (map (map upper) texts)
 unfolding concat upper is_lower within
 behind_capitals [] = refl
-behind_capitals (u ∷ us) = rw (map_append upper u (behind_spaces us), behind_capitals us)
+behind_capitals (u ∷ us) = rw (map-append upper u (behind_spaces us), behind_capitals us)
 
 join_capitals : (texts : List (List ℕ)) → map upper (join_texts texts) ≡ join_texts (map (map upper) texts)
 unfolding join_texts concat
@@ -279,7 +279,7 @@ pub stood_exactly : (ws : List (List Marked)) (d : Declared) (s : Stood ws d)
     → join_words ws ≡ join_texts (map bytes s.front ++ (d.type ∷ map bytes s.end))
 stood_exactly ws d s =
     rw (s.type, join_inside (map bytes s.front) (map bytes s.end) s.kept s.not_empty, join_words_lem ws)
-    (ap (λ (l : List (List Marked)). join_texts (map bytes l)) s.whole ∙ simp map_append refl)
+    (ap (λ (l : List (List Marked)). join_texts (map bytes l)) s.whole ∙ simp map-append refl)
 
 -- so put back, they give the words that stood there, letter case aside
 pub stood_back : (ws : List (List Marked)) (d : Declared) → Stood ws d → map upper (put_back d) ≡ map upper (join_words ws)
@@ -288,7 +288,7 @@ stood_back ws d s =
     let us = constant_texts d.constant in
     let vs = not_null_texts d.not_null in
     rw (s.type, join_inside us vs s.kept s.not_empty, join_words_lem ws, s.whole)
-    (simp (join_capitals, map_append) (rw (are_capitals us s.front s.front_words, are_capitals vs s.end s.end_words)))
+    (simp (join_capitals, map-append) (rw (are_capitals us s.front s.front_words, are_capitals vs s.end s.end_words)))
 
 -- ---- of a part, and of a text
 

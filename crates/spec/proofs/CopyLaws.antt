@@ -1,13 +1,13 @@
 -- A result that is made from left to right and copies each byte where a test fails, for every test and every kind of result:
 -- up to the first place that passes it copies the text. Assumes nothing.
 use Rattle.std.specs.Prelude.{Some, None}
+use Rattle.std.proofs.lemmas.List.{drop_more}
 use mathlib.Core.Path.{◌≡◌, sym, ap, ◌∙◌}
 use mathlib.Core.Bool.{false}
 use mathlib.Core.List.{List, [], ◌∷◌}
 use Prim.Native.Nat.{ℕ, suc, ◌+◌, ◌-◌, ◌≤◌, ◌<◌}
 use native.Mathlib.Omega.{arith}
 use lib.ListN.{length, take, drop, get_or, drop_of_length-le}
-use Rattle.spec.proofs.AheadLaws.{drop_one}
 use Rattle.spec.proofs.Choice.{by}
 use Rattle.spec.proofs.FirstLaws.{apart}
 use Rattle.spec.proofs.WalkLaws.{climb, passes_at, first_end, first_hit, first_miss, first_within}
@@ -35,7 +35,7 @@ module _ {B : Type 0} (put : List Marked → B → B)
         let r : first p (k + 1) t ≡ Some j = sym (first_miss p t k h q) ∙ e in
         let b = first_within p t (k + 1) j r in
         let one : j - k ≡ suc (j - (k + 1)) = omega arith in
-        rw (one, drop_one t k (live 0) h)
+        rw (one, drop_more t k (live 0) h)
         (copies k h q ∙ (ap (put (get_or t k (live 0) ∷ [])) (rest r) ∙ sym (more _ _ _)))))
         i
 
@@ -48,6 +48,6 @@ module _ {B : Type 0} (put : List Marked → B → B)
         by (passes_at p t k)
         (λ q. apart (first p k t) k (first_hit p t k h q) e)
         (λ q.
-        rw (drop_one t k (live 0) h)
+        rw (drop_more t k (live 0) h)
         (copies k h q ∙ (ap (put (get_or t k (live 0) ∷ [])) (rest (sym (first_miss p t k h q) ∙ e)) ∙ sym (more _ _ _)))))
         i

@@ -1,6 +1,7 @@
 -- Note 2 in its own words: a default begins behind the leftmost default key of its part, and a part that has none has no
 -- default. The test passes exactly where a predicate on offsets holds, so the search finds the leftmost. Assumes nothing.
 use Rattle.std.specs.Prelude.{Option, Some, None}
+use Rattle.std.proofs.lemmas.Bool.{and_from}
 use mathlib.Core.Path.{◌≡◌, refl, sym, ap, ◌∙◌}
 use mathlib.Core.Bool.{Bool, true, false, not, ◌&&◌}
 use mathlib.Core.List.{List, [], ◌∷◌, reverse}
@@ -12,7 +13,7 @@ use lib.Dec.{eqb}
 use lib.ListN.{length, take, drop, get_or}
 use Rattle.spec.proofs.Apart.{apart}
 use Rattle.spec.proofs.AssignTargets.{assign_says}
-use Rattle.spec.proofs.Choice.{made_some, and_left, and_right, and_both, or_cases, or_first, or_second}
+use Rattle.spec.proofs.Choice.{made_some, and_left, and_right, or_cases, or_first, or_second}
 use Rattle.spec.proofs.EqualsTargets.{lone_says}
 use Rattle.spec.proofs.FirstLaws.{Says, found_least, least_found, found_none, none_found}
 use Rattle.spec.proofs.MarkingWords.{word_says}
@@ -91,8 +92,8 @@ module _ (t : List Marked) (k : ℕ) where
       complete : IsEqualsAt t k → (l && (m && not (eqb p 61))) ≡ true
       complete r =
           let inside = byte_inside t k (omega (arith, r.operator.equals)) in
-          and_both l (m && not (eqb p 61)) (live_front ∙ eq-eqb (get_or (flags t) k 1) 0 r.is_live_lem)
-          (and_both m (not (eqb p 61)) ((lone_says t k).1 r.operator) (ap not (before t k inside r.not_before)))
+          and_from l (m && not (eqb p 61)) (live_front ∙ eq-eqb (get_or (flags t) k 1) 0 r.is_live_lem)
+          (and_from m (not (eqb p 61)) ((lone_says t k).1 r.operator) (ap not (before t k inside r.not_before)))
 
   pub key_sound : passes_at default_here t k ≡ true → (n : ℕ) × IsDefaultKey t k n
   unfolding default_here keyword_here

@@ -2,10 +2,10 @@
 use mathlib.Core.Path.{◌≡◌, refl, sym, ap, ◌∙◌}
 use mathlib.Core.Bool.{Bool, true, false, ◌&&◌, and-false}
 use mathlib.Core.List.{List, [], ◌∷◌, ◌++◌, reverse, append-nil, append_assoc, reverse-cons, reverse-reverse}
-use Prim.Native.Nat.{ℕ, suc, ◌+◌, ◌-◌, ◌≤◌, ◌<◌}
+use Prim.Native.Nat.{◌+◌, ◌<◌}
 use native.Mathlib.Omega.{arith}
-use lib.ListN.{length, take, drop, get_or, length-append, length-reverse}
-use lib.Seq.{take-suc, drop_at}
+use lib.ListN.{length, take, drop, length-append, length-reverse}
+use lib.Seq.{drop_at}
 use Rattle.spec.proofs.Choice.{by}
 use Rattle.spec.specs.Lists.{is_empty, take_while, drop_end}
 
@@ -16,11 +16,6 @@ module _ {A : Type 0} (f : A → Bool) where
   drop_end_take [] = refl
   drop_end_take (x ∷ t) =
       by (f x && is_empty (drop_end f t)) (λ e. rw e refl) (λ e. rw e (ap (λ (l : List A). x ∷ l) (drop_end_take t)))
-
-  -- an element that fails stays
-  pub drop_end_some : (x : A) (t : List A) → f x ≡ false → drop_end f (x ∷ t) ≡ x ∷ drop_end f t
-  unfolding drop_end
-  drop_end_some x t e = simp e
 
   -- two lists one after the other: all of the second goes, and the end of the first; or some of the second stays, and all of
   -- the first
@@ -78,22 +73,3 @@ module _ {A : Type 0} (f : A → Bool) where
   end_drop t =
       sym (drop_at (drop_end f t) (reverse (take_while f (reverse t))) (length (drop_end f t)) refl)
       ∙ ap (drop (length (drop_end f t))) (end_split t)
-
-  -- of the front of n elements nothing is left where n is 0
-  pub drop_end_zero : (xs : List A) (n : ℕ) → n ≡ 0 → length (drop_end f (take n xs)) ≡ 0
-  unfolding drop_end
-  drop_end_zero xs n e = rw e refl
-
-  -- a front by its last element
-  module _ (xs : List A) (n : ℕ) (d : A) (p : 0 < n) (h : n ≤ length xs) where
-    front_last : take n xs ≡ take (n - 1) xs ++ (get_or xs (n - 1) d ∷ [])
-    front_last =
-        let e : n ≡ suc (n - 1) = omega arith in
-        ap (λ (k : ℕ). take k xs) e ∙ take-suc xs (n - 1) d (omega arith)
-
-    pub drop_end_hit : f (get_or xs (n - 1) d) ≡ true → drop_end f (take n xs) ≡ drop_end f (take (n - 1) xs)
-    drop_end_hit e = ap (drop_end f) front_last ∙ last_passes (get_or xs (n - 1) d) (take (n - 1) xs) e
-
-    pub drop_end_miss : f (get_or xs (n - 1) d) ≡ false → drop_end f (take n xs) ≡ take n xs
-    drop_end_miss e =
-        ap (drop_end f) front_last ∙ (last_fails (get_or xs (n - 1) d) (take (n - 1) xs) e ∙ sym front_last)

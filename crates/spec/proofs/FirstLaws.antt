@@ -1,13 +1,14 @@
 -- The search for the first place that passes a test, for every test: it gives the least such offset at or after the
 -- starting one, and none exactly if there is none. Assumes nothing.
 use Rattle.std.specs.Prelude.{Option, Some, None}
+use Rattle.std.proofs.lemmas.Bool.{false_from_ne_true}
 use mathlib.Core.Path.{◌≡◌, refl, sym, ap, ◌∙◌}
-use mathlib.Core.Bool.{Bool, true, false, cond, false≢true}
+use mathlib.Core.Bool.{true, false, cond}
 use mathlib.Core.List.{List, [], ◌∷◌}
 use mathlib.Core.Logic.{◌⊎◌, inl, inr}
 use Prim.Native.Nat.{ℕ, ◌+◌, ◌≤◌, ◌<◌}
 use native.Mathlib.Omega.{arith}
-use borrow.Author.Tests.{eqb-true, eqb-false}
+use borrow.Author.Tests.{eqb-true, eqb-false, both_ways}
 use lib.Dec.{eqb}
 use lib.ListN.{length}
 use Rattle.spec.proofs.Choice.{by}
@@ -111,13 +112,6 @@ pub record Says (p : Test) (t : List Marked) (Q : ℕ → Type 0) : Type 0 where
   pub complete : (k : ℕ) → Q k → passes_at p t k ≡ true
   pub inside : (k : ℕ) → Q k → k < length t
 
-pub fails_not : {b : Bool} → b ≡ true → b ≡ false → ⊥
-fails_not e f = false≢true (sym f ∙ e)
-
-not_passes : (b : Bool) → (b ≡ true → ⊥) → b ≡ false
-not_passes true h = absurd (h refl)
-not_passes false h = refl
-
 module _ (p : Test) (t : List Marked) (Q : ℕ → Type 0) (s : Says p t Q) (i : ℕ) where
   -- what is found is the least offset that has the property, and that one is found
   pub found_least : (j : ℕ) → first p i t ≡ Some j → LeastOf Q i j
@@ -126,7 +120,7 @@ module _ (p : Test) (t : List Marked) (Q : ℕ → Type 0) (s : Says p t Q) (i :
       record {
         from = r.from;
         holds = s.sound j r.passes;
-        least = λ k a b q. fails_not (s.complete k q) (r.least k a b);
+        least = λ k a b q. both_ways _ (r.least k a b) (s.complete k q);
       }
 
   pub least_found : (j : ℕ) → LeastOf Q i j → first p i t ≡ Some j
@@ -136,15 +130,15 @@ module _ (p : Test) (t : List Marked) (Q : ℕ → Type 0) (s : Says p t Q) (i :
         from = r.from;
         inside = s.inside j r.holds;
         passes = s.complete j r.holds;
-        least = λ k a b. not_passes (passes_at p t k) (λ q. r.least k a b (s.sound k q));
+        least = λ k a b. false_from_ne_true (passes_at p t k) (λ q. r.least k a b (s.sound k q));
       })
 
   -- none is found exactly if none has it
   pub found_none : first p i t ≡ None → NoneOf Q i
-  found_none e k a q = fails_not (s.complete k q) (first_none p t i e k a (s.inside k q))
+  found_none e k a q = both_ways _ (first_none p t i e k a (s.inside k q)) (s.complete k q)
 
   pub none_found : NoneOf Q i → first p i t ≡ None
-  none_found r = none_first p t i (λ k a b. not_passes (passes_at p t k) (λ q. r k a (s.sound k q)))
+  none_found r = none_first p t i (λ k a b. false_from_ne_true (passes_at p t k) (λ q. r k a (s.sound k q)))
 
 -- ---- a search for a word, which finds none if the word is empty
 

@@ -1,5 +1,6 @@
 -- The two yes/no searches in document 01's words: a handler stands somewhere, a dollar literal is left open. Assumes nothing.
 use Rattle.std.specs.Prelude.{Option, Some, None}
+use Rattle.std.proofs.lemmas.Bool.{and_from}
 use mathlib.Core.Path.{◌≡◌, refl, sym, ap, ◌∙◌}
 use mathlib.Core.Bool.{Bool, true, false, ◌&&◌, false≢true}
 use mathlib.Core.List.{List, [], ◌∷◌, map}
@@ -10,7 +11,7 @@ use borrow.Author.Tests.{eqb-true, eq-eqb, not-true}
 use lib.Dec.{eqb}
 use lib.ListN.{length, drop, get_or, length-map}
 use lib.Seq.{drop-drop}
-use Rattle.spec.proofs.Choice.{and_left, and_right, and_both, or_cases, or_second}
+use Rattle.spec.proofs.Choice.{and_left, and_right, or_cases, or_second}
 use Rattle.spec.proofs.WalkLaws.{starts_case, passes_at}
 use Rattle.spec.proofs.FirstLaws.{Says, found_least, found_none}
 use Rattle.spec.specs.Bytes.{ascii, upper, prefix_by}
@@ -69,8 +70,8 @@ handler_says xs =
           let b = eqb (length (word_text xs (k + 9))) 4 in
           let c = prefix_by upper (ascii "WHEN") (word_text xs (k + 9)) in
           handler_test xs k
-          ∙ and_both a (b && c) (s.complete k r.keyword)
-          (and_both b c (eq-eqb (length (word_text xs (k + 9))) 4 r.size) (at_prefix upper (ascii "WHEN") (word_text xs (k + 9)) 0 r.same));
+          ∙ and_from a (b && c) (s.complete k r.keyword)
+          (and_from b c (eq-eqb (length (word_text xs (k + 9))) 4 r.size) (at_prefix upper (ascii "WHEN") (word_text xs (k + 9)) 0 r.same));
       inside = λ k r. s.inside k r.keyword;
     }
 

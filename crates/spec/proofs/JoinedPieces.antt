@@ -1,10 +1,11 @@
 -- The pieces between live separators, joined again with them, are the text. Assumes nothing.
+use Rattle.std.proofs.lemmas.Bool.{cond_both}
 use mathlib.Core.Path.{◌≡◌, refl, ap, ◌∙◌}
 use mathlib.Core.Bool.{Bool, true, false≢true}
 use mathlib.Core.List.{List, [], ◌∷◌, ◌++◌}
 use Prim.Native.Nat.{ℕ}
 use borrow.Author.Tests.{eqb-true}
-use Rattle.spec.proofs.Choice.{by, cond_case}
+use Rattle.spec.proofs.Choice.{by}
 use Rattle.spec.specs.Map.{Marked, live, quoted, is_live_byte}
 use Rattle.spec.specs.Search.{Test, byte_here, onto_first, pieces_from, pieces}
 
@@ -26,7 +27,7 @@ pub pieces_cons : (f : Test) (back t : List Marked)
 unfolding pieces_from onto_first
 pieces_cons f back [] = ([], [], refl)
 pieces_cons f back (x ∷ t) =
-    cond_case (λ r. (p : List Marked) × (ps : List (List Marked)) × (r ≡ p ∷ ps)) (f back (x ∷ t)) _ _
+    cond_both (f back (x ∷ t)) _ _ (λ r. (p : List Marked) × (ps : List (List Marked)) × (r ≡ p ∷ ps))
     (λ _. ([], pieces_from f (x ∷ back) t, refl))
     (λ _. onto (pieces_from f (x ∷ back) t))
   where
@@ -45,7 +46,7 @@ pieces_joined b back [] = refl
 pieces_joined b back (x ∷ t) =
     let rest = pieces_from (byte_here b) (x ∷ back) t in
     let more = pieces_joined b (x ∷ back) t in
-    cond_case (λ r. joined b r ≡ x ∷ t) (is_live_byte b x) _ _
+    cond_both (is_live_byte b x) _ _ (λ r. joined b r ≡ x ∷ t)
     (λ e. cut rest (pieces_cons (byte_here b) (x ∷ back) t) (live_byte b x e) more)
     (λ _. joined_onto b x rest ∙ ap (λ l. x ∷ l) more)
   where

@@ -1,6 +1,7 @@
 -- How long the results of passes 1 to 3 can be, and the lengths of pieces. A text is weighed byte by byte: a `'` as 2, every
 -- other byte as some n. Assumes nothing.
 use Rattle.std.specs.Prelude.{Option, Some, None}
+use Rattle.std.proofs.lemmas.Bool.{cond_both, and_from}
 use mathlib.Core.Path.{◌≡◌, refl, sym, ap, ◌∙◌, subst}
 use mathlib.Core.Bool.{Bool, true, false, cond, not, ◌&&◌, false≢true}
 use mathlib.Core.List.{List, [], ◌∷◌, ◌++◌, map, reverse, reverse_aux}
@@ -12,7 +13,7 @@ use lib.Dec.{eqb}
 use lib.ListN.{length, take, drop, length-append, length-map, length-reverse}
 use lib.Seq.{length-take-le, drop-drop}
 use Rattle.spec.proofs.ByteSets.{sign_not_ident}
-use Rattle.spec.proofs.Choice.{by, cond_case, cond_le, and_left, and_right, and_both, or_left, or_right}
+use Rattle.spec.proofs.Choice.{by, cond_le, and_left, and_right, or_left, or_right}
 use Rattle.spec.proofs.ListLaws.{while_all, total_append, total_reverse, total_cut, total_while, total_le, total_map, total_const, drop_end_le, drop_while_le}
 use Rattle.spec.proofs.SpanLaws.{by_kind, span_pos, dollar_le, opens_in}
 use Rattle.spec.proofs.MapLaws.{text_bytes, text_length}
@@ -39,7 +40,7 @@ module _ (f : ℕ → ℕ) (b : ℕ) (within_b : (c : ℕ) → f c ≤ b) (quote
   unfolding doubled total
   doubled_weight [] = zero-le
   doubled_weight (c ∷ cs) =
-      cond_case (λ l. total f l ≤ b + total (λ c. b) cs) (eqb c 39) _ _
+      cond_both (eqb c 39) _ _ (λ l. total f l ≤ b + total (λ c. b) cs)
       (λ _. omega (arith, doubled_weight cs)) (λ _. omega (arith, within_b c, doubled_weight cs))
 
   two_bytes : (t : List ℕ) → 2 ≤ length t → 2 * b ≤ total (λ c. b) t
@@ -123,7 +124,7 @@ weight_le n c h = cond_le (eqb c 39) 2 n n h (omega arith)
 
 weight_two : (n c : ℕ) → 2 ≤ n → 2 ≤ weight n c
 unfolding weight
-weight_two n c h = cond_case (λ (m : ℕ). 2 ≤ m) (eqb c 39) 2 n (λ _. omega arith) (λ _. h)
+weight_two n c h = cond_both (eqb c 39) 2 n (λ (m : ℕ). 2 ≤ m) (λ _. omega arith) (λ _. h)
 
 weight_other : (n c : ℕ) → eqb c 39 ≡ false → weight n c ≡ n
 unfolding weight
@@ -173,7 +174,7 @@ starts_any_case (a ∷ w) [] h = h
 starts_any_case (a ∷ w) (x ∷ t) h =
     let e = eqb-true (byte x) a (and_left (eqb (byte x) a) (starts w t) h) in
     let m = and_right (eqb (byte x) a) (starts w t) h in
-    and_both _ _ (eq-eqb _ _ (ap upper e)) (starts_any_case w t m)
+    and_from _ _ (eq-eqb _ _ (ap upper e)) (starts_any_case w t m)
 
 -- ---- pass 2
 
@@ -196,8 +197,7 @@ elsif_from_lem : (k p : ℕ) (t : List Marked) → total (mark_weight 5) (elsif_
 unfolding elsif_from total
 elsif_from_lem k p [] = zero-le
 elsif_from_lem zero p (x ∷ t) =
-    cond_case (λ (l : List Marked). total (mark_weight 5) l ≤ mark_weight 6 x + total (mark_weight 6) t)
-    (word_here is_word (ascii "ELSIF") p (x ∷ t)) _ _
+    cond_both (word_here is_word (ascii "ELSIF") p (x ∷ t)) _ _ (λ (l : List Marked). total (mark_weight 5) l ≤ mark_weight 6 x + total (mark_weight 6) t)
     (λ h. omega (
       arith,
       total_append (mark_weight 5) (lives (ascii "ELSEIF")) (elsif_from 4 (byte x) t),
@@ -232,7 +232,7 @@ pub pieces_some : (p : Test) (back t : List Marked) → 0 < length (pieces_from 
 unfolding pieces_from
 pieces_some p back [] = suc-le-suc zero-le
 pieces_some p back (x ∷ t) =
-    cond_case (λ (ps : List (List Marked)). 0 < length ps) (p back (x ∷ t)) _ _ (λ _. suc-le-suc zero-le)
+    cond_both (p back (x ∷ t)) _ _ (λ (ps : List (List Marked)). 0 < length ps) (λ _. suc-le-suc zero-le)
     (λ _. onto_some x (pieces_from p (x ∷ back) t))
 
 pieces_from_lem : (f : Marked → ℕ) (s : ℕ) (p : Test) → ((back t : List Marked) (x : Marked) → p back (x ∷ t) ≡ true → f x ≡ s)
@@ -241,7 +241,7 @@ unfolding pieces_from total
 pieces_from_lem f s p h back [] = omega arith
 pieces_from_lem f s p h back (x ∷ t) =
     let ps = pieces_from p (x ∷ back) t in
-    cond_case (λ (ps : List (List Marked)). total (λ q. s + total f q) ps ≡ s + (f x + total f t)) (p back (x ∷ t)) _ _
+    cond_both (p back (x ∷ t)) _ _ (λ (ps : List (List Marked)). total (λ q. s + total f q) ps ≡ s + (f x + total f t))
     (λ e. omega (arith, h back t x e, pieces_from_lem f s p h (x ∷ back) t))
     (λ _. omega (arith, onto_first_lem f s x ps (pieces_some p (x ∷ back) t), pieces_from_lem f s p h (x ∷ back) t))
 
@@ -320,7 +320,7 @@ first_from_lem : (p : Test) (P : Option ℕ → Type 0) (back t : List Marked)
 unfolding first_from
 first_from_lem p P back [] h n = n
 first_from_lem p P back (x ∷ t) h n =
-    cond_case P (p back (x ∷ t)) _ _
+    cond_both (p back (x ∷ t)) _ _ P
     (λ e. rw add-zero at (h 0 e))
     (λ _. first_from_lem p P (x ∷ back) t
     (λ j e. subst (λ (m : ℕ). P (Some m)) (add-suc (length back) j ∙ sym (suc-add (length back) j)) (h (suc j) e)) n)
@@ -380,8 +380,8 @@ assignment_weight t =
     let name = take_while (of_byte is_ident) b in
     let front = drop_while (of_byte is_ident) b in
     let right = right_side (drop (i + 2) t) in
-    cond_case (λ l. 2 * length l ≤ total (mark_weight 5) t + 1) (starts_name (reverse name) && not (is_empty right))
-    (reverse front ++ (lives (ascii "SET ") ++ (reverse name ++ (lives (ascii " = ") ++ right)))) t
+    cond_both (starts_name (reverse name) && not (is_empty right))
+    (reverse front ++ (lives (ascii "SET ") ++ (reverse name ++ (lives (ascii " = ") ++ right)))) t (λ l. 2 * length l ≤ total (mark_weight 5) t + 1)
     (λ h.
     let d : total (mark_weight 5) (drop i t) ≡ 10 + total (mark_weight 5) (drop (i + 2) t) =
     rw (drop-drop 2 i t) at (assign_in (reverse (take i t)) (drop i t) e) in

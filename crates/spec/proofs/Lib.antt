@@ -35,7 +35,6 @@ pub mod HandlerPlaces
 pub mod CheckLaws
 pub mod CopyLaws
 pub mod BytesLaws
-pub mod PartLaws
 pub mod EndLaws
 pub mod LiteralLaws
 pub mod TrimLaws

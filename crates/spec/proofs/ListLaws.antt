@@ -1,4 +1,5 @@
 -- Lists by a test on their elements, and sums over lists. Assumes nothing.
+use Rattle.std.proofs.lemmas.Bool.{cond_both}
 use mathlib.Core.Path.{◌≡◌, refl, sym, ap, ◌∙◌}
 use mathlib.Core.Bool.{Bool, true, ◌&&◌, false≢true}
 use mathlib.Core.List.{List, [], ◌∷◌, ◌++◌, map, reverse, reverse_aux, append_assoc}
@@ -7,7 +8,7 @@ use native.Mathlib.Nat.{mul-zero, mul-suc, add_comm}
 use native.Mathlib.Omega.{arith}
 use lib.Dec.{eqb, eqb-suc-zero}
 use lib.ListN.{length, take, drop, length-append, take-append-drop}
-use Rattle.spec.proofs.Choice.{by, cond_case}
+use Rattle.spec.proofs.Choice.{by}
 use Rattle.spec.specs.Lists.{is_empty, take_while, drop_while, drop_end, all, keep, concat, total}
 
 module _ {A : Type 0} where
@@ -83,21 +84,21 @@ module _ {A : Type 0} where
   unfolding drop_end
   drop_end_le f [] = zero-le
   drop_end_le f (x ∷ t) =
-      cond_case (λ l. length l ≤ suc (length t)) (f x && is_empty (drop_end f t)) [] (x ∷ drop_end f t)
+      cond_both (f x && is_empty (drop_end f t)) [] (x ∷ drop_end f t) (λ l. length l ≤ suc (length t))
       (λ _. zero-le) (λ _. suc-le-suc (drop_end_le f t))
 
   pub drop_while_le : (f : A → Bool) (t : List A) → length (drop_while f t) ≤ length t
   unfolding drop_while
   drop_while_le f [] = zero-le
   drop_while_le f (x ∷ t) =
-      cond_case (λ l. length l ≤ suc (length t)) (f x) (drop_while f t) (x ∷ t)
+      cond_both (f x) (drop_while f t) (x ∷ t) (λ l. length l ≤ suc (length t))
       (λ _. omega (arith, drop_while_le f t)) (λ _. omega arith)
 
   pub keep_le : (f : A → Bool) (t : List A) → length (keep f t) ≤ length t
   unfolding keep
   keep_le f [] = zero-le
   keep_le f (x ∷ t) =
-      cond_case (λ l. length l ≤ suc (length t)) (f x) (x ∷ keep f t) (keep f t)
+      cond_both (f x) (x ∷ keep f t) (keep f t) (λ l. length l ≤ suc (length t))
       (λ _. suc-le-suc (keep_le f t)) (λ _. omega (arith, keep_le f t))
 
 -- the sum over a list of images

@@ -1,10 +1,11 @@
 -- The map: it has the text's length, holds 0 and 1 only, and agrees with the spans; a text beside its map. Assumes nothing.
 use mathlib.Core.Path.{◌≡◌, refl, sym, ap, ◌∙◌}
 use mathlib.Core.Bool.{true}
-use mathlib.Core.List.{List, [], ◌∷◌, ◌++◌, map}
+use mathlib.Core.List.{List, [], ◌∷◌, ◌++◌, map, map-append}
 use Prim.Native.Nat.{ℕ, zero, suc, ◌+◌, zero-le, suc-le-suc}
 use lib.ListN.{length, take, drop, replicate, length-append, length-replicate, length-map}
 use lib.Seq.{length-take-le}
+use lib.LanesLaws.{map-replicate}
 use Rattle.spec.proofs.SpanLaws.{span_le, lexemes_step, tiles}
 use Rattle.spec.specs.Lists.{all, concat}
 use Rattle.spec.specs.Bytes.{within}
@@ -36,14 +37,6 @@ map_values xs = go (regions_of (lexemes xs))
     go (in_literal ∷ rs) = go rs
     go (in_comment ∷ rs) = go rs
 
-pub map_append {ℓ} : {A B : Type ℓ} (f : A → B) (s t : List A) → map f (s ++ t) ≡ map f s ++ map f t
-map_append f [] t = refl
-map_append f (x ∷ s) t = ap (λ l. f x ∷ l) (map_append f s t)
-
-pub map_replicate : {A B : Type 0} (f : A → B) (n : ℕ) (a : A) → map f (replicate n a) ≡ replicate n (f a)
-map_replicate f zero a = refl
-map_replicate f (suc n) a = ap (λ l. f a ∷ l) (map_replicate f n a)
-
 flag_of_kind : (k : Kind) (xs : List ℕ) → flag (region_of k) ≡ span_flag (span_of k xs)
 unfolding span_of
 flag_of_kind line xs = refl
@@ -65,9 +58,9 @@ map_step c cs =
     let rest = regions_of (lexemes (drop n xs)) in
     let e : length (take n xs) ≡ n = length-take-le n xs (span_le xs (suc-le-suc zero-le)) in
     ap (λ ls. map flag (regions_of ls)) (lexemes_step c cs)
-    ∙ (map_append flag (replicate (length (take n xs)) (region_of (kind_at xs))) rest
+    ∙ (map-append flag (replicate (length (take n xs)) (region_of (kind_at xs))) rest
     ∙ ap (λ l. l ++ map flag rest)
-    (map_replicate flag (length (take n xs)) (region_of (kind_at xs))
+    (map-replicate flag (length (take n xs)) (region_of (kind_at xs))
     ∙ (ap (λ m. replicate m (flag (region_of (kind_at xs)))) e ∙ ap (λ b. replicate n b) (flag_of_kind (kind_at xs) xs))))
 
 pub mark_byte : (m c : ℕ) → byte (mark m c) ≡ c

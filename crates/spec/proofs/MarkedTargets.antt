@@ -1,6 +1,7 @@
 -- The third kind of qualified target: the walk over the marking words finds the leftmost one just past a word where no CASE
 -- is open, and none exactly if there is none. Assumes nothing.
 use Rattle.std.specs.Prelude.{Option, Some, None}
+use Rattle.std.proofs.lemmas.List.{drop_more}
 use mathlib.Core.Path.{◌≡◌, refl, sym, ap, ◌∙◌}
 use mathlib.Core.List.{List, ◌∷◌, reverse}
 use mathlib.Core.Logic.{◌↔◌}
@@ -11,7 +12,6 @@ use borrow.Author.Tests.{eqb-true, eqb-false}
 use lib.Dec.{eqb}
 use lib.ListN.{length, take, drop, get_or, drop_of_length-le}
 use lib.Seq.{drop-drop}
-use Rattle.spec.proofs.AheadLaws.{drop_one}
 use Rattle.spec.proofs.Apart.{apart}
 use Rattle.spec.proofs.Choice.{by}
 use Rattle.spec.proofs.EqualsTargets.{NoRunOver, equals_target_exactly}
@@ -104,7 +104,7 @@ module _ (t : List Marked) where
   unfolding walk met cases front_byte
   walk_step k h =
       let x = get_or t k (live 0) in
-      walk_front (cases t k) (front_byte (reverse (take k t))) (drop k t) (drop (k + 1) t) x (drop_one t k (live 0) h)
+      walk_front (cases t k) (front_byte (reverse (take k t))) (drop k t) (drop (k + 1) t) x (drop_more t k (live 0) h)
       ∙ rw (back_step t k (live 0) h, add-one k) refl
 
   inside : (k : ℕ) (r : Target) → IsMarkedTarget t k r → k < length t

@@ -1,6 +1,7 @@
 -- The marking words at an offset of a statement, and the CASEs open there: the walk meets the word that stands, whatever the
 -- table's order, and counts as document 01 does. Assumes nothing.
 use Rattle.std.specs.Prelude.{Option, Some, None}
+use Rattle.std.proofs.lemmas.Bool.{cond_both}
 use mathlib.Core.Path.{◌≡◌, refl, sym, ap, ◌∙◌}
 use mathlib.Core.Bool.{true, cond, false≢true}
 use mathlib.Core.List.{List, reverse}
@@ -11,7 +12,6 @@ use lib.Dec.{eqb}
 use lib.ListN.{length, take, drop, get_or}
 use Rattle.spec.proofs.ByteSets.{sign_not_word}
 use Rattle.spec.proofs.Apart.{apart}
-use Rattle.spec.proofs.Choice.{cond_case}
 use Rattle.spec.proofs.RunPlaces.{flags_length, marked_flags}
 use Rattle.spec.proofs.MatchLaws.{word_complete, word_sound}
 use Rattle.spec.proofs.TargetPlaces.{flags, byte_at, StandsAt, OpensStatement, begin, then, else, loop}
@@ -101,7 +101,7 @@ module _ (t : List Marked) (k : ℕ) where
   next : (m : Marking) (rest : Option Marking) → IsMarking m → ((StandsAt m.word t k → ⊥) → Met t k rest)
       → Met t k (cond (word_here is_word m.word (front_byte (reverse (take k t))) (drop k t)) (Some m) rest)
   next m rest a more =
-      cond_case (Met t k) (word_here is_word m.word (front_byte (reverse (take k t))) (drop k t)) _ _
+      cond_both (word_here is_word m.word (front_byte (reverse (take k t))) (drop k t)) _ _ (Met t k)
       (λ e. word m a ((word_says t m.word k).0 e))
       (λ e. more (λ s. false≢true (sym e ∙ (word_says t m.word k).1 s)))
 

@@ -1,4 +1,5 @@
 -- A word or needle at an offset of a text, byte by byte, and a word with its edges. Assumes nothing.
+use Rattle.std.proofs.lemmas.Bool.{and_from}
 use mathlib.Core.Path.{◌≡◌, refl, sym, ap, ◌∙◌}
 use mathlib.Core.Bool.{Bool, true, false, not, ◌&&◌, false≢true}
 use mathlib.Core.List.{List, [], ◌∷◌, reverse}
@@ -9,7 +10,7 @@ use borrow.Author.Tests.{eqb-true, eq-eqb, not-true}
 use lib.Dec.{eqb}
 use lib.ListN.{length, take, drop, get_or, length-drop}
 use lib.Seq.{get_or-drop}
-use Rattle.spec.proofs.Choice.{and_left, and_right, and_both}
+use Rattle.spec.proofs.Choice.{and_left, and_right}
 use Rattle.spec.proofs.WalkLaws.{live_inside, word_at, byte_before, prefix_by_len}
 use Rattle.spec.specs.Bytes.{upper, prefix_by}
 use Rattle.spec.specs.Map.{marked, front_byte}
@@ -35,7 +36,7 @@ unfolding prefix_by
 same_prefix f [] xs h s = refl
 same_prefix f (a ∷ w) [] h s = absurd (omega arith)
 same_prefix f (a ∷ w) (x ∷ xs) h s =
-    and_both (eqb (f x) (f a)) (prefix_by f w xs) (eq-eqb (f x) (f a) (s 0 (omega arith)))
+    and_from (eqb (f x) (f a)) (prefix_by f w xs) (eq-eqb (f x) (f a) (s 0 (omega arith)))
     (same_prefix f w xs (le_of_suc-le-suc h) (λ i k. s (suc i) (suc-le-suc k)))
 
 -- w stands at j of xs exactly if the bytes agree
@@ -96,5 +97,5 @@ module _ (set : ℕ → Bool) (xs ms w : List ℕ) (e : length ms ≡ length xs)
       let d = not (set (get_or xs (j + length w) 0)) in
       let m : j ≤ length xs = omega (arith, r.matches.fits) in
       word_at set w xs ms e j
-      ∙ and_both a (b && (c && d)) (eq-eqb (get_or ms j 1) 0 r.is_live_lem)
-      (and_both b (c && d) (at_prefix upper w xs j r.matches) (and_both c d (ap not (none_before set xs ms o j m r.before)) (ap not r.behind)))
+      ∙ and_from a (b && (c && d)) (eq-eqb (get_or ms j 1) 0 r.is_live_lem)
+      (and_from b (c && d) (at_prefix upper w xs j r.matches) (and_from c d (ap not (none_before set xs ms o j m r.before)) (ap not r.behind)))

@@ -1,5 +1,6 @@
 -- The message of an abort in document 01's words, by offsets of its text: the definition gives exactly that part. Assumes
 -- nothing.
+use Rattle.std.proofs.lemmas.Bool.{and_from}
 use mathlib.Core.Path.{◌≡◌, refl, sym, ap, ◌∙◌}
 use mathlib.Core.Bool.{Bool, true, false, not, ◌&&◌, false≢true}
 use mathlib.Core.Logic.{◌↔◌}
@@ -12,7 +13,7 @@ use lib.ListN.{length, take, drop, get_or, length-append}
 use lib.Seq.{get_or-take, length-take-le}
 use Rattle.spec.proofs.ByteSets.{sign_not_w}
 use Rattle.spec.proofs.BytesLaws.{bytes_take, while_length_bytes}
-use Rattle.spec.proofs.Choice.{by, and_left, and_right, and_both}
+use Rattle.spec.proofs.Choice.{by, and_left, and_right}
 use Rattle.spec.proofs.LiteralLaws.{IsLiteral, literal_exactly}
 use Rattle.spec.proofs.SpanLaws.{seen}
 use Rattle.spec.proofs.TrimLaws.{IsTrimmed, trimmed_some, trimmed_part, part_of_front}
@@ -86,7 +87,7 @@ module _ (t : List Marked) where
       let w = (literal_exactly t n).1 l in
       let b = eqb (close_len (drop 1 t)) 0 in
       let some : b ≡ false = ne_eqb (close_len (drop 1 t)) 0 (λ q. omega (arith, w.1)) in
-      (and_both (eqb (front_byte t) 39) (not b) (eq-eqb (front_byte t) 39 w.0) (ap not some), w.2)
+      (and_from (eqb (front_byte t) 39) (not b) (eq-eqb (front_byte t) 39 w.0) (ap not some), w.2)
 
   -- some part of every text is its message
   pub message_some : (i : ℕ) × (j : ℕ) × IsMessage (bytes t) i j

@@ -1,8 +1,10 @@
 -- The next word in document 01's words: where it stands, which bytes it has, and that there is none. Assumes nothing.
 use Rattle.std.specs.Prelude.{Some, None}
+use Rattle.std.proofs.lemmas.Bool.{and_from}
+use Rattle.std.proofs.lemmas.List.{take-map, get_or_default, nil_from_length}
 use mathlib.Core.Path.{◌≡◌, refl, sym, ap, ◌∙◌}
 use mathlib.Core.Bool.{true, false, cond, ◌&&◌, false≢true}
-use mathlib.Core.List.{List, [], ◌∷◌, map}
+use mathlib.Core.List.{List, [], map}
 use Prim.Native.Nat.{ℕ, ◌+◌, ◌-◌, ◌≤◌, ◌<◌}
 use native.Mathlib.Omega.{arith}
 use borrow.Author.Tests.{eqb-true, eqb-false, eq-eqb, ne_eqb, ltb-true, ltb-false}
@@ -10,10 +12,10 @@ use lib.Dec.{eqb, ltb}
 use lib.ListN.{length, take, drop, get_or, length-drop, length-map}
 use lib.Seq.{drop-drop}
 use Rattle.spec.proofs.ByteSets.{word_not_n}
-use Rattle.spec.proofs.Choice.{by, and_left, and_right, and_both}
+use Rattle.spec.proofs.Choice.{by, and_left, and_right}
 use Rattle.spec.proofs.ListLaws.{empty_length}
 use Rattle.spec.proofs.MapLaws.{map_length, text_length}
-use Rattle.spec.proofs.WalkLaws.{any_default, map_take, mark_skipped, mark_word, marked_at_lem, live_inside, bytes_drop, while_take, while_drop, while_length, while_passes_at, while_fails_at, while_exactly_at, while_hit}
+use Rattle.spec.proofs.WalkLaws.{mark_skipped, mark_word, marked_at_lem, live_inside, bytes_drop, while_take, while_drop, while_length, while_passes_at, while_fails_at, while_exactly_at, while_hit}
 use Rattle.spec.proofs.FirstLaws.{apart}
 use Rattle.spec.specs.Bytes.{is_word, is_n}
 use Rattle.spec.specs.Lists.{is_empty, take_while, drop_while}
@@ -36,7 +38,7 @@ module _ (xs : List ℕ) (k : ℕ) (h : k < length xs) where
   unfolding marked_text
   text_at d =
       marked_at_lem xs (map_of xs) k d h
-      ∙ ap (λ (m : ℕ). mark m (get_or xs k 0)) (any_default (map_of xs) k 0 1 (omega (arith, map_length xs)))
+      ∙ ap (λ (m : ℕ). mark m (get_or xs k 0)) (get_or_default (map_of xs) k 0 1 (omega (arith, map_length xs)))
 
   skipped_sound : (d : Marked) → is_skipped (get_or (marked_text xs) k d) ≡ true → IsSkippedAt xs k
   skipped_sound d e l =
@@ -63,7 +65,7 @@ module _ (xs : List ℕ) (k : ℕ) (h : k < length xs) where
   word_byte_complete : (d : Marked) → IsWordByteAt xs k → is_word_mark (get_or (marked_text xs) k d) ≡ true
   word_byte_complete d r =
       word_byte_test d
-      ∙ and_both (eqb (get_or (map_of xs) k 1) 0) (is_word (get_or xs k 0)) (eq-eqb (get_or (map_of xs) k 1) 0 r.is_live_lem) r.is_word_lem
+      ∙ and_from (eqb (get_or (map_of xs) k 1) 0) (is_word (get_or xs k 0)) (eq-eqb (get_or (map_of xs) k 1) 0 r.is_live_lem) r.is_word_lem
 
 -- the word of n bytes at j is the next one from i on: up to j all is skipped, its bytes are live word bytes, and behind
 -- it stands none
@@ -154,7 +156,7 @@ module _ (xs : List ℕ) (i : ℕ) where
   start_part =
       let u = drop word_start (marked xs (map_of xs)) in
       ap (λ (t : List Marked). map byte t) (next_word_lem ∙ while_take is_word_mark u)
-      ∙ (map_take byte (length (take_while is_word_mark u)) u
+      ∙ (sym (take-map byte (length (take_while is_word_mark u)) u)
       ∙ (ap (λ (l : List ℕ). take (length (take_while is_word_mark u)) l) (bytes_drop xs (map_of xs) word_start)
       ∙ ap (λ (n : ℕ). take n (drop word_start xs)) (sym word_length)))
 
@@ -166,12 +168,8 @@ module _ (xs : List ℕ) (i : ℕ) where
   pub word_empty : word_place xs i ≡ None → word_text xs i ≡ []
   word_empty e =
       by (eqb (length (word_text xs i)) 0)
-      (λ z. nil (word_text xs i) (eqb-true (length (word_text xs i)) 0 z))
+      (λ z. nil_from_length (word_text xs i) (eqb-true (length (word_text xs i)) 0 z))
       (λ z. apart (word_place xs i) word_start (word_place_lem (omega (arith, eqb-false (length (word_text xs i)) 0 z))) e)
-    where
-      nil : (l : List ℕ) → length l ≡ 0 → l ≡ []
-      nil [] h = refl
-      nil (x ∷ l) h = absurd (omega arith)
 
   -- a live word byte behind nothing but what is skipped is found
   pub found_word : (j : ℕ) → i ≤ j → ((k : ℕ) → i ≤ k → k < j → IsSkippedAt xs k) → IsWordByteAt xs j → word_place xs i ≡ Some j

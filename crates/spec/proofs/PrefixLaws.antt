@@ -1,4 +1,5 @@
 -- What stands at the front of a text, as a part of it. Assumes nothing.
+use Rattle.std.proofs.lemmas.Bool.{and_from}
 use mathlib.Core.Path.{◌≡◌, refl, ap, ◌∙◌}
 use mathlib.Core.Bool.{true, ◌&&◌, false≢true}
 use mathlib.Core.List.{List, [], ◌∷◌, ◌++◌}
@@ -6,7 +7,7 @@ use Prim.Native.Nat.{ℕ}
 use borrow.Author.Tests.{eqb-true, eq-eqb}
 use lib.Dec.{eqb}
 use lib.ListN.{length, drop}
-use Rattle.spec.proofs.Choice.{by, and_left, and_right, and_both}
+use Rattle.spec.proofs.Choice.{by, and_left, and_right}
 use Rattle.spec.specs.Bytes.{is_prefix}
 
 -- where p stands at the front of xs, xs is p and what follows it
@@ -23,7 +24,7 @@ prefix_split (a ∷ p) (x ∷ xs) h =
 pub prefix_front : (p xs : List ℕ) → is_prefix p (p ++ xs) ≡ true
 unfolding is_prefix
 prefix_front [] xs = refl
-prefix_front (a ∷ p) xs = and_both (eqb a a) (is_prefix p (p ++ xs)) (eq-eqb a a refl) (prefix_front p xs)
+prefix_front (a ∷ p) xs = and_from (eqb a a) (is_prefix p (p ++ xs)) (eq-eqb a a refl) (prefix_front p xs)
 
 -- one text behind another stands at the front exactly if the first does and the second stands behind it
 pub prefix_append : (p q xs : List ℕ) → is_prefix (p ++ q) xs ≡ (is_prefix p xs && is_prefix q (drop (length p) xs))

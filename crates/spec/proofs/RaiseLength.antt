@@ -2,6 +2,7 @@
 -- with its RAISE has nine bytes at least and the text put for them 25 at most besides the message. So pass 5's result is at
 -- most three times its text, and twice would not do. Assumes nothing.
 use Rattle.std.specs.Prelude.{Option, Some, None}
+use Rattle.std.proofs.lemmas.Bool.{cond_both}
 use mathlib.Core.Path.{◌≡◌, refl, sym, ap, ◌∙◌}
 use mathlib.Core.Bool.{Bool, true, false≢true}
 use mathlib.Core.List.{List, [], ◌∷◌}
@@ -12,7 +13,7 @@ use lib.Dec.{eqb, ltb}
 use lib.ListN.{length, drop, get_or, length-append, length-take, length-drop}
 use Rattle.spec.proofs.Apart.{apart}
 use Rattle.spec.proofs.ByteSets.{is_capital, capital_ident, ident_not_w, sign_not_ident}
-use Rattle.spec.proofs.Choice.{by, cond_case}
+use Rattle.spec.proofs.Choice.{by}
 use Rattle.spec.proofs.LengthLaws.{trim_le}
 use Rattle.spec.proofs.MapLaws.{text_length}
 use Rattle.spec.proofs.RaisePlaces.{IsLevelWord, is_exception_lem, is_notice, is_warning, is_debug, is_log, info_space, info_newline, info_semicolon, LevelEnds, behind_letters, behind_run, IsLevelAt, level_exactly, raise_of}
@@ -141,7 +142,7 @@ unfolding raises_from tokens_text token_bytes
 tokens_long act k p [] = zero-le
 tokens_long act zero p (x ∷ t) =
     let r = raise_of act (x ∷ t) in
-    cond_case (λ (ps : List Token). length (tokens_text ps) ≤ 3 * (suc (length t) - 0)) (word_here is_word (ascii "RAISE") p (x ∷ t)) _ _
+    cond_both (word_here is_word (ascii "RAISE") p (x ∷ t)) _ _ (λ (ps : List Token). length (tokens_text ps) ≤ 3 * (suc (length t) - 0))
     (λ _.
     let rest = tokens_text (raises_from act (r.length - 1) (byte x) t) in
     let b = raise_long act (x ∷ t) in

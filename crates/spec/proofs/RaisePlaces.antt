@@ -2,6 +2,7 @@
 -- ends, which one is refused, what becomes of the others, and where the search goes on. The definition gives exactly these.
 -- Assumes nothing.
 use Rattle.std.specs.Prelude.{Option, Some, None}
+use Rattle.std.proofs.lemmas.List.{drop_more}
 use mathlib.Core.Path.{◌≡◌, refl, sym, ap, ◌∙◌, subst}
 use mathlib.Core.Bool.{Bool, true, false, cond, not, false≢true}
 use mathlib.Core.Logic.{◌↔◌}
@@ -12,7 +13,6 @@ use borrow.Author.Tests.{ltb-true, ltb-false, not-true, not-false}
 use lib.Dec.{eqb, ltb}
 use lib.ListN.{length, take, drop, get_or, length-drop}
 use lib.Seq.{drop-drop, get_or-drop, length-take-le}
-use Rattle.spec.proofs.AheadLaws.{drop_one}
 use Rattle.spec.proofs.Apart.{apart}
 use Rattle.spec.proofs.BytesLaws.{bytes_take, bytes_drop, while_length_bytes}
 use Rattle.spec.proofs.Choice.{by}
@@ -101,7 +101,7 @@ module _ (ys : List ℕ) where
   semicolon_at : (k : ℕ) → k < length ys
       → is_live_byte 59 (get_or (marked_text ys) k (live 0)) ≡ passes_at (byte_here 59) (marked_text ys) k
   unfolding byte_here
-  semicolon_at k h = rw (drop_one (marked_text ys) k (live 0) (omega (arith, text_length ys)))
+  semicolon_at k h = rw (drop_more (marked_text ys) k (live 0) (omega (arith, text_length ys)))
 
   module _ (k : ℕ) (h : k < length ys) where
     goes_not : IsByteAt ys 59 k → goes (get_or (marked_text ys) k (live 0)) ≡ false

@@ -1,6 +1,7 @@
 -- The tokens of pass 5 from an offset on, with any actions of the levels: bytes are kept up to the next RAISE, then comes that
 -- RAISE, then what is behind it; and the clause of the first one that is refused. Assumes nothing.
 use Rattle.std.specs.Prelude.{Option, Some, None}
+use Rattle.std.proofs.lemmas.List.{drop_more}
 use mathlib.Core.Path.{◌≡◌, refl, sym, ap, ◌∙◌}
 use mathlib.Core.Bool.{true, false}
 use mathlib.Core.List.{List, [], ◌∷◌, reverse}
@@ -9,7 +10,6 @@ use native.Mathlib.Omega.{arith}
 use borrow.Author.Tests.{ltb-true, ltb-false}
 use lib.Dec.{ltb}
 use lib.ListN.{length, take, drop, get_or, drop_of_length-le}
-use Rattle.spec.proofs.AheadLaws.{drop_one}
 use Rattle.spec.proofs.Choice.{by}
 use Rattle.spec.proofs.CopyLaws.{copied, copied_all}
 use Rattle.spec.proofs.FirstFound.{either_of, first_some}
@@ -69,7 +69,7 @@ module _ (act : Level → Action) (t : List Marked) where
       by (ltb i (length t))
       (λ q.
       let h = ltb-true i (length t) q in
-      front_passed act (front_byte (reverse (take i t))) (drop i t) (drop (i + 1) t) (get_or t i (live 0)) (drop_one t i (live 0) h) k
+      front_passed act (front_byte (reverse (take i t))) (drop i t) (drop (i + 1) t) (get_or t i (live 0)) (drop_more t i (live 0) h) k
       ∙ (ap (λ (p : ℕ). raises_from act k p (drop (i + 1) t)) (before_next t i h) ∙ (raises_past k (i + 1) ∙ ap (raises_at act t) z)))
       (λ q.
       let h = ltb-false i (length t) q in
@@ -79,7 +79,7 @@ module _ (act : Level → Action) (t : List Marked) where
       → raises_at act t i ≡ kept (get_or t i (live 0)) ∷ raises_at act t (i + 1)
   unfolding keyword_here
   raise_kept i h e =
-      front_stays act (front_byte (reverse (take i t))) (drop i t) (drop (i + 1) t) (get_or t i (live 0)) (drop_one t i (live 0) h) e
+      front_stays act (front_byte (reverse (take i t))) (drop i t) (drop (i + 1) t) (get_or t i (live 0)) (drop_more t i (live 0) h) e
       ∙ ap (λ (p : ℕ). kept (get_or t i (live 0)) ∷ raises_from act 0 p (drop (i + 1) t)) (before_next t i h)
 
   pub raise_goes : (i : ℕ) → i < length t → passes_at raise_here t i ≡ true
@@ -89,7 +89,7 @@ module _ (act : Level → Action) (t : List Marked) where
       let r = raise_of act (drop i t) in
       let z : i + 1 + (r.length - 1) ≡ i + r.length =
       omega (arith, raised_pos act (level_in level_words (drop 6 (drop i t))) (drop i t)) in
-      front_goes act (front_byte (reverse (take i t))) (drop i t) (drop (i + 1) t) (get_or t i (live 0)) (drop_one t i (live 0) h) e
+      front_goes act (front_byte (reverse (take i t))) (drop i t) (drop (i + 1) t) (get_or t i (live 0)) (drop_more t i (live 0) h) e
       ∙ ap (λ (ps : List Token). raised r ∷ ps)
       (ap (λ (p : ℕ). raises_from act (r.length - 1) p (drop (i + 1) t)) (before_next t i h)
       ∙ (raises_past (r.length - 1) (i + 1) ∙ ap (raises_at act t) z))

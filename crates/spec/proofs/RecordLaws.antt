@@ -2,14 +2,15 @@
 -- the records' numbers say. Assumes nothing.
 use mathlib.Core.Option as maybe
 use Rattle.std.specs.Prelude.{Option, Some, None}
+use Rattle.std.proofs.lemmas.Bool.{cond_both, and_from}
 use mathlib.Core.Path.{◌≡◌, refl, sym, ap, ◌∙◌}
-use mathlib.Core.Bool.{Bool, true, false, cond, not, ◌&&◌, ◌||◌, or-false, false≢true}
+use mathlib.Core.Bool.{Bool, true, false, cond, not, ◌&&◌, ◌||◌, or-false, false≢true, or_self_left}
 use mathlib.Core.List.{List, [], ◌∷◌, ◌++◌, map, append-nil, append_assoc}
 use Prim.Native.Nat.{ℕ, zero, suc, ◌+◌, ◌*◌, ◌≤◌, ◌<◌}
 use native.Mathlib.Omega.{arith}
 use lib.ListN.{length, get_or, get_elem?, take, drop, replicate, length-append, length-map, get_or-replicate, get_or-append}
 use lib.Seq.{take-length, take-take, take_all, take_at, drop_at, get_or-append-add}
-use Rattle.spec.proofs.Choice.{by, cond_case, and_left, and_right, and_both}
+use Rattle.spec.proofs.Choice.{by, and_left, and_right}
 use Rattle.spec.proofs.NameOrder.{same_eq, same_refl, same_sym}
 use Rattle.spec.specs.Bytes.{ascii, is_same}
 use Rattle.spec.specs.Lists.{any}
@@ -46,13 +47,9 @@ unfolding declare any
 declare_any n d [] = refl
 declare_any n d (e ∷ es) =
     by (named d.name e)
-    (λ h. rw (h, sym (same_both n d.name e.name h)) (twice (is_same n d.name) (any (named n) es)))
+    (λ h. rw (h, sym (same_both n d.name e.name h)) (sym (or_self_left (is_same n d.name) (any (named n) es))))
     (λ h. rw (h, declare_any n d es) (swap (is_same n e.name) (is_same n d.name) (any (named n) es)))
   where
-    twice : (a b : Bool) → (a || b) ≡ (a || (a || b))
-    twice true b = refl
-    twice false b = refl
-
     swap : (a b c : Bool) → (a || (b || c)) ≡ (b || (a || c))
     swap true true c = refl
     swap true false c = refl
@@ -68,7 +65,7 @@ declare_distinct d (e ∷ es) h =
     by (named d.name e)
     (λ k. rw (k, same_eq d.name e.name k) h)
     (λ k. rw (k, declare_any e.name d es, other d.name e.name k)
-    (and_both (not (any (named e.name) es)) _ new (declare_distinct d es rest)))
+    (and_from (not (any (named e.name) es)) _ new (declare_distinct d es rest)))
   where
     other : (a b : List ℕ) → is_same a b ≡ false → is_same b a ≡ false
     other a b h = by (is_same b a) (λ k. absurd (false≢true (sym h ∙ same_sym b a k))) (λ k. k)
@@ -208,14 +205,14 @@ unfolding declare_maybe
 maybe_longer None ds = omega arith
 maybe_longer (Some d) ds =
     rw (declare_length d ds)
-    (cond_case (λ n. length ds ≤ n) (any (named d.name) ds) _ _ (λ _. omega arith) (λ _. omega arith))
+    (cond_both (any (named d.name) ds) _ _ (λ n. length ds ≤ n) (λ _. omega arith) (λ _. omega arith))
 
 maybe_places : (o : Option Declared) (ds : List Declared) → take (length ds) (names (declare_maybe o ds)) ≡ names ds
 unfolding declare_maybe
 maybe_places None ds = take_all (length ds) (names ds) (omega (arith, length_names ds))
 maybe_places (Some d) ds =
     rw (declare_names d ds)
-    (cond_case (λ l. take (length ds) l ≡ names ds) (any (named d.name) ds) _ _
+    (cond_both (any (named d.name) ds) _ _ (λ l. take (length ds) l ≡ names ds)
     (λ _. take_all (length ds) (names ds) (omega (arith, length_names ds)))
     (λ _. take_at (names ds) (d.name ∷ []) (length ds) (length_names ds)))
 

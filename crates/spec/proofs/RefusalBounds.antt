@@ -1,6 +1,7 @@
 -- What a call leaves in its output is never longer than the buffer size: not the text, not `q.n` of refusal 4 and not the
 -- clause of refusal 5. Assumes nothing.
 use Rattle.std.specs.Prelude.{Option, Some, None, Ok, Err, Result}
+use Rattle.std.proofs.lemmas.Bool.{cond_both}
 use mathlib.Core.Path.{◌≡◌, refl, ap, subst}
 use mathlib.Core.Bool.{not, ◌&&◌}
 use mathlib.Core.List.{List, [], ◌∷◌, ◌++◌}
@@ -12,7 +13,7 @@ use lib.ListN.{length, drop, length-append, length-drop, length-map, length-reve
 use Rattle.spec.proofs.WalkLaws.{while_length}
 use Rattle.spec.proofs.LengthLaws.{trim_le}
 use Rattle.spec.proofs.ListLaws.{while_sum, drop_while_le}
-use Rattle.spec.proofs.Choice.{cond_case, and_left, and_right}
+use Rattle.spec.proofs.Choice.{and_left, and_right}
 use Rattle.spec.proofs.MapLaws.{text_length}
 use Rattle.spec.proofs.JoinedPieces.{joined, pieces_joined}
 use Rattle.spec.proofs.FirstFound.{either_of, first_some}
@@ -80,7 +81,7 @@ before_within back =
     let n = take_while (of_byte is_ident) b in
     let r = drop_while (of_byte is_ident) b in
     let q = take_while (of_byte is_ident) (drop 1 r) in
-    cond_case (λ (o : Option Target). Within target_size o (length back)) (not (is_empty n) && (eqb (front_byte r) 46 && not (is_empty q))) _ _
+    cond_both (not (is_empty n) && (eqb (front_byte r) 46 && not (is_empty q))) _ _ (λ (o : Option Target). Within target_size o (length back))
     (λ e. omega (
       arith,
       length-reverse q,
@@ -100,7 +101,7 @@ assign_within back (x ∷ t) =
     let n = length back + suc (length t) in
     let more : Within target_size (assign_target (x ∷ back) t) n =
     within_le target_size (assign_target (x ∷ back) t) _ n (omega arith) (assign_within (x ∷ back) t) in
-    cond_case (λ (o : Option Target). Within target_size o n) (assign_here back (x ∷ t)) _ _
+    cond_both (assign_here back (x ∷ t)) _ _ (λ (o : Option Target). Within target_size o n)
     (λ _. else_within (target_before back) _ n (within_le target_size (target_before back) _ n (omega arith) (before_within back)) more)
     (λ _. more)
 
@@ -113,7 +114,7 @@ equals_within t =
     let n = take_while (of_byte is_ident) (drop 1 r) in
     let e = drop_while (of_byte is_n) (drop_while (of_byte is_ident) (drop 1 r)) in
     let lone = not (is_empty n) && lone_equals e in
-    cond_case (λ (o : Option Target). Within target_size o (length t)) (not (is_empty q) && (eqb (front_byte r) 46 && lone)) _ _
+    cond_both (not (is_empty q) && (eqb (front_byte r) 46 && lone)) _ _ (λ (o : Option Target). Within target_size o (length t))
     (λ e. omega (
       arith,
       drop_while_le (of_byte is_n) t,
@@ -129,7 +130,7 @@ unfolding target_past
 past_within opens_case n d t = tt
 past_within closes_case n d t = tt
 past_within opens_statement n d t =
-    cond_case (λ (o : Option Target). Within target_size o (length t)) (eqb d 0) _ _
+    cond_both (eqb d 0) _ _ (λ (o : Option Target). Within target_size o (length t))
     (λ _. within_le target_size (equals_target (drop n t)) _ _ (omega (arith, length-drop n t)) (equals_within (drop n t)))
     (λ _. tt)
 
@@ -203,14 +204,14 @@ using_within w content behind =
     starts_ignoring_case (ascii "MESSAGE") a
     && (eqb (front_byte b) 61
     && (eqb (front_byte c) 39 && is_empty (drop_while (of_byte is_w) (drop (length m) c)))) in
-    cond_case (λ (f : Fate). Within length (fate_clause f) (length content)) fits (rewritten w m) (refused_clause (bytes content))
+    cond_both fits (rewritten w m) (refused_clause (bytes content)) (λ (f : Fate). Within length (fate_clause f) (length content))
     (λ _. tt)
     (λ _. omega (arith, bytes_length content))
 
 fate_within : (w : RaiseType) (content : List Marked) → Within length (fate_clause (raise_fate w content)) (length content)
 unfolding raise_fate
 fate_within w content =
-    cond_case (λ (f : Fate). Within length (fate_clause f) (length content)) (starts_ignoring_case (ascii "USING") content) _ _
+    cond_both (starts_ignoring_case (ascii "USING") content) _ _ (λ (f : Fate). Within length (fate_clause f) (length content))
     (λ _. using_within w content (drop 5 content))
     (λ _. tt)
 
@@ -248,7 +249,7 @@ tokens_within act zero p (x ∷ t) =
     let n = suc (length t) in
     let later : (k : ℕ) → Within length (first_clause (raises_from act k (byte x) t)) n =
     λ k. within_le length (first_clause (raises_from act k (byte x) t)) _ n (omega arith) (tokens_within act k (byte x) t) in
-    cond_case (λ (ps : List Token). Within length (first_clause ps) n) (word_here is_word (ascii "RAISE") p (x ∷ t)) _ _
+    cond_both (word_here is_word (ascii "RAISE") p (x ∷ t)) _ _ (λ (ps : List Token). Within length (first_clause ps) n)
     (λ _. either_within length (fate_clause r.fate) _ n (raised_within act (level_in level_words (drop 5 t)) (x ∷ t)) (later (r.length - 1)))
     (λ _. later 0)
 tokens_within act (suc k) p (x ∷ t) =
@@ -289,7 +290,7 @@ body_output_fits xs a = result_fits (action_of a) [] xs
 pub function_output_fits : (xs : List ℕ) (a : Actions) → length (function_result xs a).output ≤ buffer_size
 unfolding function_result
 function_output_fits xs a =
-    cond_case (λ (r : CallResult). length r.output ≤ buffer_size) (ltb record_limit (length (records_of xs))) _ _
+    cond_both (ltb record_limit (length (records_of xs))) _ _ (λ (r : CallResult). length r.output ≤ buffer_size)
     (λ _. zero-le)
     (λ _. result_fits (action_of a) (records_of xs) (body_of xs))
 

@@ -1,6 +1,7 @@
 -- Note 1: the sum over the spans is the length of the requoted text, at most twice the text's; the checks of requoting, each
 -- answer exactly on its condition; and requoting behind the call that tells the length. Assumes nothing.
 use Rattle.std.specs.Prelude.{Result, Ok, Err, ⊤}
+use Rattle.std.proofs.lemmas.Bool.{cond_both}
 use mathlib.Core.Path.{◌≡◌, refl, sym, ap, ◌∙◌}
 use mathlib.Core.Bool.{true, false≢true}
 use mathlib.Core.List.{List, [], ◌∷◌, map, append-nil}
@@ -12,7 +13,7 @@ use borrow.Author.Tests.{leb-true, leb-false, le-leb, lt-leb}
 use lib.Dec.{eqb, leb}
 use lib.ListN.{length, length-append, drop_of_length-le}
 use Rattle.spec.proofs.Apart.{apart}
-use Rattle.spec.proofs.Choice.{by, cond_case}
+use Rattle.spec.proofs.Choice.{by}
 use Rattle.spec.proofs.CheckLaws.{IsFirstHigh, NoHigh, CheckRefuses, too_long, too_short, not_ascii, check_only, check_always}
 use Rattle.spec.proofs.LengthLaws.{requoted_length_lem}
 use Rattle.spec.proofs.ListLaws.{keep_le}
@@ -108,7 +109,7 @@ module _ (xs lent : List ℕ) where
       behind : (c : Result ⊤ Refusal) → text_check xs ≡ c → RequoteCondition xs lent (short_last c (leb (requoted_length xs) (length lent)))
       behind (Ok tt) e =
           let p = check_only search_limit true xs [] (Ok tt) e in
-          cond_case (RequoteCondition xs lent) (leb (requoted_length xs) (length lent)) _ _
+          cond_both (leb (requoted_length xs) (length lent)) _ _ (RequoteCondition xs lent)
           (λ y. (p.0, p.2, omega (arith, leb-true (requoted_length xs) (length lent) y, requoted_exactly xs)))
           (λ n. short refl p.0 p.2 (omega (arith, leb-false (requoted_length xs) (length lent) n, requoted_exactly xs)))
       behind (Err r) e = refused (check_only search_limit true xs [] (Err r) e)

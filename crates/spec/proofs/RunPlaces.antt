@@ -6,7 +6,7 @@ use mathlib.Core.List.{List, [], ◌∷◌, ◌++◌, reverse, reverse-cons}
 use Prim.Native.Nat.{ℕ, zero, suc, ◌+◌, ◌-◌, ◌≤◌, ◌<◌}
 use native.Mathlib.Numerals.{add-one}
 use native.Mathlib.Omega.{arith}
-use borrow.Author.Tests.{ltb-true, ltb-false}
+use borrow.Author.Tests.{ltb-true, ltb-false, both_ways}
 use lib.Dec.{ltb}
 use lib.ListN.{length, take, drop, get_or, length-drop, length-map, get_or-map, get_or-eq_default}
 use lib.Seq.{take-suc, get_or-drop, drop-drop, length-take-le}
@@ -14,7 +14,6 @@ use Rattle.spec.proofs.AheadLaws.{drop_front}
 use Rattle.spec.proofs.BytesLaws.{bytes_take, bytes_drop, front_bytes, while_length_bytes, end_length_bytes}
 use Rattle.spec.proofs.Choice.{by, neither_less}
 use Rattle.spec.proofs.EndLaws.{end_sum}
-use Rattle.spec.proofs.FirstLaws.{fails_not}
 use Rattle.spec.proofs.RefusalBounds.{bytes_length}
 use Rattle.spec.proofs.TargetPlaces.{flag_of, flags, byte_at}
 use Rattle.spec.specs.Parts.{part}
@@ -111,8 +110,8 @@ module _ (f : ℕ → Bool) (t : List Marked) where
       → e ≡ a
   end_same i e a r h w g s =
       neither_less e a
-      (λ l. fails_not (g e r.from l) (r.stops (omega arith)))
-      (λ l. fails_not (r.all a h l) (s (omega (arith, r.fits (omega arith)))))
+      (λ l. both_ways _ (r.stops (omega arith)) (g e r.from l))
+      (λ l. both_ways _ (s (omega (arith, r.fits (omega arith)))) (r.all a h l))
 
   -- by the bytes xs of t
   pub ahead_at : (xs : List ℕ) → bytes t ≡ xs → (i e : ℕ) → e ≡ end_from f xs i → Ahead i e
@@ -210,5 +209,5 @@ module _ (f : ℕ → Bool) (t : List Marked) where
       → s ≡ a
   start_same i s a r h g e =
       neither_less s a
-      (λ l. fails_not (r.all (a - 1) (omega arith) (omega arith)) (e (omega arith)))
-      (λ l. fails_not (g (s - 1) (omega arith) (omega (arith, r.upto))) (r.stops (omega arith)))
+      (λ l. both_ways _ (e (omega arith)) (r.all (a - 1) (omega arith) (omega arith)))
+      (λ l. both_ways _ (r.stops (omega arith)) (g (s - 1) (omega arith) (omega (arith, r.upto))))

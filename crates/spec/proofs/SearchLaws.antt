@@ -1,6 +1,7 @@
 -- The searches for a keyword, a byte and a needle in document 01's words: what each finds is the least offset of what it seeks,
 -- and none exactly if there is none. Assumes nothing.
 use Rattle.std.specs.Prelude.{Some, None}
+use Rattle.std.proofs.lemmas.Bool.{and_from}
 use mathlib.Core.Path.{◌≡◌, refl, sym, ◌∙◌}
 use mathlib.Core.List.{List, []}
 use mathlib.Core.Logic.{◌⊎◌, inr}
@@ -10,7 +11,7 @@ use borrow.Author.Tests.{eqb-true, eq-eqb}
 use lib.Dec.{eqb}
 use lib.ListN.{length, drop, get_or}
 use Rattle.spec.proofs.ByteSets.{sign_not_word}
-use Rattle.spec.proofs.Choice.{and_left, and_right, and_both}
+use Rattle.spec.proofs.Choice.{and_left, and_right}
 use Rattle.spec.proofs.MapLaws.{map_length, marked_length}
 use Rattle.spec.proofs.WalkLaws.{live_inside, needle_at, byte_at}
 use Rattle.spec.proofs.FirstLaws.{LeastOf, NoneOf, Says, found_least, least_found, found_none, none_found, sought_least, least_sought, sought_none, none_sought}
@@ -80,7 +81,7 @@ byte_says xs b =
           record { is_live_lem = eqb-true (get_or (map_of xs) k 1) 0 (and_left l m e); is_byte = eqb-true (get_or xs k 0) b (and_right l m e) };
       complete = λ k r.
           byte_at b xs (map_of xs) (map_length xs) k
-          ∙ and_both (eqb (get_or (map_of xs) k 1) 0) (eqb (get_or xs k 0) b) (eq-eqb (get_or (map_of xs) k 1) 0 r.is_live_lem) (eq-eqb (get_or xs k 0) b r.is_byte);
+          ∙ and_from (eqb (get_or (map_of xs) k 1) 0) (eqb (get_or xs k 0) b) (eq-eqb (get_or (map_of xs) k 1) 0 r.is_live_lem) (eq-eqb (get_or xs k 0) b r.is_byte);
       inside = λ k r. omega (arith, live_inside (map_of xs) k r.is_live_lem, map_length xs, marked_length xs (map_of xs));
     }
 
@@ -124,7 +125,7 @@ needle_says xs w =
           };
       complete = λ k r.
           needle_at w xs (map_of xs) (map_length xs) k
-          ∙ and_both (eqb (get_or (map_of xs) k 1) 0) (prefix_by (λ (b : ℕ). b) w (drop k xs))
+          ∙ and_from (eqb (get_or (map_of xs) k 1) 0) (prefix_by (λ (b : ℕ). b) w (drop k xs))
           (eq-eqb (get_or (map_of xs) k 1) 0 r.is_live_lem)
           (at_prefix (λ (b : ℕ). b) w xs k r.matches);
       inside = λ k r. omega (arith, live_inside (map_of xs) k r.is_live_lem, map_length xs, marked_length xs (map_of xs));

@@ -1,5 +1,6 @@
 -- Spans: each has at least one byte and at most the text's, and the row of spans is the text; where the search for a
 -- delimiter stops. Assumes nothing.
+use Rattle.std.proofs.lemmas.Bool.{cond_both}
 use mathlib.Core.Path.{◌≡◌, refl, sym, ap, ◌∙◌}
 use mathlib.Core.Bool.{Bool, true, false, cond, not, false≢true}
 use mathlib.Core.List.{List, [], ◌∷◌, ◌++◌, map}
@@ -9,8 +10,7 @@ use borrow.Author.Tests.{eqb-true, eq-eqb, ne_eqb}
 use lib.Dec.{eqb}
 use lib.ListN.{length, take, drop, get_or, length-drop, take-append-drop}
 use lib.Seq.{length-take-le, drop-nil}
-use Rattle.spec.proofs.AheadLaws.{rest_of}
-use Rattle.spec.proofs.Choice.{by, cond_case, cond_le, and_right}
+use Rattle.spec.proofs.Choice.{by, cond_le, and_right}
 use Rattle.spec.specs.Bytes.{is_digit, is_ident, is_pair, is_prefix}
 use Rattle.spec.specs.Lists.{concat}
 use Rattle.spec.specs.declared.Span.TheVariants.{Verbatim, Dollar, Code}
@@ -105,7 +105,7 @@ dollar_le n xs h =
     let b = seek_le (take n xs) (drop n xs) in
     let shut = is_prefix (take n xs) (drop k (drop n xs)) in
     let last : cond shut n 0 ≤ length xs - (n + k) =
-    cond_case (λ (m : ℕ). m ≤ length xs - (n + k)) shut n 0
+    cond_both shut n 0 (λ (m : ℕ). m ≤ length xs - (n + k))
     (λ e. omega (arith, prefix_len (take n xs) (drop k (drop n xs)) e, length-take-le n xs h, length-drop k (drop n xs), length-drop n xs))
     (λ e. zero-le) in
     omega (arith, last, b, length-drop n xs)
@@ -121,11 +121,11 @@ pub by_kind : (xs : List ℕ) (P : Kind → Type 0)
     → P (kind_at xs)
 unfolding kind_at
 by_kind xs P l b s d o c =
-    cond_case P (is_pair 45 45 (get_or xs 0 0) (get_or xs 1 0)) _ _ l
-    (λ _. cond_case P (is_pair 47 42 (get_or xs 0 0) (get_or xs 1 0)) _ _ b
-    (λ _. cond_case P (eqb (get_or xs 0 0) 39) _ _ s
-    (λ _. cond_case P (eqb (get_or xs 0 0) 34) _ _ d
-    (λ _. cond_case P (opens_dollar xs) _ _ o (λ _. c)))))
+    cond_both (is_pair 45 45 (get_or xs 0 0) (get_or xs 1 0)) _ _ P l
+    (λ _. cond_both (is_pair 47 42 (get_or xs 0 0) (get_or xs 1 0)) _ _ P b
+    (λ _. cond_both (eqb (get_or xs 0 0) 39) _ _ P s
+    (λ _. cond_both (eqb (get_or xs 0 0) 34) _ _ P d
+    (λ _. cond_both (opens_dollar xs) _ _ P o (λ _. c)))))
 
 -- a span has at most the text's length
 pub span_le : (xs : List ℕ) → 0 < length xs → span_len (span_at xs) ≤ length xs
@@ -184,10 +184,6 @@ tiles_from (suc k) (c ∷ cs) = tiles_from k cs
 pub tiles : (xs : List ℕ) → concat (map (λ (l : Lexeme). l.text) (lexemes xs)) ≡ xs
 unfolding lexemes
 tiles xs = tiles_from 0 xs
-
--- what is found behind n bytes stands within the text
-pub seek_rest : (p xs : List ℕ) (n : ℕ) → n ≤ length xs → n + seek_len p (take (length xs - n) (drop n xs)) ≤ length xs
-seek_rest p xs n h = rw rest_of (omega (arith, seek_le p (drop n xs), length-drop n xs))
 
 -- the span in front by the tests on it, made one after the other
 module _ (xs : List ℕ) (c d : ℕ) (hc : c ≡ get_or xs 0 0) (hd : d ≡ get_or xs 1 0) where

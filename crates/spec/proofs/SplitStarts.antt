@@ -1,4 +1,5 @@
 -- The starts of the pieces in document 01's words: they rise, and each is one behind a live separator. Assumes nothing.
+use Rattle.std.proofs.lemmas.Bool.{cond_both}
 use mathlib.Core.Path.{◌≡◌, refl, ap, ◌∙◌}
 use mathlib.Core.Bool.{true}
 use mathlib.Core.List.{List, [], ◌∷◌}
@@ -8,7 +9,7 @@ use native.Mathlib.Omega.{arith}
 use borrow.Author.Tests.{eqb-true, eqb-false}
 use lib.Dec.{eqb}
 use lib.ListN.{length, get_or}
-use Rattle.spec.proofs.Choice.{by, cond_case}
+use Rattle.spec.proofs.Choice.{by}
 use Rattle.spec.proofs.MapLaws.{text_length}
 use Rattle.spec.proofs.WalkLaws.{climb, passes_at, cuts_from, cuts_at, starts_cuts, cuts_end, cuts_hit, cuts_miss}
 use Rattle.spec.proofs.FirstLaws.{NoneOf}
@@ -61,7 +62,7 @@ unfolding cuts_from
 cuts_rise p back [] = λ k h. absurd (omega arith)
 cuts_rise p back (x ∷ u) =
     let more = cuts_rise p (x ∷ back) u in
-    cond_case (λ (l : List ℕ). Rises (length back ∷ l)) (p back (x ∷ u)) _ _
+    cond_both (p back (x ∷ u)) _ _ (λ (l : List ℕ). Rises (length back ∷ l))
     (λ e. rises_front (length back) (suc (length back)) (cuts_from p (x ∷ back) u) (omega arith) more)
     (λ e. rises_over (length back) (suc (length back)) (cuts_from p (x ∷ back) u) (omega arith) more)
 
@@ -72,7 +73,7 @@ cuts_within p back [] = λ k h. absurd (omega arith)
 cuts_within p back (x ∷ u) =
     let n : suc (length back) + length u ≡ length back + suc (length u) = omega arith in
     let more : AtMost (length back + suc (length u)) (cuts_from p (x ∷ back) u) = rw n at (cuts_within p (x ∷ back) u) in
-    cond_case (λ (l : List ℕ). AtMost (length back + suc (length u)) l) (p back (x ∷ u)) _ _
+    cond_both (p back (x ∷ u)) _ _ (λ (l : List ℕ). AtMost (length back + suc (length u)) l)
     (λ e. most_front (length back + suc (length u)) (suc (length back)) (cuts_from p (x ∷ back) u) (omega arith) more)
     (λ e. more)
 

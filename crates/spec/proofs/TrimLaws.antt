@@ -5,7 +5,7 @@ use mathlib.Core.List.{List, [], ◌∷◌}
 use Prim.Native.Nat.{ℕ, zero, suc, ◌+◌, ◌-◌, ◌≤◌, ◌<◌}
 use native.Mathlib.Nat.{le_of_suc-le-suc}
 use native.Mathlib.Omega.{arith}
-use borrow.Author.Tests.{eqb-true, eqb-false, eq-eqb, ne_eqb, ltb-true, ltb-false}
+use borrow.Author.Tests.{eqb-true, eqb-false, eq-eqb, ne_eqb, ltb-true, ltb-false, both_ways}
 use lib.Dec.{eqb, ltb}
 use lib.ListN.{length, take, drop, get_or, length-drop}
 use lib.Seq.{get_or-drop, take-take}
@@ -13,7 +13,6 @@ use Rattle.spec.proofs.AheadLaws.{drop_take}
 use Rattle.spec.proofs.BytesLaws.{bytes_drop, while_length_bytes, end_length_bytes}
 use Rattle.spec.proofs.Choice.{by, neither_less}
 use Rattle.spec.proofs.EndLaws.{drop_end_take}
-use Rattle.spec.proofs.FirstLaws.{fails_not}
 use Rattle.spec.proofs.ListLaws.{empty_length, drop_end_le}
 use Rattle.spec.proofs.WalkLaws.{while_drop, while_length, while_passes, while_fails, while_exactly}
 use Rattle.spec.specs.Bytes.{is_w}
@@ -74,8 +73,8 @@ module _ {A : Type 0} (f : A → Bool) where
   end_exactly t d n h g e =
       let m = length (drop_end f t) in
       neither_less m n
-      (λ b. fails_not (end_passes t d (n - 1) (omega arith) (omega arith)) (e (omega arith)))
-      (λ b. fails_not (g (m - 1) (omega arith) (omega (arith, drop_end_le f t))) (end_last t d (omega arith)))
+      (λ b. both_ways _ (e (omega arith)) (end_passes t d (n - 1) (omega arith) (omega arith)))
+      (λ b. both_ways _ (end_last t d (omega arith)) (g (m - 1) (omega arith) (omega (arith, drop_end_le f t))))
 
 -- ---- W
 

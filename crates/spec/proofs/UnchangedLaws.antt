@@ -1,11 +1,11 @@
 -- Passes 1, 2 and 5: a text that has none of a pass's places comes through that pass byte for byte. Assumes nothing.
-use Rattle.std.specs.Prelude.{Some, None}
+use Rattle.std.specs.Prelude.{None}
+use Rattle.std.proofs.lemmas.Option.{none-some}
 use mathlib.Core.Path.{◌≡◌, refl, sym, ap, ◌∙◌}
 use mathlib.Core.Bool.{Bool, true, false, false≢true}
 use mathlib.Core.List.{List, [], ◌∷◌, map}
 use Prim.Native.Nat.{ℕ}
 use lib.ListN.{length}
-use Rattle.spec.proofs.Apart.{apart}
 use Rattle.spec.proofs.Choice.{by, or_left, or_right}
 use Rattle.spec.proofs.SpanLaws.{tiles}
 use Rattle.spec.proofs.MapLaws.{text_bytes}
@@ -59,9 +59,6 @@ pub requote_unchanged : (xs : List ℕ) → has_dollar xs ≡ false → requote_
 unfolding requote_pass
 requote_unchanged xs h = ap accepted (requoted_kept xs h)
 
-at_is_some : (i : ℕ) → Some i ≡ None → ⊥
-at_is_some i h = absurd (apart (cc))
-
 -- a search that finds none: the test fails at this place, and the search from the next one finds none
 pub none_here : (p : Test) (back : List Marked) (x : Marked) (t : List Marked)
     → first_from p back (x ∷ t) ≡ None
@@ -69,7 +66,7 @@ pub none_here : (p : Test) (back : List Marked) (x : Marked) (t : List Marked)
 unfolding first_from
 none_here p back x t h =
     by (p back (x ∷ t))
-    (λ e. absurd (at_is_some (length back) (rw e at h)))
+    (λ e. absurd (none-some (length back) (sym (rw e at h))))
     (λ e. e)
 
 pub none_behind : (p : Test) (back : List Marked) (x : Marked) (t : List Marked)

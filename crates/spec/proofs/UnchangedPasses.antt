@@ -1,6 +1,7 @@
 -- Passes 3 and 4, then all five: a text that has none of a pass's places comes through byte for byte, and the body call
 -- accepts it as it is. Assumes nothing.
 use Rattle.std.specs.Prelude.{Option, Some, None, Ok}
+use Rattle.std.proofs.lemmas.Bool.{cond_both, and_from}
 use mathlib.Core.Path.{◌≡◌, refl, sym, ap, ◌∙◌}
 use mathlib.Core.Bool.{Bool, true, false, cond, not, ◌&&◌, false≢true}
 use mathlib.Core.List.{List, [], ◌∷◌, ◌++◌, reverse_aux, append-nil, append_assoc}
@@ -8,7 +9,7 @@ use Prim.Native.Nat.{ℕ, ◌≤◌}
 use native.Mathlib.Omega.{arith}
 use lib.Dec.{eqb}
 use lib.ListN.{length}
-use Rattle.spec.proofs.Choice.{by, cond_case, and_left, and_right, and_both, or_left, or_right}
+use Rattle.spec.proofs.Choice.{by, and_left, and_right, or_left, or_right}
 use Rattle.spec.proofs.MapLaws.{text_bytes}
 use Rattle.spec.proofs.FirstFound.{first_some}
 use Rattle.spec.proofs.JoinedPieces.{joined, pieces_joined}
@@ -37,7 +38,7 @@ unfolding starts
 needle_front [] t u h = refl
 needle_front (a ∷ w) [] u h = absurd (false≢true h)
 needle_front (a ∷ w) (x ∷ t) u h =
-    and_both (eqb (byte x) a) (starts w (t ++ u)) (and_left (eqb (byte x) a) (starts w t) h)
+    and_from (eqb (byte x) a) (starts w (t ++ u)) (and_left (eqb (byte x) a) (starts w t) h)
     (needle_front w t u (and_right (eqb (byte x) a) (starts w t) h))
 
 -- a needle that stands at a place of a text stands there with more text behind, whatever stands before
@@ -47,7 +48,7 @@ needle_more : (w : List ℕ) (back past : List Marked) (x : Marked) (t u : List 
 unfolding needle_here front_live
 needle_more w back past x t u h =
     by (needle_here w back (x ∷ t))
-    (λ e. absurd (false≢true (sym h ∙ and_both (is_live x) (starts w (x ∷ (t ++ u)))
+    (λ e. absurd (false≢true (sym h ∙ and_from (is_live x) (starts w (x ∷ (t ++ u)))
     (and_left (is_live x) (starts w (x ∷ t)) e)
     (needle_front w (x ∷ t) u (and_right (is_live x) (starts w (x ∷ t)) e)))))
     (λ e. e)
@@ -123,7 +124,7 @@ unfolding bytes quote_walk
 walk_bytes q [] = refl
 walk_bytes q (c ∷ cs) =
     let e : byte (cond (eqb q 0 && not (is_quote c)) (live c) (quoted c)) ≡ c =
-    cond_case (λ x. byte x ≡ c) (eqb q 0 && not (is_quote c)) (live c) (quoted c) (λ _. refl) (λ _. refl) in
+    cond_both (eqb q 0 && not (is_quote c)) (live c) (quoted c) (λ x. byte x ≡ c) (λ _. refl) (λ _. refl) in
     rw e (ap (λ l. c ∷ l) (walk_bytes (quote_after q c) cs))
 
 select_kept : (t : List Marked) → has_select_into t ≡ false → select_statement t ≡ t

@@ -1,5 +1,6 @@
 -- The content of a RAISE whose action is not drop, in document 01's words and by its offsets: what is refused and what is
 -- rewritten is exactly that, and the word is the action's. Assumes nothing.
+use Rattle.std.proofs.lemmas.Bool.{and_from}
 use mathlib.Core.Path.{◌≡◌, refl, sym, ap, ◌∙◌, subst}
 use mathlib.Core.Bool.{Bool, true, false, cond, ◌&&◌, false≢true}
 use mathlib.Core.Logic.{◌↔◌}
@@ -14,7 +15,7 @@ use Rattle.spec.proofs.AheadLaws.{drop_front}
 use Rattle.spec.proofs.Apart.{apart}
 use Rattle.spec.proofs.ByteSets.{sign_not_w, letter_not_w, upper_cases}
 use Rattle.spec.proofs.BytesLaws.{bytes_drop}
-use Rattle.spec.proofs.Choice.{by, and_left, and_right, and_both}
+use Rattle.spec.proofs.Choice.{by, and_left, and_right}
 use Rattle.spec.proofs.ListLaws.{empty_length, while_sum}
 use Rattle.spec.proofs.MessagePlaces.{IsMessage, message_some, message_part, message_within, message_quote}
 use Rattle.spec.proofs.RefusalBounds.{bytes_length}
@@ -195,9 +196,9 @@ module _ (t : List Marked) (a b c : ℕ)
       let s = is_empty (drop_while (of_byte is_w) (drop (c + length (message (drop c t))) t)) in
       let n = (message_from t c d w.is_message).1 in
       let rest : s ≡ true = rw n (w_rest t (c + d) w.only_space) in
-      and_both p (q && (r && s)) (matches_starts t (ascii "MESSAGE") a w.at_message)
-      (and_both q (r && s) (eq-eqb (get_or (bytes t) b 0) 61 w.at_equals)
-      (and_both r s (eq-eqb (get_or (bytes t) c 0) 39 w.at_quote) rest))
+      and_from p (q && (r && s)) (matches_starts t (ascii "MESSAGE") a w.at_message)
+      (and_from q (r && s) (eq-eqb (get_or (bytes t) b 0) 61 w.at_equals)
+      (and_from r s (eq-eqb (get_or (bytes t) c 0) 39 w.at_quote) rest))
 
 -- ---- what becomes of the content
 

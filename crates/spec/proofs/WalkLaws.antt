@@ -1,9 +1,10 @@
 -- A text read from an index on: what stands there, one step of each search, of `take_while` and `drop_while`, and the pieces
 -- up to a separator, for every test. Assumes nothing.
 use Rattle.std.specs.Prelude.{Some, None}
+use Rattle.std.proofs.lemmas.List.{get_or_default, drop_more}
 use mathlib.Core.Path.{◌≡◌, refl, sym, ap, ◌∙◌}
 use mathlib.Core.Bool.{Bool, true, false, cond, not, ◌&&◌, false≢true}
-use mathlib.Core.List.{List, [], ◌∷◌, ◌++◌, map, reverse, reverse-append}
+use mathlib.Core.List.{List, [], ◌∷◌, ◌++◌, reverse, reverse-append}
 use Prim.Native.Nat.{ℕ, zero, suc, ◌+◌, ◌-◌, ◌≤◌, ◌<◌, zero-le, suc-le-suc}
 use native.Mathlib.Nat.{le_of_suc-le-suc}
 use native.Mathlib.Numerals.{add-one}
@@ -12,12 +13,11 @@ use borrow.Author.Tests.{ltb-true, ltb-false, eqb-true, eq-eqb, ne_eqb}
 use lib.Dec.{eqb, ltb, eqb-suc-zero}
 use lib.ListN.{length, take, drop, get_or, length-reverse, length-drop, drop_of_length-le, get_or-eq_default}
 use lib.Seq.{length-take-le, take-suc, drop-nil, get_or-drop, drop-drop}
-use Rattle.spec.proofs.AheadLaws.{drop_one}
 use Rattle.spec.proofs.Choice.{by, neither_less, and_left, and_right}
 use Rattle.spec.proofs.MapLaws.{mark_byte, map_length, marked_length, marked_bytes}
 use Rattle.spec.specs.Bytes.{is_prefix, upper, is_word, is_n, prefix_by}
 use Rattle.spec.specs.Lists.{take_while, drop_while}
-use Rattle.spec.specs.Map.{Marked, live, quoted, byte, is_live, mark, map_of, marked, marked_text, bytes, front_byte, front_live, is_live_byte}
+use Rattle.spec.specs.Map.{Marked, live, quoted, byte, is_live, mark, map_of, marked, marked_text, bytes, front_byte, front_live}
 use Rattle.spec.specs.Search.{Test, first_from, first, starts_ignoring_case, starts, word_here, byte_here, needle_here, is_skipped, is_word_mark, onto_first, pieces_from, starts_from}
 use Rattle.spec.specs.Answers.{kept_behind}
 
@@ -45,17 +45,6 @@ before_next t i h = rw (back_step t i (live 0) h) refl
 pub back_length : {A : Type 0} (t : List A) (i : ℕ) → i ≤ length t → length (reverse (take i t)) ≡ i
 back_length t i h = length-reverse (take i t) ∙ length-take-le i t h
 
--- within a list the default does not matter
-pub any_default : {A : Type 0} (l : List A) (i : ℕ) (d e : A) → i < length l → get_or l i d ≡ get_or l i e
-any_default [] i d e h = absurd (omega arith)
-any_default (x ∷ l) zero d e h = refl
-any_default (x ∷ l) (suc i) d e h = any_default l i d e (le_of_suc-le-suc h)
-
-pub map_take : {A B : Type 0} (f : A → B) (n : ℕ) (l : List A) → map f (take n l) ≡ take n (map f l)
-map_take f zero l = refl
-map_take f (suc n) [] = refl
-map_take f (suc n) (x ∷ l) = ap (λ m. f x ∷ m) (map_take f n l)
-
 -- ---- a text beside a map
 
 -- a byte beside its map byte: its byte, and what each test of marked bytes says of it
@@ -70,10 +59,6 @@ mark_skipped (suc m) c = rw eqb-suc-zero refl
 pub mark_word : (m c : ℕ) → is_word_mark (mark m c) ≡ (eqb m 0 && is_word c)
 mark_word zero c = refl
 mark_word (suc m) c = rw eqb-suc-zero refl
-
-pub mark_live_byte : (b m c : ℕ) → is_live_byte b (mark m c) ≡ (eqb m 0 && eqb c b)
-mark_live_byte b zero c = refl
-mark_live_byte b (suc m) c = rw eqb-suc-zero refl
 
 -- dropping from a text beside its map drops from both
 pub marked_drop : (i : ℕ) (xs ms : List ℕ) → drop i (marked xs ms) ≡ marked (drop i xs) (drop i ms)
@@ -111,7 +96,7 @@ module _ (xs ms : List ℕ) (i : ℕ) (h : i < length xs) where
   -- what stands from i on, and what stands before i + 1 read backwards, by the byte at i
   pub marked_step : drop i (marked xs ms) ≡ mark (get_or ms i 0) (get_or xs i 0) ∷ drop (i + 1) (marked xs ms)
   marked_step =
-      drop_one (marked xs ms) i (live 0) within_marked
+      drop_more (marked xs ms) i (live 0) within_marked
       ∙ ap (λ (x : Marked). x ∷ drop (i + 1) (marked xs ms)) (marked_at_lem xs ms i (live 0) h)
 
   pub marked_back : reverse (take (i + 1) (marked xs ms)) ≡ mark (get_or ms i 0) (get_or xs i 0) ∷ reverse (take i (marked xs ms))
@@ -149,7 +134,7 @@ live_at xs ms e j =
     (λ q.
     let h = ltb-true j (length xs) q in
     let k : j < length ms = omega arith in
-    front_live_lem xs ms j h ∙ ap (λ (m : ℕ). eqb m 0) (any_default ms j 0 1 k))
+    front_live_lem xs ms j h ∙ ap (λ (m : ℕ). eqb m 0) (get_or_default ms j 0 1 k))
     (λ q.
     let h = ltb-false j (length xs) q in
     let k : length ms ≤ j = omega arith in
@@ -210,13 +195,9 @@ module _ (f : ℕ → ℕ) (w xs : List ℕ) (k i : ℕ) where
   prefix_whole h = rw (drop_of_length-le w h) refl
 
   module _ (h : k < length w) where
-    pub prefix_short : length xs ≤ i → prefix_by f (drop k w) (drop i xs) ≡ false
-    unfolding prefix_by
-    prefix_short m = rw (drop_of_length-le xs m, drop_one w k 0 h) refl
-
     pub prefix_step : i < length xs → prefix_by f (drop k w) (drop i xs) ≡ (eqb (f (get_or xs i 0)) (f (get_or w k 0)) && prefix_by f (drop (k + 1) w) (drop (i + 1) xs))
     unfolding prefix_by
-    prefix_step m = rw (drop_one w k 0 h, drop_one xs i 0 m) refl
+    prefix_step m = rw (drop_more w k 0 h, drop_more xs i 0 m) refl
 
     pub prefix_hit : i < length xs → f (get_or xs i 0) ≡ f (get_or w k 0) → prefix_by f (drop k w) (drop i xs) ≡ prefix_by f (drop (k + 1) w) (drop (i + 1) xs)
     prefix_hit m e = prefix_step m ∙ rw (eq-eqb (f (get_or xs i 0)) (f (get_or w k 0)) e) refl
@@ -308,7 +289,7 @@ module _ (p : Test) (t : List Marked) (i : ℕ) where
     pub first_miss : passes_at p t i ≡ false → first p i t ≡ first p (i + 1) t
     unfolding first
     first_miss e =
-        let d = drop_one t i (live 0) h in
+        let d = drop_more t i (live 0) h in
         front_miss p (reverse (take i t)) (drop i t) (drop (i + 1) t) (get_or t i (live 0)) d e
         ∙ ap (λ (b : List Marked). first_from p b (drop (i + 1) t)) (sym (back_step t i (live 0) h))
 
@@ -395,10 +376,10 @@ module _ {A : Type 0} (f : A → Bool) where
 
     module _ (d : A) (h : i < length t) where
       pub while_hit : f (get_or t i d) ≡ true → take_while f (drop i t) ≡ get_or t i d ∷ take_while f (drop (i + 1) t)
-      while_hit e = ap (λ (l : List A). take_while f l) (drop_one t i d h) ∙ take_front (get_or t i d) (drop (i + 1) t) e
+      while_hit e = ap (λ (l : List A). take_while f l) (drop_more t i d h) ∙ take_front (get_or t i d) (drop (i + 1) t) e
 
       pub while_miss : f (get_or t i d) ≡ false → take_while f (drop i t) ≡ []
-      while_miss e = ap (λ (l : List A). take_while f l) (drop_one t i d h) ∙ take_stop (get_or t i d) (drop (i + 1) t) e
+      while_miss e = ap (λ (l : List A). take_while f l) (drop_more t i d h) ∙ take_stop (get_or t i d) (drop (i + 1) t) e
 
       pub while_length_hit : f (get_or t i d) ≡ true → length (take_while f (drop i t)) ≡ suc (length (take_while f (drop (i + 1) t)))
       while_length_hit e = ap length (while_hit e)
@@ -452,12 +433,12 @@ module _ (p : Test) (t : List Marked) (i : ℕ) where
   module _ (h : i < length t) where
     pub pieces_hit : passes_at p t i ≡ true → pieces_at p t i ≡ [] ∷ pieces_at p t (i + 1)
     pieces_hit e =
-        cut_front p (reverse (take i t)) (drop i t) (drop (i + 1) t) (get_or t i (live 0)) (drop_one t i (live 0) h) e
+        cut_front p (reverse (take i t)) (drop i t) (drop (i + 1) t) (get_or t i (live 0)) (drop_more t i (live 0) h) e
         ∙ ap (λ (b : List Marked). [] ∷ pieces_from p b (drop (i + 1) t)) (sym (back_step t i (live 0) h))
 
     pub pieces_miss : passes_at p t i ≡ false → pieces_at p t i ≡ onto_first (get_or t i (live 0)) (pieces_at p t (i + 1))
     pieces_miss e =
-        onto_front p (reverse (take i t)) (drop i t) (drop (i + 1) t) (get_or t i (live 0)) (drop_one t i (live 0) h) e
+        onto_front p (reverse (take i t)) (drop i t) (drop (i + 1) t) (get_or t i (live 0)) (drop_more t i (live 0) h) e
         ∙ ap (λ (b : List Marked). onto_first (get_or t i (live 0)) (pieces_from p b (drop (i + 1) t))) (sym (back_step t i (live 0) h))
 
 -- up to the first place at or behind i that passes, there is one piece, and behind that place the pieces go on
@@ -480,7 +461,7 @@ pieces_cut p t i j =
     rw one
     (pieces_miss p t k h q
     ∙ (ap (λ (ps : List (List Marked)). onto_first (get_or t k (live 0)) ps) (more r)
-    ∙ ap (λ (l : List Marked). take (suc (j - (k + 1))) l ∷ pieces_at p t (j + 1)) (sym (drop_one t k (live 0) h))))))
+    ∙ ap (λ (l : List Marked). take (suc (j - (k + 1))) l ∷ pieces_at p t (j + 1)) (sym (drop_more t k (live 0) h))))))
     i
 
 -- where none passes, there is one piece
@@ -495,7 +476,7 @@ pieces_last p t i =
     (λ q.
     pieces_miss p t k h q
     ∙ (ap (λ (ps : List (List Marked)). onto_first (get_or t k (live 0)) ps) (more (sym (first_miss p t k h q) ∙ e))
-    ∙ ap (λ (l : List Marked). l ∷ []) (sym (drop_one t k (live 0) h)))))
+    ∙ ap (λ (l : List Marked). l ∷ []) (sym (drop_more t k (live 0) h)))))
     i
 
 -- ---- where the pieces start, at an index
@@ -551,11 +532,11 @@ module _ (p : Test) (t : List Marked) (i : ℕ) where
     pub cuts_hit : passes_at p t i ≡ true → cuts_at p t i ≡ (i + 1) ∷ cuts_at p t (i + 1)
     cuts_hit e =
         let n : suc (length (reverse (take i t))) ≡ i + 1 = omega (arith, back_length t i (omega arith)) in
-        cuts_front p (reverse (take i t)) (drop i t) (drop (i + 1) t) (get_or t i (live 0)) (drop_one t i (live 0) h) e
+        cuts_front p (reverse (take i t)) (drop i t) (drop (i + 1) t) (get_or t i (live 0)) (drop_more t i (live 0) h) e
         ∙ (ap (λ (b : List Marked). suc (length (reverse (take i t))) ∷ cuts_from p b (drop (i + 1) t)) (sym (back_step t i (live 0) h))
         ∙ ap (λ (k : ℕ). k ∷ cuts_at p t (i + 1)) n)
 
     pub cuts_miss : passes_at p t i ≡ false → cuts_at p t i ≡ cuts_at p t (i + 1)
     cuts_miss e =
-        cuts_past p (reverse (take i t)) (drop i t) (drop (i + 1) t) (get_or t i (live 0)) (drop_one t i (live 0) h) e
+        cuts_past p (reverse (take i t)) (drop i t) (drop (i + 1) t) (get_or t i (live 0)) (drop_more t i (live 0) h) e
         ∙ ap (λ (b : List Marked). cuts_from p b (drop (i + 1) t)) (sym (back_step t i (live 0) h))

@@ -5,7 +5,8 @@ ghost use Rattle.std.specs.Prelude.{◌≡◌};
 ghost use Rattle.spec.specs.Answers.{refusal_numbers};
 ghost use Rattle.spec.specs.Raise.{at_all, at_level, with_level};
 
-// A dollar literal: its length, where its inside starts and how long that is, and whether it is closed.
+// A dollar literal: its length, where its inside starts and how long that is, and whether it is closed. The two numbers are no
+// `runs::Place`: that crate stands on this one.
 #[derive(Clone, Copy)]
 pub struct DollarQuoted {
     pub span: usize,
@@ -85,14 +86,15 @@ pub enum RaiseType {
     Rollback,
 }
 
-// What becomes of a RAISE of some level: it vanishes, or it becomes SQLite's RAISE with this word.
+// What becomes of a RAISE of some level: it vanishes, or it becomes SQLite's RAISE with this word. No `Option`: `drop` is an action
+// that a table names, as `abort` is, and a table may name none for a level.
 #[derive(Clone, Copy)]
 pub enum Action {
     Drop,
     Raise(RaiseType),
 }
 
-// A refusal's number, place and length of what the output holds.
+// A refusal's number, place and length of what the output holds: a constructor, which each arm of the `From` below calls.
 fn told(number: u32, place: usize, length: usize) -> RefusalNumbers
     ensures { result ≡ record { number = number; place = place; length = length } }
 {

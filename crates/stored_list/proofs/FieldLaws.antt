@@ -13,10 +13,9 @@ use Rattle.std.specs.Slice.{IsGetRangeResult}
 use Rattle.std.specs.List.{prefix_len, position_or_len, slice_get}
 use Rattle.std.proofs.Common.{Option, Some, None, inl, inr}
 use lib.Seq.{take_all, take-nil}
-use Rattle.std.proofs.lemmas.List.{get_or-drop}
+use Rattle.std.proofs.lemmas.List.{get_or-drop, take_rest}
 use Rattle.std.proofs.lemmas.Option.{unwrap_or-slice_get}
 use Rattle.std.proofs.lemmas.List.Sums.{prefix_len_passes, prefix_len_stops, prefix_len-le-length}
-use Rattle.spec.proofs.AheadLaws.{rest_of}
 use Rattle.spec.proofs.Choice.{by}
 use Rattle.stored_list.specs.Fields.{part_of, place_of}
 
@@ -83,7 +82,7 @@ module _ (b : ℕ) (xs : List ℕ) (i : ℕ) where
   rest_get r d h k =
       part_get i (length xs) xs r d h k
       ∙ by (leb i (length xs))
-      (λ t. part_in i (length xs) xs (omega arith) (leb-true i (length xs) t) ∙ rest_of xs i)
+      (λ t. part_in i (length xs) xs (omega arith) (leb-true i (length xs) t) ∙ take_rest xs i)
       (λ t. let n = leb-false i (length xs) t in part_back i (length xs) xs n ∙ sym (drop_of_length-le xs (omega arith)))
 
 -- ---- fields

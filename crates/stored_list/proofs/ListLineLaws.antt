@@ -1,68 +1,59 @@
 -- The lines in a buffer. Assumes nothing.
 use mathlib.Core.Path.{◌≡◌, refl, sym, ap, ◌∙◌}
-use mathlib.Core.Bool.{true, false, false≢true}
+use mathlib.Core.Bool.{true, false, cond, false≢true}
 use mathlib.Core.List.{List, [], ◌∷◌, ◌++◌}
 use Prim.Native.Nat.{ℕ, ◌-◌, ◌≤◌, ◌<◌, ◌+◌}
 use native.Mathlib.Omega.{arith}
-use borrow.Author.Tests.{lt-ltb, le-ltb, ltb-true}
+use borrow.Author.Tests.{ltb-true, lt-ltb}
 use lib.Dec.{ltb}
 use lib.ListN.{length, take, drop, get_or, length-take, length-drop}
 use lib.Seq.{sets, get_or-take}
 use denote.Ref.{Bor}
-use Rattle.std.specs.List.{All, FoldsTo}
-use Rattle.std.proofs.Common.{Option, Some, None, IfSome, subst}
+use Rattle.std.specs.List.{All}
+use Rattle.std.proofs.Common.{Option, Some, None, IfSome}
 use Rattle.std.proofs.lemmas.List.{get_or-drop}
+use Rattle.std.proofs.lemmas.Option.{none-some}
 use Rattle.std.proofs.lemmas.List.Elements.{All-append}
+use Rattle.std.proofs.lemmas.Fn.{FoldsTo-push}
 use Rattle.output.proofs.StoreLaws.{front_stored}
 use Rattle.spec.proofs.Choice.{by}
 use Rattle.stored_list.specs.Fields.{part_of, place_of}
 use Rattle.stored_list.proofs.FieldLaws.{part_in, place_ge, place_at, place_before}
-use Rattle.stored_list.specs.ListLines.{line_at, start_after, newline_at, first_line, FirstRead, left_after, is_held, NextLine, LineIn, IsWhole, HandsLines}
+use Rattle.stored_list.specs.ListLines.{line_at, start_after, newline_at, line_from, first_line, FirstRead, left_after, is_held, NextLine, LineIn, IsWhole, HandsLines}
 use Rattle.stored_list.specs.declared.lines.Line.{Line}
 
--- ---- lines, from what the code computes: the bytes read are p, and e is where the next newline stands in them
+-- ---- lines, from what the code computes
 
-module _ (n i e : ℕ) (xs p : List ℕ) (a : p ≡ part_of 0 n xs) (b : e ≡ place_of 10 i p) where
-  newline_at_lem : e ≡ newline_at n i xs
-  unfolding newline_at
-  newline_at_lem = b ∙ ap (λ (l : List ℕ). place_of 10 i l) a
+-- where the next newline stands in the bytes read
+pub newline_read : (n i : ℕ) (xs : List ℕ) → place_of 10 i (part_of 0 n xs) ≡ newline_at n i xs
+unfolding newline_at
+newline_read n i xs = refl
 
-module _ (n e : ℕ) (xs p : List ℕ) (r : Option Line) (a : p ≡ part_of 0 n xs) (b : e ≡ place_of 10 0 p) where
-  pub first_found : e < n → r ≡ Some (line_at 0 e n) → r ≡ first_line n xs
-  unfolding first_line
-  first_found h k = rw (sym (newline_at_lem n 0 e xs p a b), lt-ltb e n h) k
+module _ (xs : List ℕ) (b : Line) (s : ℕ) (j : s ≡ start_after b) (r : Option Line) (a : r ≡ line_from s b.filled xs) where
+  line_read : r ≡ cond (is_held b xs) (Some (line_at (start_after b) (newline_at b.filled (start_after b) xs) b.filled)) None
+  unfolding line_from is_held
+  line_read = rw j at a
 
-  pub first_none : n ≤ e → r ≡ None → r ≡ first_line n xs
-  unfolding first_line
-  first_none h k = rw (sym (newline_at_lem n 0 e xs p a b), le-ltb e n h) k
+  pub next_held : (l : Line) → r ≡ Some l → NextLine xs b xs (Some l)
+  next_held l q =
+      by (is_held b xs)
+      (λ t. let e = rw t at line_read in record { held = λ _. (refl, sym q ∙ e); read = λ f. absurd (false≢true (sym f ∙ t)) })
+      (λ t. let e = rw t at line_read in absurd (none-some l (sym e ∙ q)))
 
-module _ (xs p : List ℕ) (b : Line) (r : Option Line) (s e : ℕ) (j : s ≡ start_after b) (a : p ≡ part_of 0 b.filled xs) (k : e ≡ place_of 10 s p) where
-  next_end : e ≡ newline_at b.filled (start_after b) xs
-  next_end = newline_at_lem b.filled s e xs p a k ∙ ap (λ (m : ℕ). newline_at b.filled m xs) j
-
-  held : e < b.filled → is_held b xs ≡ true
-  unfolding is_held
-  held h = rw (sym next_end) (lt-ltb e b.filled h)
-
-  not_held : b.filled ≤ e → is_held b xs ≡ false
-  unfolding is_held
-  not_held h = rw (sym next_end) (le-ltb e b.filled h)
+  not_held : r ≡ None → is_held b xs ≡ false
+  not_held q =
+      by (is_held b xs)
+      (λ t. let e = rw t at line_read in absurd (none-some _ (sym q ∙ e)))
+      (λ t. t)
 
   left_after_lem : drop s (take b.filled xs) ≡ left_after b xs
   unfolding left_after
   left_after_lem = ap (λ (m : ℕ). drop m (take b.filled xs)) j
 
-  pub next_held : e < b.filled → r ≡ Some (line_at s e b.filled) → NextLine xs b xs r
-  next_held h q =
-      record {
-        held = λ _. (refl, q ∙ rw (next_end, j) refl);
-        read = λ f. absurd (false≢true (sym f ∙ held h));
-      }
-
   module _ (mid ys : List ℕ) (left : ℕ) where
-    pub next_read : b.filled ≤ e → left ≡ length (drop s (take b.filled xs))
-        → mid ≡ sets xs 0 (drop s (take b.filled xs)) → FirstRead left ys r → take left ys ≡ take left mid → NextLine xs b ys r
-    next_read h l m f t =
+    pub next_read : (r' : Option Line) → r ≡ None → left ≡ length (drop s (take b.filled xs))
+        → mid ≡ sets xs 0 (drop s (take b.filled xs)) → FirstRead left ys r' → take left ys ≡ take left mid → NextLine xs b ys r'
+    next_read r' h l m f t =
         let w : left ≡ length (left_after b xs) = l ∙ ap length left_after_lem in
         let front : take left mid ≡ drop s (take b.filled xs) =
         front_stored xs mid (drop s (take b.filled xs)) left (sym l)
@@ -95,11 +86,16 @@ module _ (xs : List ℕ) (n s : ℕ) (h : n ≤ length xs) (k : newline_at n s x
       }
 
 first_in : (xs : List ℕ) (n : ℕ) (r : Option Line) → n ≤ length xs → r ≡ first_line n xs → IfSome r (LineIn xs)
-unfolding first_line
+unfolding line_from
 first_in xs n r h e =
     by (ltb (newline_at n 0 xs) n)
     (λ t. rw (e, t) (line_in xs n 0 h (ltb-true (newline_at n 0 xs) n t)))
     (λ t. rw (e, t) tt)
+
+-- a line that ends within what is filled is held, and the other way round
+pub is_held_lem : (xs : List ℕ) (b : Line) → newline_at b.filled (start_after b) xs < b.filled → is_held b xs ≡ true
+unfolding is_held
+is_held_lem xs b h = lt-ltb (newline_at b.filled (start_after b) xs) b.filled h
 
 held_end : (xs : List ℕ) (b : Line) → is_held b xs ≡ true → newline_at b.filled (start_after b) xs < b.filled
 unfolding is_held
@@ -113,18 +109,11 @@ next_in xs b ys r p h =
 
 -- ---- lines that are handed over
 
-folds_more : {P A : Type 0} (R : P → A → P → Type 0) (xs : List A) (x : A) (p q r : P) → FoldsTo R p xs q → R q x r → FoldsTo R p (xs ++ x ∷ []) r
-folds_more R [] x p q r f g = (r, subst (λ s. R s x r) (sym f) g, refl)
-folds_more R (y ∷ ys) x p q r f g = (f.0, f.1, folds_more R ys x f.0 q r f.2 g)
-
-pub hands_none : {F : Type 0} (step : F → Bor (List ℕ) → F → Type 0) (f : F) → HandsLines step f f
-hands_none step f = ([], (λ k d h. absurd (omega arith)), refl)
-
 pub hands_more : {F : Type 0} (step : F → Bor (List ℕ) → F → Type 0) (f g h : F) (x : Bor (List ℕ)) → HandsLines step f g
     → step g x h → IsWhole x.now → HandsLines step f h
 hands_more step f g h x e s w =
     let one : All (λ x. IsWhole x.now) (x ∷ []) = λ k d b. let z : k ≡ 0 = omega arith in rw z w in
-    (e.0 ++ x ∷ [], All-append (λ x. IsWhole x.now) e.0 (x ∷ []) e.1 one, folds_more step e.0 x f g h e.2 s)
+    (e.0 ++ x ∷ [], All-append (λ x. IsWhole x.now) e.0 (x ∷ []) e.1 one, FoldsTo-push step f e.0 g x h e.2 s)
 
 -- the bytes of a line
 pub whole_line : (xs bytes : List ℕ) (r : Line) → LineIn xs r → bytes ≡ part_of r.start r.end xs → IsWhole bytes

@@ -8,8 +8,8 @@ use lib.Dec.{ltb}
 use lib.ListN.{length, drop, get_or, drop_of_length-le}
 use Rattle.std.proofs.Common.{Some, None}
 use Rattle.std.specs.Option.{option_and_then}
-use Rattle.std.proofs.lemmas.List.{length-map}
-use Rattle.spec.proofs.AheadLaws.{drop_one, drop_two}
+use Rattle.std.proofs.lemmas.List.{length-map, drop_more}
+use Rattle.spec.proofs.AheadLaws.{drop_two}
 use Rattle.spec.proofs.Choice.{by}
 use Rattle.stored_list.specs.Numbers.{hex_digit, hex_pair, hex_bytes, with_digit, with_digits, number_of, counted}
 
@@ -24,7 +24,7 @@ module _ (xs : List ℕ) (i : ℕ) where
   unfolding hex_bytes
   hex_end h =
       by (ltb i (length xs))
-      (λ e. rw (drop_one xs i 0 (ltb-true i (length xs) e), drop_of_length-le xs h) refl)
+      (λ e. rw (drop_more xs i 0 (ltb-true i (length xs) e), drop_of_length-le xs h) refl)
       (λ e. rw (drop_of_length-le xs (ltb-false i (length xs) e)) refl)
 
 -- a turn of the loop over pairs of digits, from what the code computes
@@ -51,11 +51,11 @@ module _ (n : ℕ) (xs : List ℕ) (i : ℕ) where
   -- a turn of the loop, by what the next digit gives
   pub digit_some : (m : ℕ) → i < length xs → Some m ≡ with_digit n (get_or xs i 0) → with_digits n (drop i xs) ≡ with_digits m (drop (i + 1) xs)
   unfolding with_digits
-  digit_some m h q = rw (drop_one xs i 0 h) (ap (option_and_then (λ m'. with_digits m' (drop (i + 1) xs))) (sym q))
+  digit_some m h q = rw (drop_more xs i 0 h) (ap (option_and_then (λ m'. with_digits m' (drop (i + 1) xs))) (sym q))
 
   pub digit_none : i < length xs → None ≡ with_digit n (get_or xs i 0) → None ≡ with_digits n (drop i xs)
   unfolding with_digits
-  digit_none h q = rw (drop_one xs i 0 h) (ap (option_and_then (λ m. with_digits m (drop (i + 1) xs))) q)
+  digit_none h q = rw (drop_more xs i 0 h) (ap (option_and_then (λ m. with_digits m (drop (i + 1) xs))) q)
 
   pub digits_end : length xs ≤ i → Some n ≡ with_digits n (drop i xs)
   unfolding with_digits

@@ -58,9 +58,9 @@ pub run_fields : (j : ℕ) (line times hex : List ℕ) (n : ℕ) → times ≡ f
 unfolding run_at
 run_fields j line times hex n p q r = rw (q, p, r) refl
 
--- ---- the text of a run: what a buffer holds of it
+-- ---- a list that a line gives: what a buffer holds of it
 
-module _ (d d' vs : List ℕ) (k : ℕ) (p : d' ≡ sets d 0 vs) (q : k ≡ min (length vs) (length d)) where
+module _ {A : Type 0} (d d' vs : List A) (k : ℕ) (p : d' ≡ sets d 0 vs) (q : k ≡ min (length vs) (length d)) where
   pub held : take k d' ≡ take (length d) vs
   held =
       by (leb (length vs) (length d))
@@ -70,6 +70,5 @@ module _ (d d' vs : List ℕ) (k : ℕ) (p : d' ≡ sets d 0 vs) (q : k ≡ min 
       let u = take (length d) vs in
       let l : length u ≡ length d = length-take-le (length d) vs (omega arith) in
       let s : sets d 0 vs ≡ sets (sets d 0 u) (0 + length u) (drop (length d) vs) =
-      ap (λ (l : List ℕ). sets d 0 l) (sym (take-append-drop (length d) vs)) ∙ sets_append u (drop (length d) vs) d 0 in
-      front_stored d d' u k (omega arith) (omega arith)
-      (p ∙ (s ∙ sets_out (drop (length d) vs) (sets d 0 u) (0 + length u) (omega (arith, length-sets d 0 u)))))
+      ap (λ (l : List A). sets d 0 l) (sym (take-append-drop (length d) vs)) ∙ sets_append u (drop (length d) vs) d 0 in
+      front_stored d d' u k (omega arith) (omega arith) (p ∙ (s ∙ sets_out (drop (length d) vs) (sets d 0 u) (0 + length u) (omega (arith, length-sets d 0 u)))))

@@ -3,7 +3,7 @@ use Rattle.std.specs.Prelude.{◌≡◌, Bool, true, false, refl, ℕ, suc, zero
 use Rattle.std.proofs.Common.{sym, subst}
 use mathlib.Core.Bool.{false≢true}
 use Rattle.stored_list.specs.Fields.{field_of}
-use Rattle.stored_list.specs.Numbers.{number_of}
+use Rattle.stored_list.specs.Numbers.{counted}
 use Rattle.stored_list.specs.declared.fault.Fault.{Fault}
 
 -- another byte or number
@@ -17,14 +17,9 @@ other_differs b e =
     let same = λ (n : ℕ) (t : Bool) (p : n ≡ b) (q : eqb b 1 ≡ t). subst (λ (m : ℕ). eqb m 1 ≡ t) (sym p) q in
     (elim (eqb b 1) as P [ true ↦ λ q p. false≢true (same 2 true p q) | false ↦ λ q p. false≢true (sym (same 1 false p q)) ]) refl e
 
--- a place of a buffer; none if either is none
-abbrev pub fault_at : Option ℕ → Option ℕ → Option Fault
-fault_at None p = None
-fault_at (Some b) None = None
-fault_at (Some b) (Some p) = Some (record { buffer = b; place = p })
-
-abbrev pub fault_of : List ℕ → Option Fault
-fault_of line = fault_at (number_of (field_of 1 line)) (number_of (field_of 2 line))
+-- the place that the second and the third field of a line name
+abbrev pub fault_of : List ℕ → Fault
+fault_of line = record { buffer = counted (field_of 1 line); place = counted (field_of 2 line) }
 
 -- the list with f of the element at i there; past the end there is none
 unfoldable pub changed_at : {A : Type 0} → (A → A) → ℕ → List A → List A

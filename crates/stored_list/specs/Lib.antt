@@ -5,3 +5,4 @@ pub mod Runs
 pub mod Marks
 pub mod Fault
 pub mod Tally
+pub mod Answers

@@ -17,9 +17,13 @@ start_after b = cond (ltb b.end b.filled) (b.end + 1) b.end
 unfoldable pub newline_at : ℕ → ℕ → List ℕ → ℕ
 newline_at n i xs = place_of 10 i (part_of 0 n xs)
 
--- the first line of the n bytes at the front; without a newline there is none
-unfoldable pub first_line : ℕ → List ℕ → Option Line
-first_line n xs = cond (ltb (newline_at n 0 xs) n) (Some (line_at 0 (newline_at n 0 xs) n)) None
+-- the line from a place on, of the n bytes at the front; without a newline behind the place there is none
+unfoldable pub line_from : ℕ → ℕ → List ℕ → Option Line
+line_from i n xs = cond (ltb (newline_at n i xs) n) (Some (line_at i (newline_at n i xs) n)) None
+
+-- the first line of them
+abbrev pub first_line : ℕ → List ℕ → Option Line
+first_line n xs = line_from 0 n xs
 
 -- the line is the first one of the bytes at the front: those that were left, and what is read behind them, which is free
 abbrev pub FirstRead : ℕ → List ℕ → Option Line → Type 0

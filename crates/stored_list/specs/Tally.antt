@@ -11,6 +11,6 @@ one_more n = cond (ltb n 4294967295) (n + 1) n
 abbrev pub with_answer : Row → Bool → Row
 with_answer r agrees = record { compared = one_more r.compared; differ = cond agrees r.differ (one_more r.differ) }
 
--- one answer in a row, if the tally has it
+-- one answer in a row, if the tally has it; no row over 1000 counts
 abbrev pub noted : ℕ → Bool → List Row → List Row
-noted row agrees xs = changed_at (λ r. with_answer r agrees) row xs
+noted row agrees xs = cond (ltb 1000 row) xs (changed_at (λ r. with_answer r agrees) row xs)

@@ -2,8 +2,9 @@
 ghost use Rattle.std.specs.Prelude.{◌≡◌};
 ghost use Rattle.stored_list.specs.Fault.{changed_at, fault_of, injected};
 
-use crate::fields::{field, number};
+use crate::fields::field;
 use crate::marks::Mark;
+use crate::numbers::count;
 
 #[derive(Clone, Copy)]
 pub struct Fault {
@@ -12,14 +13,15 @@ pub struct Fault {
     pub place: usize,
 }
 
-// The second field of a line names the buffer, the third the place; none if one of them is no number.
-pub fn fault_of(line: &[u8]) -> Option<Fault>
+// The second field of a line names the buffer, the third the place. No buffer has a number or a place as large as what stands
+// for a field that is no number.
+pub fn fault_of(line: &[u8]) -> Fault
     ensures { result ≡ fault_of line.now }
 {
-    Some(Fault {
-        buffer: number(field(line, 1))?,
-        place: number(field(line, 2))?,
-    })
+    Fault {
+        buffer: count(field(line, 1)),
+        place: count(field(line, 2)),
+    }
 }
 
 // Changes the element at a place, if the buffer reaches so far.

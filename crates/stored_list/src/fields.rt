@@ -26,7 +26,7 @@ pub fn field(line: &[u8], k: usize) -> &[u8]
     line.split(|b| *b == b' ').nth(k).unwrap_or(&[])
 }
 
-// The value of a hex digit; 0 for any other byte.
+// The value of a hex digit; 0 for any other byte: no `Option`, since a field's other bytes stand for something too, `-` for one.
 #[tactic(auto, unfolding(crate::specs::Numbers::hex_digit, spec::specs::Bytes::within))]
 fn digit(b: u8) -> u8
     ensures upper_bound { result < 16 }
@@ -40,8 +40,8 @@ fn digit(b: u8) -> u8
 }
 
 // Puts the bytes that a field of hex digits stands for at the front of out, as far as it reaches, and gives their number.
-// The field `-` is the empty text. The library allocates nothing, so the buffer is lent; it is written by index, since a proof
-// knows no element behind `iter_mut`.
+// The field `-` is the empty text. The library allocates nothing, so the buffer is lent. It is written by index: a digit pair
+// would come by `iter_mut` behind an adapter, of whose elements a proof knows nothing.
 pub fn decode(hex: &[u8], out: &mut [u8]) -> usize
     ensures value { result ≡ min (length (hex_bytes hex.now)) (length out.old) }
     ensures out_after { out.new ≡ sets out.old 0 (hex_bytes hex.now) }

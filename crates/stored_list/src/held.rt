@@ -1,42 +1,54 @@
 // The texts and the numbers that the lines of a list give, each in a buffer of its own.
-ghost use Rattle.std.specs.Prelude.{◌≡◌, ◌≤◌, ℕ, List, [], take};
-ghost use Rattle.stored_list.specs.Numbers.{numbers_of};
-ghost use Rattle.stored_list.specs.Runs.{runs_of};
+ghost use Rattle.std.specs.Prelude.{◌≡◌, ◌≤◌, ℕ, List, [], length, min, take};
+ghost use Rattle.std.proofs.lemmas.List.Edits.{sets};
 
 use crate::marks::{START_NUMBERS, TEXT_BYTES};
-use crate::numbers::put_numbers;
-use crate::runs::put_runs;
 use std::marker::Model;
 
-// The library allocates nothing, and a generic struct holds no array of its parameter: so two structs over arrays.
+// What a line gives a list of: bytes or numbers.
+pub trait Listed: Copy + Default {
+    // The list that a line gives.
+    ghost listed: { List ℕ → List Self };
+
+    // Puts it at the front of out, as far as out reaches, and gives how many elements there are.
+    fn put_line(line: &[u8], out: &mut [Self]) -> usize
+        ensures value { result ≡ min (length (listed line.now)) (length out.old) }
+        ensures out_after { out.new ≡ sets out.old 0 (listed line.now) };
+}
+
+// A list in a buffer of N elements: the library allocates nothing.
 #[derive(Drop)]
-pub struct Text {
-    bytes: [u8; TEXT_BYTES],
+pub struct Held<T, const N: usize> {
+    buffer: [T; N],
     len: usize,
 }
 
-impl Model for Text {
-    ghost Value = { List ℕ };
+pub type Text = Held<u8, TEXT_BYTES>;
 
-    ghost view = { λ t. take t.len t.bytes };
+pub type NumberList = Held<u32, START_NUMBERS>;
 
-    ghost invariant = { λ t. t.len ≤ 131080 };
+impl<T, const N: usize> Model for Held<T, N> {
+    ghost Value = { List T };
+
+    ghost view = { λ t. take t.len t.buffer };
+
+    ghost invariant = { λ t. t.len ≤ N };
 }
 
-impl Text {
-    pub fn new() -> Text
+impl<T: Listed, const N: usize> Held<T, N> {
+    pub fn new() -> Held<T, N>
         ensures { result ≡ [] }
     {
-        Text {
-            bytes: [0; TEXT_BYTES],
+        Held {
+            buffer: [T::default(); N],
             len: 0,
         }
     }
 
-    pub fn as_slice(&self) -> &[u8]
+    pub fn as_slice(&self) -> &[T]
         ensures { result.now ≡ self.now }
     {
-        &self.bytes[..self.len]
+        &self.buffer[..self.len]
     }
 
     pub fn clear(&mut self)
@@ -45,54 +57,10 @@ impl Text {
         self.len = 0;
     }
 
-    // The text of a line's runs, as far as the buffer reaches.
-    pub fn set_runs(&mut self, line: &[u8])
-        ensures { self.new ≡ take TEXT_BYTES (runs_of line.now) }
+    // The list that a line gives, as far as the buffer reaches.
+    pub fn set_line(&mut self, line: &[u8])
+        ensures { self.new ≡ take N (T.listed line.now) }
     {
-        self.len = put_runs(line, &mut self.bytes);
-    }
-}
-
-#[derive(Drop)]
-pub struct NumberList {
-    numbers: [u32; START_NUMBERS],
-    len: usize,
-}
-
-impl Model for NumberList {
-    ghost Value = { List ℕ };
-
-    ghost view = { λ t. take t.len t.numbers };
-
-    ghost invariant = { λ t. t.len ≤ 65544 };
-}
-
-impl NumberList {
-    pub fn new() -> NumberList
-        ensures { result ≡ [] }
-    {
-        NumberList {
-            numbers: [0; START_NUMBERS],
-            len: 0,
-        }
-    }
-
-    pub fn as_slice(&self) -> &[u32]
-        ensures { result.now ≡ self.now }
-    {
-        &self.numbers[..self.len]
-    }
-
-    pub fn clear(&mut self)
-        ensures { self.new ≡ [] }
-    {
-        self.len = 0;
-    }
-
-    // The numbers of a line, as far as the buffer reaches.
-    pub fn set_numbers(&mut self, line: &[u8])
-        ensures { self.new ≡ take START_NUMBERS (numbers_of line.now) }
-    {
-        self.len = put_numbers(line, &mut self.numbers);
+        self.len = T::put_line(line, &mut self.buffer);
     }
 }

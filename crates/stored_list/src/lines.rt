@@ -1,7 +1,7 @@
 // The lines of an input. A buffer holds the bytes that were read last, and a line is a part of it.
 ghost use Rattle.std.specs.Prelude.{◌≡◌, ◌≤◌, length, take, drop, IfSome};
 ghost use Rattle.std.proofs.lemmas.List.Edits.{sets};
-ghost use Rattle.stored_list.specs.ListLines.{start_after, FirstRead, NextLine, LineIn, HandsLines};
+ghost use Rattle.stored_list.specs.ListLines.{start_after, line_from, FirstRead, NextLine, LineIn, HandsLines};
 
 use crate::fields::{next_place, part};
 use std::io::Read;
@@ -16,6 +16,9 @@ pub struct Line {
     pub filled: usize,
 }
 
+// The functions below take the input, the buffer and a line apart, and no struct of the three: the caller owns the buffer and the input
+// for as long as it reads, and `next_line` promises of the buffer's bytes before and after.
+
 // Reads once, and gives how many bytes it put at the front: none where the input ends or the read fails.
 fn read_some(input: &mut impl Read, buffer: &mut [u8]) -> usize
     ensures { result ≤ length buffer.new }
@@ -23,8 +26,8 @@ fn read_some(input: &mut impl Read, buffer: &mut [u8]) -> usize
     input.read(buffer).unwrap_or(0)
 }
 
-// Reads until the buffer is full, the input ends or a read fails, and gives how many bytes it put at the front. A `while`, since
-// the turns are as many as the reads.
+// Reads until the buffer is full, the input ends or a read fails, and gives how many bytes it put at the front. The reads are
+// counted here, since `read_exact` does not say how many bytes it read of an input that ends before.
 fn read_full(input: &mut impl Read, buffer: &mut [u8]) -> usize
     ensures { result ≤ length buffer.new }
 {
@@ -71,6 +74,15 @@ fn next_start(before: Line) -> usize
     }
 }
 
+// The line from `start` on, of the first `filled` bytes, if a newline ends it there.
+#[tactic(auto, using(crate::proofs::ListLineLaws::newline_read), unfolding(crate::specs::ListLines::line_from))]
+fn line_from(buffer: &[u8], start: usize, filled: usize) -> Option<Line>
+    ensures { result ≡ line_from start filled buffer.now }
+{
+    let end = next_place(part(buffer, 0, filled), start, b'\n');
+    (end < filled).then_some(Line { start, end, filled })
+}
+
 // The first line of the buffer's bytes, after reading on behind the first `left` ones.
 fn read_line(input: &mut impl Read, buffer: &mut [u8], left: usize) -> Option<Line>
     requires { left ≤ length buffer.old }
@@ -78,13 +90,7 @@ fn read_line(input: &mut impl Read, buffer: &mut [u8], left: usize) -> Option<Li
     ensures buffer_unchanged { take left buffer.new ≡ take left buffer.old }
 {
     let filled = read_behind(input, buffer, left);
-    let start = 0;
-    let end = next_place(part(buffer, 0, filled), start, b'\n');
-    if end < filled {
-        Some(Line { start, end, filled })
-    } else {
-        None
-    }
+    line_from(buffer, 0, filled)
 }
 
 // The line behind this one. It ends with a newline and is shorter than the buffer; other bytes at the end of the input are no
@@ -94,12 +100,10 @@ pub fn next_line(input: &mut impl Read, buffer: &mut [u8], before: Line) -> Opti
     ensures line_in { before.filled ≤ length buffer.old → IfSome result (LineIn buffer.new) }
 {
     let start = next_start(before);
-    let filled = before.filled;
-    let end = next_place(part(buffer, 0, filled), start, b'\n');
-    if end < filled {
-        return Some(Line { start, end, filled });
+    if let Some(line) = line_from(buffer, start, before.filled) {
+        return Some(line);
     }
-    let left = move_front(buffer, start, filled);
+    let left = move_front(buffer, start, before.filled);
     read_line(input, buffer, left)
 }
 

@@ -18,7 +18,7 @@ pub trait Mark: Copy + PartialEq {
 
     ghost other: { Self → Self };
 
-    // Another element.
+    // Another element. No default body for the two alike: a trait has no number to compare with or to give.
     fn other(self) -> Self
         ensures { result ≡ other self };
 

@@ -4,8 +4,10 @@ ghost use Rattle.std.proofs.lemmas.List.Edits.{sets};
 ghost use Rattle.stored_list.specs.Numbers.{counted, numbers_of};
 
 use crate::fields::number;
+use crate::held::Listed;
 
-// What a field that is no number counts as, where a number is wanted: more than any buffer holds.
+// What a field that is no number counts as: more than any buffer holds. A number and no `Option`, since a list of numbers has an
+// element for each field, and a place or a length that is too large is refused where it is used, whatever it was read from.
 const NO_NUMBER: usize = 99_999_999;
 
 // The number that a field counts as.
@@ -18,7 +20,7 @@ pub fn count(field: &[u8]) -> usize
 
 // Puts the numbers of a line, which begin with its second field, at the front of out, as far as it reaches, and gives how many
 // there are. Lent and written by index as in `decode`.
-pub fn put_numbers(line: &[u8], out: &mut [u32]) -> usize
+fn put_numbers(line: &[u8], out: &mut [u32]) -> usize
     ensures value { result ≡ min (length (numbers_of line.now)) (length out.old) }
     ensures out_after { out.new ≡ sets out.old 0 (numbers_of line.now) }
 {
@@ -31,4 +33,13 @@ pub fn put_numbers(line: &[u8], out: &mut [u32]) -> usize
         n += 1;
     }
     n
+}
+
+// The numbers of a line.
+impl Listed for u32 {
+    ghost listed = { numbers_of };
+
+    fn put_line(line: &[u8], out: &mut [u32]) -> usize {
+        put_numbers(line, out)
+    }
 }

@@ -4,9 +4,11 @@ ghost use Rattle.std.proofs.lemmas.List.Edits.{sets};
 ghost use Rattle.stored_list.specs.Runs.{repeated, hex_run, runs_of};
 
 use crate::fields::{decode, field};
+use crate::held::Listed;
 use crate::numbers::count;
 
-// Puts bytes behind the first n bytes of out, as far as out reaches, and gives how many there are then.
+// Puts bytes behind the first n bytes of out, as far as out reaches, and gives how many there are then. No `output::Writer`: a text
+// stops with its buffer, where a `Writer` counts on past it.
 fn append(out: &mut [u8], n: usize, bytes: &[u8]) -> usize
     requires { n ≤ length out.old }
     ensures value { result ≡ min (n + length bytes.now) (length out.old) }
@@ -42,8 +44,8 @@ fn append_hex(out: &mut [u8], n: usize, hex: &[u8], times: usize) -> usize
 }
 
 // Puts the runs of a line, which begin with its second field, at the front of out, and gives how many bytes there are. A turn
-// takes two fields, so it counts and does not walk through the fields one by one.
-pub fn put_runs(line: &[u8], out: &mut [u8]) -> usize
+// takes two fields, so it counts and does not walk through the fields one by one; 500 runs is the definition's bound.
+fn put_runs(line: &[u8], out: &mut [u8]) -> usize
     ensures value { result ≡ min (length (runs_of line.now)) (length out.old) }
     ensures out_after { out.new ≡ sets out.old 0 (runs_of line.now) }
 {
@@ -56,4 +58,13 @@ pub fn put_runs(line: &[u8], out: &mut [u8]) -> usize
         n = append_hex(out, n, field(line, 2 * j + 2), count(times));
     }
     n
+}
+
+// A text, by the runs of a line.
+impl Listed for u8 {
+    ghost listed = { runs_of };
+
+    fn put_line(line: &[u8], out: &mut [u8]) -> usize {
+        put_runs(line, out)
+    }
 }

@@ -18,7 +18,7 @@ impl fmt::Display for Row {
     }
 }
 
-// The row with one answer more; a number stays at the largest.
+// The row with one answer more; a number stays at the largest. An update, for which there is no derive and no operator.
 fn with_answer(row: Row, agrees: bool) -> Row
     ensures { result ≡ with_answer row agrees }
 {
@@ -31,17 +31,21 @@ fn with_answer(row: Row, agrees: bool) -> Row
     Row { compared, differ }
 }
 
+// The last row that a tally may have.
+const LAST_ROW: usize = 1000;
+
 // Counts one answer in a row, if the tally has it.
 #[tactic(auto, using(crate::proofs::ChangedLaws::changed_in, crate::proofs::ChangedLaws::changed_out))]
 pub fn note(tally: &mut [Row], row: usize, agrees: bool)
     ensures { tally.new ≡ noted row agrees tally.old }
 {
-    if row < tally.len() {
+    if row <= LAST_ROW && row < tally.len() {
         tally[row] = with_answer(tally[row], agrees);
     }
 }
 
-// Prints a line for each row and its name, up to the first write that fails. It writes to standard output alone, of which
+// Prints a line for each row and its name, up to the first write that fails. A row has its `Display`; the names and the rows are
+// two slices and no type that could have one. It writes to standard output alone, of which
 // nothing can be promised.
 pub fn print_rows(rt: &impl Print, names: &[&str], tally: &[Row]) -> io::Result<()> {
     for (name, row) in names.iter().zip(tally) {

@@ -1,24 +1,32 @@
 -- The target of the first live `:=` that has one, from `:=` to `:=`. Assumes nothing.
 use Rattle.std.specs.Prelude.{Option, Some, None}
+use Rattle.std.proofs.lemmas.List.{drop_more}
 use mathlib.Core.Path.{◌≡◌, refl, sym, ap, ◌∙◌}
 use mathlib.Core.Bool.{true, false}
 use mathlib.Core.List.{List, ◌∷◌, reverse}
 use Prim.Native.Nat.{ℕ, ◌+◌, ◌≤◌, ◌<◌}
 use lib.ListN.{length, take, drop, get_or, drop_of_length-le}
+use Rattle.spec.specs.Bytes.{ascii}
 use Rattle.spec.specs.Map.{Marked, live}
-use Rattle.spec.specs.Search.{first}
+use Rattle.spec.specs.Search.{Test, first, needle_here}
 use Rattle.spec.specs.Assignments.{Target, or_else, assign_here, target_before, assign_target}
-use Rattle.spec.proofs.AheadLaws.{drop_one}
 use Rattle.spec.proofs.Choice.{by}
 use Rattle.spec.proofs.FirstLaws.{apart}
+use Rattle.targets.proofs.TargetNameLaws.{tells_some, tells_next}
+use Rattle.targets.specs.Tells.{Tells}
+use Rattle.targets.specs.declared.TargetPlaces.{TargetPlaces}
 use Rattle.spec.proofs.WalkLaws.{climb, back_step, passes_at, first_end, first_hit, first_miss}
 
-step_hit : (back u v : List Marked) (x : Marked) → u ≡ x ∷ v → assign_here back u ≡ true → assign_target back u ≡ or_else (target_before back) (assign_target (x ∷ back) v)
-unfolding assign_target
+-- a live `:=`, as the scanner searches for it
+abbrev assign : Test
+assign = needle_here (ascii ":=")
+
+step_hit : (back u v : List Marked) (x : Marked) → u ≡ x ∷ v → assign back u ≡ true → assign_target back u ≡ or_else (target_before back) (assign_target (x ∷ back) v)
+unfolding assign_target assign_here
 step_hit back u v x q e = rw q (simp (rw q at e))
 
-step_miss : (back u v : List Marked) (x : Marked) → u ≡ x ∷ v → assign_here back u ≡ false → assign_target back u ≡ assign_target (x ∷ back) v
-unfolding assign_target
+step_miss : (back u v : List Marked) (x : Marked) → u ≡ x ∷ v → assign back u ≡ false → assign_target back u ≡ assign_target (x ∷ back) v
+unfolding assign_target assign_here
 step_miss back u v x q e = rw q (simp (rw q at e))
 
 -- the target from i on
@@ -32,36 +40,44 @@ module _ (t : List Marked) where
     assign_end h = rw (drop_of_length-le t h) refl
 
     module _ (h : i < length t) where
-      assign_hit : passes_at assign_here t i ≡ true → assign_from t i ≡ or_else (target_before (reverse (take i t))) (assign_from t (i + 1))
+      assign_hit : passes_at assign t i ≡ true → assign_from t i ≡ or_else (target_before (reverse (take i t))) (assign_from t (i + 1))
       assign_hit e =
-          step_hit (reverse (take i t)) (drop i t) (drop (i + 1) t) (get_or t i (live 0)) (drop_one t i (live 0) h) e
+          step_hit (reverse (take i t)) (drop i t) (drop (i + 1) t) (get_or t i (live 0)) (drop_more t i (live 0) h) e
           ∙ ap (λ (b : List Marked). or_else (target_before (reverse (take i t))) (assign_target b (drop (i + 1) t))) (sym (back_step t i (live 0) h))
 
-      assign_miss : passes_at assign_here t i ≡ false → assign_from t i ≡ assign_from t (i + 1)
+      assign_miss : passes_at assign t i ≡ false → assign_from t i ≡ assign_from t (i + 1)
       assign_miss e =
-          step_miss (reverse (take i t)) (drop i t) (drop (i + 1) t) (get_or t i (live 0)) (drop_one t i (live 0) h) e
+          step_miss (reverse (take i t)) (drop i t) (drop (i + 1) t) (get_or t i (live 0)) (drop_more t i (live 0) h) e
           ∙ ap (λ (b : List Marked). assign_target b (drop (i + 1) t)) (sym (back_step t i (live 0) h))
 
   -- no `:=`, no target
-  pub assign_none : (i : ℕ) → first assign_here i t ≡ None → assign_from t i ≡ None
+  pub assign_none : (i : ℕ) → first assign i t ≡ None → assign_from t i ≡ None
   assign_none =
-      climb (λ (k : ℕ). first assign_here k t ≡ None → assign_from t k ≡ None) (length t)
+      climb (λ (k : ℕ). first assign k t ≡ None → assign_from t k ≡ None) (length t)
       (λ k h e. assign_end k h)
       (λ k h more e.
-      by (passes_at assign_here t k)
-      (λ q. apart (first assign_here k t) k (first_hit assign_here t k h q) e)
-      (λ q. assign_miss k h q ∙ more (sym (first_miss assign_here t k h q) ∙ e)))
+      by (passes_at assign t k)
+      (λ q. apart (first assign k t) k (first_hit assign t k h q) e)
+      (λ q. assign_miss k h q ∙ more (sym (first_miss assign t k h q) ∙ e)))
 
   -- the first `:=` from i on stands at j
-  pub assign_at : (i j : ℕ) → first assign_here i t ≡ Some j → assign_from t i ≡ or_else (target_before (reverse (take j t))) (assign_from t (j + 1))
+  assign_at : (i j : ℕ) → first assign i t ≡ Some j → assign_from t i ≡ or_else (target_before (reverse (take j t))) (assign_from t (j + 1))
   assign_at i j =
-      climb (λ (k : ℕ). first assign_here k t ≡ Some j → assign_from t k ≡ or_else (target_before (reverse (take j t))) (assign_from t (j + 1))) (length t)
-      (λ k h e. apart (first assign_here k t) j e (first_end assign_here t k h))
+      climb (λ (k : ℕ). first assign k t ≡ Some j → assign_from t k ≡ or_else (target_before (reverse (take j t))) (assign_from t (j + 1))) (length t)
+      (λ k h e. apart (first assign k t) j e (first_end assign t k h))
       (λ k h more e.
-      by (passes_at assign_here t k)
+      by (passes_at assign t k)
       (λ q.
-      let f = first_hit assign_here t k h q in
+      let f = first_hit assign t k h q in
       let same : k ≡ j = cc in
       assign_hit k h q ∙ ap (λ (n : ℕ). or_else (target_before (reverse (take n t))) (assign_from t (n + 1))) same)
-      (λ q. assign_miss k h q ∙ more (sym (first_miss assign_here t k h q) ∙ e)))
+      (λ q. assign_miss k h q ∙ more (sym (first_miss assign t k h q) ∙ e)))
       i
+
+  -- it has a target before it, or the search goes on behind it
+  module _ (whole : Option Target) (i j : ℕ) (w : whole ≡ assign_from t i) (e : Some j ≡ first assign i t) where
+    pub assign_found : (p : TargetPlaces) → Tells t (target_before (reverse (take j t))) (Some p) → Tells t whole (Some p)
+    assign_found p k = rw (w, assign_at i j (sym e)) (tells_some t _ _ p k)
+
+    pub assign_more : Tells t (target_before (reverse (take j t))) None → whole ≡ assign_from t (j + 1)
+    assign_more k = w ∙ (assign_at i j (sym e) ∙ tells_next t _ _ k)

@@ -1,18 +1,19 @@
--- What it means that a place tells a target. Assumes nothing.
-use Rattle.std.specs.Prelude.{ℕ, ◌+◌, ◌≤◌, ◌≡◌, List, length, take, drop, Option, Some, None}
+-- Where a target stands in a statement. Assumes nothing.
+use Rattle.std.specs.Prelude.{ℕ, ◌+◌, ◌≤◌, ◌≡◌, List, length, Option, Some, None}
 use Rattle.spec.specs.Map.{Marked}
 use Rattle.spec.specs.Assignments.{Target}
+use Rattle.runs.specs.Places.{piece_at}
 use Rattle.targets.specs.declared.TargetPlaces.{TargetPlaces}
 
 -- the target that stands there in t
 abbrev pub target_in : List Marked → Option TargetPlaces → Option Target
 target_in t (Some p) =
-    Some record { qualifier = take p.qualifier_len (drop p.qualifier_start t); name = take p.name_len (drop p.name_start t) }
+    Some record { qualifier = piece_at t p.qualifier; name = piece_at t p.name }
 target_in t None = None
 
 -- its parts lie within l bytes, the name just behind the `.`
 abbrev pub Inside : ℕ → Option TargetPlaces → Type 0
-Inside l (Some p) = (p.name_start ≡ p.qualifier_start + p.qualifier_len + 1) × (p.name_start + p.name_len ≤ l)
+Inside l (Some p) = (p.name.at ≡ p.qualifier.at + p.qualifier.len + 1) × (p.name.at + p.name.len ≤ l)
 Inside l None = Unit {0}
 
 -- r tells whether t has the target o, and where

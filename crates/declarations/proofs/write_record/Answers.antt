@@ -1,18 +1,20 @@
--- `declarations::write_record` meets its contract: the law `numbers` says that the numbers stored are the record's. Assumes
--- nothing.
+-- `declarations::write_record` meets its contract: the places of the packed texts are within the buffer, and
+-- `packed_numbers` gives their numbers. Assumes nothing.
 use mathlib.Core.Path.{ap, ◌∙◌}
-use mathlib.Core.List.{List, ◌∷◌}
-use Prim.Native.Nat.{ℕ, ◌*◌}
-use lib.ListN.{get_or}
+use Prim.Native.Nat.{◌*◌}
 use lib.Seq.{sets}
-use Rattle.declarations.proofs.WriteLaws.{mark_byte, numbers}
+use Rattle.declared_records.specs.Held.{record_in}
+use Rattle.declarations.proofs.WriteLaws.{places_within, packed_numbers}
 use Rattle.declarations.proofs.write_record.Goals as goal
+
+pub put_part-requires-clause-within : goal.put_part-requires-clause-within
+put_part-requires-clause-within c =
+    let a = c.args in
+    let w = places_within a.out.now.len 65536 (record_in a.text.now a.records.now a.k) c.requires.room in
+    rw c.put_texts-places.ensures.value w
 
 pub returns-clause-records_after : goal.returns-clause-records_after
 returns-clause-records_after c =
     let a = c.args in
-    let m = numbers a.text.now a.records.now a.k a.n c.from.result c.if_present.result c.from-2.result c.from-3.result
-    c.mark_of-present.result c.mark_of-constant.result c.mark_of-not_null.result c.put_texts-ends.result
-    c.mark_of-present.ensures c.put_texts-ends.ensures.value c.mark_of-constant.ensures c.mark_of-not_null.ensures
-    (mark_byte _ _ c.from.ensures) c.if_present.ensures (mark_byte _ _ c.from-2.ensures) (mark_byte _ _ c.from-3.ensures) in
-    c.put_numbers.ensures ∙ ap (λ (l : List ℕ). sets a.records.now (10 * a.k) (get_or a.records.now (10 * a.k) 0 ∷ l)) m
+    let m = packed_numbers a.text.now a.records.now a.out.now.len a.k c.number-next.result c.number-next.ensures.value in
+    c.put_part.ensures ∙ rw c.put_texts-places.ensures.value (ap (sets a.records.now (10 * a.k)) m)

@@ -1,15 +1,11 @@
 -- `declared_parts::comes_before` meets its contract. The loop's invariant says that n is the shorter length, and that the
 -- order of the two is that of their rests from i on; the first byte that differs, or the end of one, decides. Assumes nothing.
 use native.Mathlib.Omega.{arith}
-use borrow.Author.Rules.{rules}
 use mathlib.Core.Path.{◌≡◌, refl, sym, ◌∙◌}
 use Prim.Native.Nat.{◌+◌}
 use Rattle.declared_parts.proofs.DeclaredNameLaws.{before_step, before_other, before_end}
 use Rattle.declared_parts.proofs.comes_before.Goals as goal
-use Rattle.declared_parts.proofs.comes_before.Goals.{then-x-y, else-x-y, then-i-n+else-x-i-3, else-i-n}
-
-pub loop-i-init : goal.loop-i-init
-loop-i-init c = elim c.if-x-y.branch [ then-x-y w ↦ search rules | else-x-y w ↦ search rules ]
+use Rattle.declared_parts.proofs.comes_before.Goals.{else-i-n-via-then-i-n+else-x-i-3, else-i-n-via-else-i-n}
 
 pub returns-then-x-i : goal.returns-then-x-i
 returns-then-x-i c =
@@ -45,14 +41,14 @@ returns-then-x-i-3 c =
 pub returns : goal.returns
 returns c =
     let a = c.args in
-    let n = c.if-x-y.n in
+    let n = c.min-n.result in
     let l = c.loop-i in
     let ended = before_end a.x.now a.y.now n l.invariant.3 in
-    elim c.if-i-n.branch [
-      | then-i-n+else-x-i-3 w ↦
+    elim c.else-i-n.branch [
+      | else-i-n-via-then-i-n+else-x-i-3 w ↦
           let i : l.i + 1 ≡ n = omega arith in
           sym (l.invariant.4 ∙ (before_step a.x.now a.y.now l.i (omega arith) (omega arith) w.if-x-i-3.false ∙ rw i ended))
-      | else-i-n w ↦
+      | else-i-n-via-else-i-n w ↦
           let i : l.i ≡ n = omega arith in
           sym (l.invariant.4 ∙ rw i ended)
     ]

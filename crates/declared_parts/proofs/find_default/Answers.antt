@@ -1,36 +1,47 @@
--- `declared_parts::find_default` meets its contract. The loop's invariant says that the leftmost default key of the part is
--- the leftmost from i on; `cut_behind` and `cut_none` give the cut, `cut_tells` that it is within the part. Assumes nothing.
-use native.Mathlib.Omega.{arith}
-use mathlib.Core.Path.{◌≡◌, sym, ◌∙◌}
-use lib.ListN.{length}
-use Rattle.spec.specs.Map.{marked}
-use Rattle.spec.proofs.MapLaws.{marked_length}
-use Rattle.declared_parts.proofs.DefaultCutLaws.{key_within, search_goes_on, cut_behind, cut_none, cut_tells}
+-- `declared_parts::find_default` meets its contract. `find` gives the least offset at which a default key stands, which
+-- `key_passes` says of the test. Assumes nothing.
+use Rattle.std.proofs.Common.{◌≡◌, rules, true, false, ℕ, is_some, sym, ◌∙◌, arith}
+use borrow.Author.Tests.{tests}
+use Rattle.std.proofs.lemmas.Iterator.{first_from_Range, serves_from_Range}
+use Rattle.spec.proofs.WalkLaws.{first_within}
+use Rattle.spec.specs.Search.{first}
+use Rattle.spec.specs.Declarations.{default_here}
+use Rattle.scanner.proofs.OffsetLaws.{found_first}
+use Rattle.declared_parts.specs.DeclaredParts.{key_at}
+use Rattle.declared_parts.proofs.DefaultCutLaws.{key_passes, cut_found, cut_missed, cut_tells}
 use Rattle.declared_parts.proofs.find_default.Goals as goal
+use Rattle.declared_parts.proofs.find_default.Goals.{After-find-key}
 
-pub loop-i-preserved : goal.loop-i-preserved
-loop-i-preserved c =
-    let a = c.args in
-    let t = marked a.text.now a.map.now in
-    c.loop-i.invariant ∙ search_goes_on t c.loop-i.i (sym c.in_default.is ∙ c.default_key.ensures) (omega (arith, marked_length a.text.now a.map.now))
+pub find-key-requires : goal.find-key-requires
+find-key-requires c = record { can = tt; finite = tt; callable = serves_from_Range (λ x q k. search (rules, tests)) (λ x low high. search rules) }
 
-pub overflow_add-result : goal.overflow_add-result
-overflow_add-result c =
-    let a = c.args in
-    omega (arith, key_within a.text.now a.map.now c.loop-i.i _ (sym c.in-Some.is ∙ c.default_key.ensures) (omega arith))
+found : (c : goal.After-find-key) → c.find-key.result ≡ first default_here 0 c.args.text.now
+found c =
+    let t = c.args.text.now in
+    let g = λ (k : ℕ). is_some (key_at t k) in
+    found_first default_here t g (λ k h. key_passes t k) 0 c.find-key.result
+    (rw c.len.ensures at (first_from_Range _ _ _ _ (λ k. g k ≡ true) (λ k. g k ≡ false) c.find-key.ensures.ran
+    (λ x q k. search (rules, tests))
+    (λ x q k. search (rules, tests))))
+
+pub key_end-requires : goal.key_end-requires
+key_end-requires c =
+    let e = sym c.in-Some.is ∙ found (goal.at.key_end-requires c).After-find-key in
+    record {
+      in_bounds = (first_within default_here c.args.text.now 0 c.in-Some.head (sym e)).1;
+      text_len_bound = omega (arith, c.len.ensures, c.len.type_inv);
+    }
 
 pub returns-in-Some : goal.returns-in-Some
 returns-in-Some c =
-    let a = c.args in
-    let t = marked a.text.now a.map.now in
-    let key = sym c.in-Some.is ∙ c.default_key.ensures in
-    let cut = cut_behind t c.loop-i.i c.loop-i.invariant _ key (omega (arith, marked_length a.text.now a.map.now)) in
-    record { value = cut; fits = cut_tells a.text.now a.map.now _ cut }
+    let t = c.args.text.now in
+    let e = sym c.in-Some.is ∙ found (goal.at.returns-in-Some c).After-find-key in
+    let cut = cut_found t c.in-Some.head c.key_end.result e c.key_end.ensures in
+    record { value = cut; fits = cut_tells t _ cut }
 
-pub returns : goal.returns
-returns c =
-    let a = c.args in
-    let t = marked a.text.now a.map.now in
-    let i : c.loop-i.i ≡ length a.text.now = omega arith in
-    let cut = cut_none t (length a.text.now) (rw i at c.loop-i.invariant) (sym (marked_length a.text.now a.map.now)) in
-    record { value = cut; fits = cut_tells a.text.now a.map.now _ cut }
+pub returns-in-None : goal.returns-in-None
+returns-in-None c =
+    let t = c.args.text.now in
+    let e = sym c.in-None.is ∙ found (goal.at.returns-in-None c).After-find-key in
+    let cut = cut_missed t c.len-in-None.result e c.len-in-None.ensures in
+    record { value = cut; fits = cut_tells t _ cut }

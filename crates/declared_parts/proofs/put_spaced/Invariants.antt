@@ -1,10 +1,9 @@
-use mathlib.Core.Path.{◌≡◌}
-use mathlib.Core.Bool.{false}
 use Prim.Native.Nat.{◌≤◌, ◌+◌, ◌*◌}
-use lib.ListN.{length, drop}
-use lib.Seq.{sets}
+use mathlib.Core.Bool.{false}
+use lib.ListN.{drop}
+use Rattle.output.proofs.WriterLaws.{Left}
 use Rattle.declared_parts.specs.DeclaredParts.{spaced}
 use Rattle.declared_parts.proofs.put_spaced.Given as goal
 
 abbrev pub invariant-loop-b : goal.invariant-loop-b
-invariant-loop-b l = (length l.out ≡ length l.initial.out) × (l.o ≤ l.n + 2 * l.b-index) × (l.n + length (spaced false l.text) ≡ l.o + length (spaced l.gap (drop l.b-index l.text))) × (sets l.initial.out l.n (spaced false l.text) ≡ sets l.out l.o (spaced l.gap (drop l.b-index l.text)))
+invariant-loop-b l = Left l.initial.out (spaced false l.text) l.out (spaced l.gap (drop l.b-index l.text)) × (l.out.len ≤ l.initial.out.len + 2 * l.b-index)

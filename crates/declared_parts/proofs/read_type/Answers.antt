@@ -5,6 +5,7 @@ use Rattle.declared_parts.proofs.read_type.Goals as goal
 pub returns-clause-value : goal.returns-clause-value
 returns-clause-value c =
     let s = c.run_end-start in
-    let f = c.constant_len-front in
-    let n = c.ahead_of_not_null-n in
-    places_by c.args.text.now s.result f.result n.result s.ensures.value f.ensures.value n.ensures.value
+    let f = c.constant_len-constant in
+    let n = c.ahead_of_not_null-ahead in
+    rw (c.unwrap_or-len.ensures, c.unwrap_or.ensures, c.is_some.ensures, c.is_some-2.ensures)
+    (places_by c.args.text.now s.result f.result n.result s.ensures.value f.ensures.value (rw c.unwrap_or.ensures at n.ensures.value))

@@ -9,5 +9,5 @@ use Rattle.declared_parts.proofs.value_place.Goals as goal
 pub returns-clause-value : goal.returns-clause-value
 returns-clause-value c =
     let a = c.args in
-    let p = place_by a.text.now (a.from + c.in-Some.r) a.to _ _ c.run_end_between-at.ensures.value c.trim_end-end.ensures.value in
-    rw c.in-Some.is (ap Some p)
+    let p = place_by a.text.now (a.from + c.in_ok-r.r) a.to _ _ c.run_end_between-at.ensures.value c.trim_end-end.ensures.value in
+    rw c.in_ok-r.was (ap Some p)

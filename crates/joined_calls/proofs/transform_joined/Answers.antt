@@ -1,11 +1,11 @@
 -- `joined_calls::transform_joined` meets its contract, of which the last clause is demand 3. The second and third call
 -- find work buffers of the first call's lengths, so by `like_at_start` they answer as on the buffers of entry; the
 -- theorem on joined bodies does the rest. Assumes nothing.
+use Rattle.std.proofs.lemmas.List.{take_rest}
 use Prim.Native.Nat.{◌-◌}
 use mathlib.Core.Path.{sym, ◌∙◌}
 use lib.ListN.{length, take, drop}
 use lib.Seq.{length-take-le}
-use Rattle.spec.proofs.AheadLaws.{rest_of}
 use Rattle.joined_calls.proofs.CallLaws.{like_at_start, joins}
 use Rattle.joined_calls.proofs.transform_joined.Goals as goal
 
@@ -23,8 +23,8 @@ returns c =
     let u = c.transform_body_by_table-w in
     let v = c.transform_body_by_table-f in
     let w = c.transform_body_by_table-s in
-    let p = like_at_start s.table (take s.cut xs) (take cut.result xs) s.first.now a b u.new.work u.new.spare v.result v.new.output v.new.work v.new.spare (v.ensures.value, (v.ensures.output_after, (v.ensures.work_after, v.ensures.spare_after))) cut.ensures.text_value u.auto.work u.auto.spare in
-    let q = like_at_start s.table (drop s.cut xs) (take (length xs - cut.result) (drop cut.result xs)) s.second.now a b v.new.work v.new.spare w.result w.new.output w.new.work w.new.spare (w.ensures.value, (w.ensures.output_after, (w.ensures.work_after, w.ensures.spare_after))) (rest_of xs cut.result ∙ cut.ensures.text_value_2) (v.auto.work ∙ u.auto.work) (v.auto.spare ∙ u.auto.spare) in
+    let p = like_at_start s.table (take s.cut xs) (take cut.result xs) s.first.now a b u.new.work u.new.spare v.result v.new.output v.new.work v.new.spare (v.ensures.value, (v.ensures.output_after, (v.ensures.work_after, v.ensures.spare_after))) cut.ensures.first_part u.auto.work u.auto.spare in
+    let q = like_at_start s.table (drop s.cut xs) (take (length xs - cut.result) (drop cut.result xs)) s.second.now a b v.new.work v.new.spare w.result w.new.output w.new.work w.new.spare (w.ensures.value, (w.ensures.output_after, (w.ensures.work_after, w.ensures.spare_after))) (take_rest xs cut.result ∙ cut.ensures.second_part) (v.auto.work ∙ u.auto.work) (v.auto.spare ∙ u.auto.spare) in
     let e = u.ensures in
     record {
       whole_value = e.value;

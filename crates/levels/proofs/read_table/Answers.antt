@@ -1,48 +1,41 @@
--- `levels::read_table` meets its contract. The loop's invariant: the table says what its lines from the offset on say, behind
--- the lines read, and the actions given are those of the lines read. Assumes nothing.
+-- `levels::read_table` meets its contract. The loop's invariant: the table says what the text that is left says, behind the lines
+-- read, and the actions given are those of the lines read. Assumes nothing.
 use Rattle.std.specs.Prelude.{Some, None, Option, is_some}
-use Rattle.std.proofs.lemmas.Option.{none-some}
+use Rattle.std.proofs.lemmas.List.{take_rest}
 use mathlib.Core.Bool.{true, false, false≢true}
 use mathlib.Core.Path.{◌≡◌, refl, sym, ap, ◌∙◌}
 use mathlib.Core.List.{[], ◌∷◌, List}
-use Prim.Native.Nat.{ℕ, ◌+◌, ◌-◌, ◌≤◌}
+use Prim.Native.Nat.{ℕ, ◌+◌, ◌-◌, ◌≤◌, ◌<◌}
 use native.Mathlib.Omega.{arith}
-use lib.ListN.{length, take, drop}
-use Rattle.spec.proofs.AheadLaws.{rest_of}
+use borrow.Author.Rules.{rules}
+use lib.ListN.{length, take, drop, length-drop}
 use Rattle.spec.proofs.LineLaws.{entry, text_size}
-use Rattle.spec.specs.Levels.{line_text, all_entries, given_action}
+use Rattle.spec.specs.Levels.{line_text, all_entries, given_action, table_of, table_end}
 use Rattle.spec.specs.Raise.{at_level, with_level}
 use Rattle.spec.specs.declared.Action.{Action}
 use Rattle.spec.specs.declared.ByLevel.{ByLevel}
-use Rattle.levels.specs.Lines.{ahead, line_ahead, completed}
-use Rattle.levels.specs.declared.Line.{Line}
+use Rattle.levels.specs.Lines.{ahead, completed}
 use Rattle.levels.proofs.AheadLaws.{line_found_lem, found_none}
 use Rattle.levels.proofs.GivenLaws.{given_start, given_by_lem, given_more, completed_by}
-use Rattle.levels.proofs.TurnLaws.{says_from, says_start, says_end, says_malformed, line_fits, says_repeated, says_on}
+use Rattle.levels.proofs.TurnLaws.{says, says_end, says_malformed, line_fits, says_repeated, says_on}
 use Rattle.levels.proofs.read_table.Goals as goal
-use Rattle.levels.proofs.read_table.Goals.{In-Some, After-get}
+use Rattle.levels.proofs.read_table.Goals.{In_ok-line, After-get}
 
--- the line in front at an offset
-line_at : (xs : List ℕ) (at : ℕ) (r : Option Line) → r ≡ line_ahead (take (length xs - at) (drop at xs)) → r ≡ line_ahead (drop at xs)
-line_at xs at r h = rw rest_of at h
-
--- what it says, and its length
-lined : (c : goal.In-Some) →
-    let e = entry c.in-Some.line.level c.in-Some.line.action in
-    (ahead line_text all_entries (drop c.loop-at.at c.args.table.now) ≡ Some e) × (c.in-Some.line.len ≡ length (line_text e))
-lined c = line_found_lem _ _ (sym (line_at c.args.table.now c.loop-at.at _ c.read_line.ensures) ∙ c.in-Some.is)
+-- what the line says, and its length
+lined : (c : goal.In_ok-line) →
+    let e = entry c.in_ok-line.line.level c.in_ok-line.line.action in
+    (ahead line_text all_entries c.loop-rest.rest.now ≡ Some e) × (c.in_ok-line.line.len ≡ length (line_text e))
+lined c = line_found_lem _ _ (sym c.read_line.ensures ∙ search rules)
 
 -- the action that its level has by then
-had : (c : goal.After-get) → c.get.result ≡ given_action c.loop-at.invariant.0 c.in-Some.line.level
+had : (c : goal.After-get) → c.get.result ≡ given_action c.loop-rest.invariant.0 c.in_ok-line.line.level
 had c =
-    let level = c.in-Some.line.level in
-    c.get.ensures ∙ (ap (λ (g : ByLevel (Option Action)). at_level g level) c.loop-at.invariant.2 ∙ given_by_lem c.loop-at.invariant.0 level)
+    let level = c.in_ok-line.line.level in
+    c.get.ensures ∙ (ap (λ (g : ByLevel (Option Action)). at_level g level) c.loop-rest.invariant.2 ∙ given_by_lem c.loop-rest.invariant.0 level)
 
--- the line stands within the table
-within : (c : goal.In-Some) → c.loop-at.at + c.in-Some.line.len ≤ length c.args.table.now
-within c =
-    let fits = line_fits _ c.loop-at.invariant.0 _ _ (lined c).0 c.loop-at.invariant.1 in
-    omega (arith, (lined c).1, fits)
+-- the line stands within the text
+within : (c : goal.In_ok-line) → c.in_ok-line.line.len ≤ length c.loop-rest.rest.now
+within c = omega (arith, (lined c).1, line_fits c.loop-rest.invariant.0 0 _ _ (lined c).0)
 
 -- an action that is given, and one that is not
 module _ (o p : Option Action) (e : o ≡ p) where
@@ -60,45 +53,69 @@ module _ (o p : Option Action) (e : o ≡ p) where
       go (Some a) k = let some : is_some o ≡ true = ap is_some (e ∙ k) in absurd (false≢true (sym h ∙ some))
       go None k = k
 
-pub loop-at-init : goal.loop-at-init
-loop-at-init c = ([], omega arith, c.all-given.ensures ∙ sym given_start, says_start c.args.table.now)
+pub loop-rest-init : goal.loop-rest-init
+unfolding table_of
+loop-rest-init c =
+    let n = length c.args.table.now in
+    let start : n - n ≡ 0 = omega arith in
+    ([], omega arith, c.all-given.ensures ∙ sym given_start, ap (λ (k : ℕ). says [] k c.args.table.now) (sym start))
 
-pub returns-in_default : goal.returns-in_default
-returns-in_default c =
-    let malformed = found_none _ _ (sym (line_at c.args.table.now c.loop-at.at _ c.read_line.ensures) ∙ c.in_default.is) in
-    sym (c.loop-at.invariant.3 ∙ says_malformed _ c.loop-at.invariant.0 _ c.loop-at-test.true malformed)
+pub returns-in_err-line : goal.returns-in_err-line
+returns-in_err-line c =
+    let i = c.loop-rest.invariant in
+    let none : c.read_line.result ≡ None = search rules in
+    let malformed = found_none _ _ (sym c.read_line.ensures ∙ none) in
+    let said = i.3 ∙ says_malformed i.0 _ c.loop-rest.rest.now (search rules) malformed in
+    search rules
 
 pub returns-then-is_some : goal.returns-then-is_some
 returns-then-is_some c =
     let given = some_given _ _ (had (goal.at.returns-then-is_some c).After-get) (sym c.is_some.ensures ∙ c.if-is_some.true) in
-    sym (c.loop-at.invariant.3 ∙ says_repeated _ c.loop-at.invariant.0 _ _ (lined (goal.at.returns-then-is_some c).In-Some).0 given.0 given.1)
+    sym (c.loop-rest.invariant.3 ∙ says_repeated c.loop-rest.invariant.0 _ _ _ (lined (goal.at.returns-then-is_some c).In_ok-line).0 given.0 given.1)
 
-pub overflow_add-at : goal.overflow_add-at
-overflow_add-at c =
-    let h = within (goal.at.overflow_add-at c).In-Some in omega arith
+pub slice_bounds-rest-count : goal.slice_bounds-rest-count
+slice_bounds-rest-count c = within (goal.at.slice_bounds-rest-count c).In_ok-line
 
-pub loop-at-smaller : goal.loop-at-smaller
-loop-at-smaller c =
-    let h = within (goal.at.loop-at-smaller c).In-Some in
-    omega (arith, (lined (goal.at.loop-at-smaller c).In-Some).1, text_size (entry c.in-Some.line.level c.in-Some.line.action))
+pub slice_bounds-rest-start : goal.slice_bounds-rest-start
+slice_bounds-rest-start c = let h = within (goal.at.slice_bounds-rest-start c).In_ok-line in search rules
 
-pub loop-at-preserved : goal.loop-at-preserved
-loop-at-preserved c =
-    let xs = c.args.table.now in
-    let es = c.loop-at.invariant.0 in
-    let level = c.in-Some.line.level in
-    let action = c.in-Some.line.action in
-    let missing = none_given _ _ (had (goal.at.loop-at-preserved c).After-get) (sym c.is_some.ensures ∙ c.if-is_some.false) in
-    let line = lined (goal.at.loop-at-preserved c).In-Some in
-    let more = says_on xs es _ (entry level action) line.0 missing in
-    let moved = ap (λ (n : ℕ). says_from xs (entry level action ∷ es) (c.loop-at.at + n)) (sym line.1) in
-    let given = ap (λ (g : ByLevel (Option Action)). with_level g level (Some action)) c.loop-at.invariant.2 in
-    (entry level action ∷ es, within (goal.at.loop-at-preserved c).In-Some, c.with-given.ensures ∙ (given ∙ given_more es level action), c.loop-at.invariant.3 ∙ (more ∙ moved))
+-- what is left behind the line
+left : (n k : ℕ) (xs : List ℕ) → 0 < k → k ≤ length xs → length xs ≤ n →
+    let rest = take (length xs - k) (drop k xs) in (length rest < length xs) × (n - length rest ≡ n - length xs + k)
+left n k xs a b c = let e = take_rest xs k in rw e (omega (arith, length-drop k xs), omega (arith, length-drop k xs))
+
+pub loop-rest-smaller : goal.loop-rest-smaller
+loop-rest-smaller c =
+    let line = lined (goal.at.loop-rest-smaller c).In_ok-line in
+    let size = text_size (entry c.in_ok-line.line.level c.in_ok-line.line.action) in
+    (left (length c.loop-rest.rest.now) c.in_ok-line.line.len c.loop-rest.rest.now (omega (arith, line.1, size)) (within (goal.at.loop-rest-smaller c).In_ok-line) (omega arith)).0
+
+pub loop-rest-preserved : goal.loop-rest-preserved
+loop-rest-preserved c =
+    let i = c.loop-rest.invariant in
+    let n = length c.args.table.now in
+    let xs = c.loop-rest.rest.now in
+    let len = c.in_ok-line.line.len in
+    let level = c.in_ok-line.line.level in
+    let action = c.in_ok-line.line.action in
+    let es = entry level action ∷ i.0 in
+    let line = lined (goal.at.loop-rest-preserved c).In_ok-line in
+    let missing = none_given _ _ (had (goal.at.loop-rest-preserved c).After-get) (sym c.is_some.ensures ∙ c.if-is_some.false) in
+    let behind = left n len xs (omega (arith, line.1, text_size (entry level action))) (within (goal.at.loop-rest-preserved c).In_ok-line) i.1 in
+    let given = ap (λ (g : ByLevel (Option Action)). with_level g level (Some action)) i.2 in
+    let more = says_on i.0 (n - length xs) xs (entry level action) line.0 missing in
+    let moved = ap (λ (k : ℕ). says es (n - length xs + k) (drop k xs)) (sym line.1) in
+    let cut = ap (λ (l : List ℕ). says es (n - length xs + len) l) (sym (take_rest xs len)) in
+    let at = ap (λ (k : ℕ). says es k (take (length xs - len) (drop len xs))) (sym behind.1) in
+    (es, omega (arith, behind.0, i.1), c.with-given.ensures ∙ (given ∙ given_more i.0 level action), i.3 ∙ (more ∙ (moved ∙ (cut ∙ at))))
 
 pub returns : goal.returns
 returns c =
-    let es = c.loop-at.invariant.0 in
-    let at = c.loop-at.at in
+    let i = c.loop-rest.invariant in
+    let n = length c.args.table.now in
+    let none : length c.loop-rest.rest.now ≡ 0 = search rules in
+    let end : n - length c.loop-rest.rest.now ≡ n = omega arith in
     c.complete.ensures
-    ∙ (ap (λ (g : ByLevel (Option Action)). completed g at) c.loop-at.invariant.2
-    ∙ (completed_by es at ∙ sym (c.loop-at.invariant.3 ∙ says_end _ es at c.loop-at-test.false)))
+    ∙ (ap (λ (g : ByLevel (Option Action)). completed g n) i.2
+    ∙ (completed_by i.0 n
+    ∙ (ap (λ (k : ℕ). table_end i.0 k) (sym end) ∙ sym (i.3 ∙ says_end i.0 _ c.loop-rest.rest.now none))))

@@ -1,19 +1,25 @@
--- `output::fill` meets its contract. The loop's invariant says that storing the items still to come from i on gives
--- what storing all of them from `from` on would have given. Past the buffer's end a store does nothing. Assumes
--- nothing.
-use Rattle.std.proofs.Common.{arith}
-use lib.ListN.{length-set}
-use Rattle.output.proofs.StoreLaws.{fill_step, fill_end}
+-- `output::fill` meets its contract. What `fill_with` is given in each call is the item, so the part holds it alone; past the
+-- buffer's end a store does nothing. Assumes nothing.
+use Rattle.std.proofs.Common.{◌≡◌, sym, ◌∙◌, ◌-◌, arith, length, drop, replicate, rules}
+use borrow.Author.Tests.{tests}
+use lib.ListN.{length-drop}
+use lib.Seq.{length-take-le}
+use Rattle.std.proofs.lemmas.List.{length-replicate, take-replicate}
+use Rattle.output.proofs.StoreLaws.{store_part, all_same, fill_end}
 use Rattle.output.proofs.fill.Goals as goal
 
-pub loop-i-preserved : goal.loop-i-preserved
-loop-i-preserved g c =
-    let l = c.loop-i in
-    let step = fill_step l.out l.i c.args.to c.args.x (omega (arith, c.min-i-end.ensures)) in
-    (simp length-set l.invariant.0, cc)
+pub returns-then-from-end : goal.returns-then-from-end
+returns-then-from-end g c =
+    let a = c.args in
+    let d = a.out.now in
+    let k = c.min-end.result - a.from in
+    let all = replicate (a.to - a.from) a.x in
+    let r = c.fill_with.ensures.ran in
+    let len : length c.fill_with.new.self ≡ k =
+    c.fill_with.ensures.len ∙ length-take-le k (drop a.from d) (omega (arith, length-drop a.from d, c.if-from-end.true, c.min-end.ensures)) in
+    let same : c.fill_with.new.self ≡ replicate k a.x = all_same _ a.x _ (λ y next q. search (rules, tests)) c.fill_with.new.self r.0 r.1 ∙ rw len in
+    rw (same, sym (take-replicate k (a.to - a.from) a.x (omega (arith, c.min-end.ensures))))
+    (store_part d all a.from k (omega (arith, c.if-from-end.true, c.min-end.ensures)) (omega (arith, length-replicate (a.to - a.from) a.x, c.if-from-end.true, c.min-end.ensures)))
 
-pub returns : goal.returns
-returns g c =
-    let l = c.loop-i in
-    let end = fill_end l.out l.i c.args.to c.args.x (omega (arith, c.min-i-end.ensures, l.invariant.0)) in
-    cc
+pub returns-else-from-end : goal.returns-else-from-end
+returns-else-from-end g c = let a = c.args in sym (fill_end a.out.now a.from a.to a.x (omega (arith, c.if-from-end.false, c.min-end.ensures)))

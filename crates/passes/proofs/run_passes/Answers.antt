@@ -4,7 +4,7 @@
 -- Assumes nothing.
 use Rattle.std.specs.Prelude.{Ok}
 use Rattle.std.proofs.lemmas.Result.{err_from_is_err_and}
-use mathlib.Core.Path.{◌≡◌, refl, sym}
+use mathlib.Core.Path.{◌≡◌, refl}
 use mathlib.Core.List.{[]}
 use Prim.Native.Nat.{◌≤◌}
 use native.Mathlib.Omega.{arith}
@@ -25,17 +25,15 @@ use Rattle.passes.proofs.run_passes.Goals.{After-requote-requoted, After-elsif_p
 requoted_in : (c : goal.After-requote-requoted)
     → (c.requote-requoted.result ≤ 65536) × (take c.requote-requoted.result c.requote-requoted.new.out ≡ requoted c.args.text.now)
 requoted_in c =
-    let p = c.requires in
-    requoted_front _ c.args.work.now _ _ p.text_len_bound c.requote-requoted.ensures.value p.work_len c.requote-requoted.ensures.out_after
+    requoted_front _ c.args.work.now _ _ c.requires c.requote-requoted.ensures.value c.told-work c.requote-requoted.ensures.out_after
 
 -- pass 2's text in `output`
 spelled_in : (c : goal.After-elsif_pass-spelled)
     → (c.elsif_pass-spelled.result ≤ 65536)
     × (take c.elsif_pass-spelled.result c.elsif_pass-spelled.new.out ≡ bytes (elsif (marked_text (requoted c.args.text.now))))
 spelled_in c =
-    let p = c.requires in
-    let front = requoted_front _ c.args.work.now _ _ p.text_len_bound c.requote-requoted.ensures.value p.work_len c.requote-requoted.ensures.out_after in
-    spelled_front c.args.text.now _ c.args.output.now _ _ p.text_len_bound front.1 c.elsif_pass-spelled.ensures.value p.output_len c.elsif_pass-spelled.ensures.out_after
+    let front = requoted_front _ c.args.work.now _ _ c.requires c.requote-requoted.ensures.value c.told-work c.requote-requoted.ensures.out_after in
+    spelled_front c.args.text.now _ c.args.output.now _ _ c.requires front.1 c.elsif_pass-spelled.ensures.value c.told-output c.elsif_pass-spelled.ensures.out_after
 
 -- what pass 3 reads, and what it gives
 assigned_gives : (c : goal.After-assign_pass-assigned)
@@ -68,100 +66,64 @@ raised_gives : (c : goal.After-raise_pass-raised)
     → Gives (result_of [] (limited (raise_pass (action_of c.args.actions) (take c.in_ok-k.k c.select_pass.new.out)))) (finished c.raise_pass-raised.result) c.raise_pass-raised.new.out
 raised_gives c = c.raise_pass-raised.ensures
 
-pub slice_bounds-elsif_pass-end : goal.slice_bounds-elsif_pass-end
-slice_bounds-elsif_pass-end c =
-    omega (arith, (requoted_in (goal.at.slice_bounds-elsif_pass-end c).After-requote-requoted).0)
-
-pub slice_bounds-elsif_pass-end-2 : goal.slice_bounds-elsif_pass-end-2
-slice_bounds-elsif_pass-end-2 c =
-    sym (length-take-le c.requote-requoted.result c.requote-requoted.new.out (omega (arith, (requoted_in (goal.at.slice_bounds-elsif_pass-end-2 c).After-requote-requoted).0)))
+pub shared_ref_as_front-elsif_pass : goal.shared_ref_as_front-elsif_pass
+shared_ref_as_front-elsif_pass c =
+    omega (arith, (requoted_in (goal.at.shared_ref_as_front-elsif_pass c).After-requote-requoted).0)
 
 pub elsif_pass-spelled-requires : goal.elsif_pass-spelled-requires
 elsif_pass-spelled-requires c =
     let fits = (requoted_in (goal.at.elsif_pass-spelled-requires c).After-requote-requoted).0 in
     let n = length-take-le c.requote-requoted.result c.requote-requoted.new.out (omega (arith, fits)) in
-    record { text_len_bound = omega (arith, fits, n); text_in_bounds = omega (arith, fits, n) }
+    omega (arith, fits, n)
 
-pub slice_bounds-assign_pass-end : goal.slice_bounds-assign_pass-end
-slice_bounds-assign_pass-end c =
-    omega (arith, (spelled_in (goal.at.slice_bounds-assign_pass-end c).After-elsif_pass-spelled).0)
-
-pub slice_bounds-assign_pass-end-2 : goal.slice_bounds-assign_pass-end-2
-slice_bounds-assign_pass-end-2 c =
-    sym (length-take-le c.elsif_pass-spelled.result c.elsif_pass-spelled.new.out (omega (arith, (spelled_in (goal.at.slice_bounds-assign_pass-end-2 c).After-elsif_pass-spelled).0)))
+pub shared_ref_as_front-assign_pass : goal.shared_ref_as_front-assign_pass
+shared_ref_as_front-assign_pass c =
+    omega (arith, (spelled_in (goal.at.shared_ref_as_front-assign_pass c).After-elsif_pass-spelled).0)
 
 pub assign_pass-assigned-requires : goal.assign_pass-assigned-requires
 assign_pass-assigned-requires c =
     let fits = (spelled_in (goal.at.assign_pass-assigned-requires c).After-elsif_pass-spelled).0 in
     let n = length-take-le c.elsif_pass-spelled.result c.elsif_pass-spelled.new.out (omega (arith, fits)) in
-    record {
-      text_len_bound = omega (arith, fits, n);
-      text_in_bounds = omega (arith, fits, n);
-      out_len = omega arith;
-    }
+    omega (arith, fits, n)
 
 pub finish-requires : goal.finish-requires
 finish-requires c =
-    record {
-      out_len = omega arith;
-      from_len = omega arith;
-      p_bound = given_fits _ _ _ (assigned_gives (goal.at.finish-requires c).After-assign_pass-assigned) (omega arith);
-    }
+    given_fits _ _ _ (assigned_gives (goal.at.finish-requires c).After-assign_pass-assigned) (omega arith)
 
 pub returns-in_default : goal.returns-in_default
 returns-in_default c =
     let g = assigned_gives (goal.at.returns-in_default c).After-assign_pass-assigned in
-    let stops = third_stops (action_of c.args.actions) c.args.text.now (take c.elsif_pass-spelled.result c.elsif_pass-spelled.new.out) c.requires.text_len_bound (spelled_in (goal.at.returns-in_default c).After-elsif_pass-spelled).1 _ _ (given_as _ _ _ _ g c.in_default.is) in
+    let stops = third_stops (action_of c.args.actions) c.args.text.now (take c.elsif_pass-spelled.result c.elsif_pass-spelled.new.out) c.requires (spelled_in (goal.at.returns-in_default c).After-elsif_pass-spelled).1 _ _ (given_as _ _ _ _ g c.in_default.is) in
     rw stops (gives_copied _ c.assign_pass-assigned.result _ _ _ g c.finish.ensures.value c.finish.ensures.out_after)
 
-pub slice_bounds-select_pass-end : goal.slice_bounds-select_pass-end
-slice_bounds-select_pass-end c = omega (arith, assigned_fits c)
-
-pub slice_bounds-select_pass-end-2 : goal.slice_bounds-select_pass-end-2
-slice_bounds-select_pass-end-2 c =
-    sym (length-take-le c.in-Ok.n c.assign_pass-assigned.new.out (omega (arith, assigned_fits c)))
+pub shared_ref_as_front-select_pass : goal.shared_ref_as_front-select_pass
+shared_ref_as_front-select_pass c = omega (arith, assigned_fits (goal.at.shared_ref_as_front-select_pass c).In-Ok)
 
 pub select_pass-requires : goal.select_pass-requires
 select_pass-requires c =
     let n = length-take-le c.in-Ok.n c.assign_pass-assigned.new.out (omega (arith, assigned_fits (goal.at.select_pass-requires c).In-Ok)) in
-    record {
-      text_len_bound = omega (arith, assigned_fits (goal.at.select_pass-requires c).In-Ok, n);
-      text_in_bounds = omega (arith, assigned_fits (goal.at.select_pass-requires c).In-Ok, n);
-      out_len = omega arith;
-    }
+    omega (arith, assigned_fits (goal.at.select_pass-requires c).In-Ok, n)
 
 pub returns-in_err-k : goal.returns-in_err-k
 returns-in_err-k c =
     let r = err_from_is_err_and c.from_residual.result c.from_residual.ensures.1 in
     let g = given_as _ _ _ _ (selected_gives (goal.at.returns-in_err-k c).After-select_pass) c.in_err-k.was in
-    let stops = fourth_stops (action_of c.args.actions) c.args.text.now (take c.elsif_pass-spelled.result c.elsif_pass-spelled.new.out) c.requires.text_len_bound (spelled_in (goal.at.returns-in_err-k c).After-elsif_pass-spelled).1 _ _ (assigned_done (goal.at.returns-in_err-k c).In-Ok) _ _ g in
+    let stops = fourth_stops (action_of c.args.actions) c.args.text.now (take c.elsif_pass-spelled.result c.elsif_pass-spelled.new.out) c.requires (spelled_in (goal.at.returns-in_err-k c).After-elsif_pass-spelled).1 _ _ (assigned_done (goal.at.returns-in_err-k c).In-Ok) _ _ g in
     rw (stops, r.1, r.2) (too_long_gives _ _ _ _ _ g refl)
 
-pub slice_bounds-raise_pass-end : goal.slice_bounds-raise_pass-end
-slice_bounds-raise_pass-end c = omega (arith, selected_fits c)
-
-pub slice_bounds-raise_pass-end-2 : goal.slice_bounds-raise_pass-end-2
-slice_bounds-raise_pass-end-2 c =
-    sym (length-take-le c.in_ok-k.k c.select_pass.new.out (omega (arith, selected_fits c)))
+pub shared_ref_as_front-raise_pass : goal.shared_ref_as_front-raise_pass
+shared_ref_as_front-raise_pass c = omega (arith, selected_fits (goal.at.shared_ref_as_front-raise_pass c).In_ok-k)
 
 pub raise_pass-raised-requires : goal.raise_pass-raised-requires
 raise_pass-raised-requires c =
     let n = length-take-le c.in_ok-k.k c.select_pass.new.out (omega (arith, selected_fits (goal.at.raise_pass-raised-requires c).In_ok-k)) in
-    record {
-      text_len_bound = omega (arith, selected_fits (goal.at.raise_pass-raised-requires c).In_ok-k, n);
-      text_in_bounds = omega (arith, selected_fits (goal.at.raise_pass-raised-requires c).In_ok-k, n);
-      out_len = omega arith;
-    }
+    omega (arith, selected_fits (goal.at.raise_pass-raised-requires c).In_ok-k, n)
 
 pub finish-requires-2 : goal.finish-requires-2
 finish-requires-2 c =
-    record {
-      out_len = omega arith;
-      from_len = (omega arith);
-      p_bound = given_fits _ _ _ (raised_gives (goal.at.finish-requires-2 c).After-raise_pass-raised) (omega arith);
-    }
+    given_fits _ _ _ (raised_gives (goal.at.finish-requires-2 c).After-raise_pass-raised) (omega arith)
 
 pub returns : goal.returns
 returns c =
-    let reached = fifth_gives (action_of c.args.actions) c.args.text.now (take c.elsif_pass-spelled.result c.elsif_pass-spelled.new.out) c.requires.text_len_bound (spelled_in (goal.at.returns c).After-elsif_pass-spelled).1 _ _ (assigned_done (goal.at.returns c).In-Ok) _ _ (selected_done (goal.at.returns c).In_ok-k) in
+    let reached = fifth_gives (action_of c.args.actions) c.args.text.now (take c.elsif_pass-spelled.result c.elsif_pass-spelled.new.out) c.requires (spelled_in (goal.at.returns c).After-elsif_pass-spelled).1 _ _ (assigned_done (goal.at.returns c).In-Ok) _ _ (selected_done (goal.at.returns c).In_ok-k) in
     rw reached (gives_copied _ c.raise_pass-raised.result _ _ _ (raised_gives (goal.at.returns c).After-raise_pass-raised) c.finish-2.ensures.value c.finish-2.ensures.out_after)

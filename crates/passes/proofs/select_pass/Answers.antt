@@ -9,5 +9,5 @@ use Rattle.passes.proofs.select_pass.Goals as goal
 pub returns : goal.returns
 unfolding select_pass
 returns c =
-    let e = rw c.quotes_mapped.ensures.marks at c.transform_select_into.ensures in
-    counted_gives (bytes (select_into (quote_walk 0 c.args.text.now))) _ _ _ e.value e.out_after c.requires.out_len
+    let e = rw c.quotes_mapped.ensures at c.transform_select_into.ensures in
+    counted_gives (bytes (select_into (quote_walk 0 c.args.text.now))) _ _ _ e.value e.out_after c.told-out

@@ -1,6 +1,7 @@
 -- `requote::requoted_len` meets its contract. The loop's invariant says that n and the requoted length of the text from
 -- the offset on make up the whole length. `turn` says what the span there takes; a byte that opens nothing is such a
 -- span by `length_plain`. Assumes nothing.
+use Rattle.std.proofs.lemmas.List.{take_rest}
 use Rattle.spec.specs.declared.Span.{Span}
 use mathlib.Core.List.{List}
 use native.Mathlib.Omega.{arith}
@@ -8,7 +9,6 @@ use mathlib.Core.Path.{◌≡◌, sym, ap, ◌∙◌}
 use Prim.Native.Nat.{◌+◌, ◌-◌, ℕ, ◌<◌}
 use lib.ListN.{length, take, drop, length-drop}
 use lib.Seq.{length-take-le}
-use Rattle.spec.proofs.AheadLaws.{rest_of}
 use Rattle.spec.proofs.RequotedLength.{requoted_twice}
 use Rattle.spec.specs.Requote.{requoted_length}
 use Rattle.spec.specs.Spans.{span_at, span_len}
@@ -20,7 +20,7 @@ use Rattle.requote.proofs.requoted_len.Goals.{After-span_len, After-requoted_spa
 -- the span at an offset, and the offset behind it
 turn_at : (xs : List ℕ) (at : ℕ) (s : Span) (n : ℕ) → at < length xs → s ≡ span_at (take (length xs - at) (drop at xs)) → n ≡ span_len s
     → Stepped xs at s (at + n)
-turn_at xs at s n h front long = stepped xs at s (at + n) h (rw rest_of at front) (ap (λ k. at + k) long)
+turn_at xs at s n h front long = stepped xs at s (at + n) h (rw take_rest at front) (ap (λ k. at + k) long)
 
 turn : (c : goal.After-span_len) →
     Stepped c.args.text.now c.loop-at.at c.next_span-s.result (c.loop-at.at + c.span_len.result)

@@ -5,7 +5,7 @@ use borrow.Author.Tests.{tests}
 use Rattle.std.proofs.lemmas.Iterator.{YieldsList-from_slice}
 use Rattle.std.proofs.lemmas.Iterator.Consumers.{YieldsList-at, count_from_yields_List}
 use Rattle.std.proofs.lemmas.Iterator.Search.{YieldsList-from_take_while}
-use Rattle.spec.proofs.AheadLaws.{rest_of}
+use Rattle.std.proofs.lemmas.List.{take_rest}
 use Rattle.spec.specs.Lists.{take_while}
 use Rattle.runs.specs.Sets.{in_set}
 use Rattle.runs.proofs.ListsOfLibrary.{take_while_of_library}
@@ -22,7 +22,7 @@ returns-in-Some-clause-value c =
     count_from_yields_List c.take_while.result c.count.result c.count.ensures.ran
     (YieldsList-from_take_while _ f source c.take_while.ensures.closure c.take_while.ensures.done (λ x b q k. search (rules, tests)))
     ∙ sym (ap length (take_while_of_library f rest)) in
-    let behind : rest ≡ drop a.from a.text.now = c.in-Some.ensures.lookup.0.2 ∙ rest_of a.text.now a.from in
+    let behind : rest ≡ drop a.from a.text.now = c.in-Some.ensures.lookup.0.2 ∙ take_rest a.text.now a.from in
     ap (λ (n : ℕ). a.from + n) (counted ∙ ap (λ (xs : List ℕ). length (take_while f xs)) behind)
 
 pub returns-in-None-clause-value : goal.returns-in-None-clause-value

@@ -1,97 +1,92 @@
--- `set_lines::put_set_lines` meets its contract. The loop's invariant `Left` says that what is stored and the lines of
--- the columns from `at` on and the variables from `to` on make up all lines. `line_left` is a turn: the line and the
--- break behind it are stored. `line_bound` says how far a line reaches. Assumes nothing.
-use native.Mathlib.Omega.{arith}
-use mathlib.Core.Path.{refl, ap, ◌∙◌}
-use Prim.Native.Nat.{◌+◌, ◌≤◌}
-use lib.ListN.{length, drop}
+-- `set_lines::put_set_lines` meets its contract. The loop's invariant says that what is written and the lines of the parts that
+-- are left make up all lines. `lines_turn` is a turn: a line and the break behind it. Assumes nothing.
 use Rattle.std.proofs.lemmas.Result.{err_from_is_err_and}
-use Rattle.spec.specs.Map.{marked}
+use mathlib.Core.Path.{refl, ap}
+use native.Mathlib.Omega.{arith}
+use Prim.Native.Nat.{◌+◌, ◌^◌, ◌≤◌, ◌<◌}
+use lib.ListN.{length}
+use Rattle.output.proofs.WriterLaws.{Left, left_start, left_over, left_within, checked_ok}
+use Rattle.quotes.proofs.ItemLaws.{parts_length, parts_le}
 use Rattle.spec.specs.SelectInto.{listed}
-use Rattle.set_lines.specs.Lines.{shared, lines_text, break_text}
-use Rattle.set_lines.proofs.SetLineLaws.{part_short, line_same, lines_turn, lines_over, lines_short}
-use Rattle.set_lines.proofs.PutLaws.{Left, left_start, left_more, left_done, left_over, counted_ok, stored_same, line_length}
+use Rattle.set_lines.specs.Lines.{lines_text}
+use Rattle.set_lines.proofs.SetLineLaws.{parts_from, parts_taken, taken_short, part_short, line_length, lines_start, lines_over, lines_short, lines_turn}
 use Rattle.set_lines.proofs.put_set_lines.Goals as goal
-use Rattle.set_lines.proofs.put_set_lines.Goals.{After-put_set_line-end, After-put_break}
+use Rattle.set_lines.proofs.put_set_lines.Goals.{After-text-in-Some, After-put_break}
 
--- how far a line reaches
-line_bound : (c : goal.After-put_set_line-end) →
-    c.put_set_line-end.result ≤ c.loop-col.o + length c.args.with.now + length c.args.from.now + length c.args.cols.now + length c.args.vars.now + 32
-line_bound c =
+pub returns-in_err-check : goal.returns-in_err-check
+returns-in_err-check c =
+    let r = err_from_is_err_and c.from_residual.result c.from_residual.ensures.1 in
+    rw (r.1, r.2) (left_over _ _ _ refl (left_start _ _) c.in_err-check.ensures)
+
+pub loop-next-init : goal.loop-next-init
+loop-next-init c =
     let a = c.args in
-    let p = c.in-Some.col in
-    let q = c.in-Some-next_item.var in
-    omega (
-      arith,
-      c.put_set_line-end.ensures.count,
-      line_length a.with.now a.from.now c.part_of-column.result.now c.part_of.result.now c.is_limited-held.result,
-      ap length c.part_of-column.ensures,
-      ap length c.part_of.ensures,
-      part_short p.len p.start a.cols.now,
-      part_short q.len q.start a.vars.now,
-    )
+    let p = c.next-next.result in
+    let taken = parts_taken p c.new-columns.result c.next-next.new.self c.next-next.ensures.steps in
+    record {
+      left = lines_start a.shared.now a.out.now _ _ c.new-columns.result c.next-next.new.self c.new-variables.result p c.new-columns.ensures.value c.next-next.ensures.steps c.new-variables.ensures.value;
+      within = checked_ok _ c.in_ok-check.ensures;
+      columns = omega (arith, ap parts_length taken, ap parts_length c.new-columns.ensures.value, parts_le a.lists.now.cols);
+      variables = omega (arith, ap parts_length c.new-variables.ensures.value, parts_le a.lists.now.vars);
+    }
+
+-- the parts are no longer than the texts
+col_short : (c : goal.After-text-in-Some) → length c.text.result.now ≤ length c.args.lists.now.cols
+col_short c = omega (arith, (taken_short _ _ _ _ c.in-Some.is c.loop-next.invariant.columns).0, ap length c.text.ensures)
+
+var_short : (c : goal.After-text-in-Some) → length c.text-in-Some.result.now ≤ length c.args.lists.now.vars
+var_short c = omega (arith, (part_short _ _ _ _ c.in-Some-next.ensures.steps c.loop-next.invariant.variables).0, ap length c.text-in-Some.ensures)
 
 -- what is left behind a line and its break
-line_left : (c : goal.After-put_break) →
-    Left c.args.out.now c.args.n (lines_text (shared c.args.with.now c.args.from.now c.args.indent.now c.args.k c.args.tail) (listed (marked c.args.cols.now c.args.colsmap.now)) (listed (marked c.args.vars.now c.args.varsmap.now)))
-    c.put_break.new.out c.put_break.result
-    (lines_text (shared c.args.with.now c.args.from.now c.args.indent.now c.args.k c.args.tail) (listed (drop c.in-Some.col.next (marked c.args.cols.now c.args.colsmap.now))) (listed (drop c.in-Some-next_item.var.next (marked c.args.vars.now c.args.varsmap.now))))
-line_left c =
-    let a = c.args in
-    let l = c.loop-col in
-    let t = marked a.cols.now a.colsmap.now in
-    let u = marked a.vars.now a.varsmap.now in
-    let s = shared a.with.now a.from.now a.indent.now a.k a.tail in
-    let p = c.put_set_line-end in
-    let q = c.put_break in
-    let line = line_same a.with.now a.from.now a.indent.now a.k a.tail _ a.cols.now a.colsmap.now a.vars.now a.varsmap.now _ _ _ _ _ _ c.part_of-column.ensures c.part_of.ensures c.is_limited-held.ensures in
-    left_more _ _ p.new.out _ p.result q.new.out _ _ _ q.result
-    (left_more _ _ l.out _ l.o p.new.out _ _ _ p.result l.invariant.1
-    (lines_turn s t u l.at l.to _ _ _ _ _ _ c.in-Some.ensures c.in-Some-next_item.ensures)
-    (stored_same l.out p.new.out l.o p.result _ _ line p.ensures))
-    refl
-    (stored_same p.new.out q.new.out p.result q.result _ _ (ap (break_text a.indent.now) c.has_item-more.ensures) q.ensures)
+left : (c : goal.After-put_break) →
+    Left c.args.out.now (lines_text c.args.shared.now (listed c.args.lists.now.cols) (listed c.args.lists.now.vars)) c.put_break.new.out
+    (lines_text c.args.shared.now (parts_from c.next-next-in-Some.result c.next-next-in-Some.new.self) c.next.new.self)
+left c =
+    let l = c.loop-next in
+    lines_turn c.args.shared.now _ c.text.result.now c.text-in-Some.result.now c.is_some.result c.in-Some.col c.in-Some-next.var l.next c.next-next-in-Some.result l.columns c.next-next-in-Some.new.self l.variables c.next.new.self
+    l.invariant.left c.in-Some.is c.in-Some-next.ensures.steps c.text.ensures c.text-in-Some.ensures c.put_line.ensures c.next-next-in-Some.ensures.steps c.is_some.ensures c.put_break.ensures
 
-pub returns-in_err-o : goal.returns-in_err-o
-returns-in_err-o c =
-    let r = err_from_is_err_and c.from_residual.result c.from_residual.ensures.1 in
-    rw (r.1, r.2) (left_over _ _ _ _ c.args.n _ _ _ (left_start _ _ _) c.in_err-o.ensures)
+pub returns-in_default-next : goal.returns-in_default-next
+returns-in_default-next c =
+    left_within _ _ c.loop-next.invariant.left (lines_short c.args.shared.now _ _ c.in_default-next.ensures.steps.0) c.loop-next.invariant.within
 
-pub loop-col-init : goal.loop-col-init
-loop-col-init c =
-    let k = counted_ok c.args.n c.in_ok-o.o c.in_ok-o.ensures in
-    (refl, rw k.0 (left_start _ _ _), omega (arith, k))
-
-pub returns-in_default-next_item : goal.returns-in_default-next_item
-returns-in_default-next_item c =
-    let a = c.args in
-    let l = c.loop-col in
-    let t = marked a.cols.now a.colsmap.now in
-    let u = marked a.vars.now a.varsmap.now in
-    left_done _ _ l.out _ l.o _ l.invariant.1
-    (lines_short (shared a.with.now a.from.now a.indent.now a.k a.tail) t u l.at l.to _ _ _ c.in-Some.ensures c.in_default-next_item.ensures)
-    l.invariant.2
+pub put_line-requires : goal.put_line-requires
+put_line-requires c =
+    let s = c.args.shared.now in
+    let h : c.loop-next.out.len + length s.with_text + length s.from_text + length c.text.result.now + length c.text-in-Some.result.now + 32 < 2 ^ 63 =
+    omega (arith, c.requires, c.loop-next.invariant.within, col_short c, var_short c) in
+    h
 
 pub put_break-requires : goal.put_break-requires
 put_break-requires c =
-    omega (arith, c.requires, line_bound (goal.at.put_break-requires c).After-put_set_line-end)
+    let w = (goal.at.put_break-requires c).After-text-in-Some in
+    omega (
+      arith,
+      c.requires,
+      c.loop-next.invariant.within,
+      col_short w,
+      var_short w,
+      c.put_line.ensures.count,
+      line_length c.args.shared.now c.text.result.now c.text-in-Some.result.now,
+    )
 
-pub returns-in_err-o-2 : goal.returns-in_err-o-2
-returns-in_err-o-2 c =
-    let r = err_from_is_err_and c.from_residual-in_err-o-2.result c.from_residual-in_err-o-2.ensures.1 in
-    rw (r.1, r.2) (left_over _ _ c.put_break.new.out _ c.put_break.result _ _ _ (line_left (goal.at.returns-in_err-o-2 c).After-put_break) c.in_err-o-2.ensures)
+pub loop-next-preserved : goal.loop-next-preserved
+loop-next-preserved c =
+    let l = c.loop-next in
+    let taken = parts_taken c.next-next-in-Some.result l.columns c.next-next-in-Some.new.self c.next-next-in-Some.ensures.steps in
+    record {
+      left = left (goal.at.loop-next-preserved c).After-put_break;
+      within = checked_ok _ c.in_ok-check-2.ensures;
+      columns = omega (arith, ap parts_length taken, (taken_short _ _ _ _ c.in-Some.is l.invariant.columns).1);
+      variables = (part_short _ _ _ _ c.in-Some-next.ensures.steps l.invariant.variables).1;
+    }
 
-pub loop-col-preserved : goal.loop-col-preserved
-loop-col-preserved c =
-    let k = counted_ok c.put_break.result c.in_ok-o-2.o c.in_ok-o-2.ensures in
-    (c.put_break.auto.out ∙ (c.put_set_line-end.auto.out ∙ c.loop-col.invariant.0), rw k.0 (line_left (goal.at.loop-col-preserved c).After-put_break), omega (arith, k))
+pub returns-in_err-check-2 : goal.returns-in_err-check-2
+returns-in_err-check-2 c =
+    let r = err_from_is_err_and c.from_residual-in_err-check-2.result c.from_residual-in_err-check-2.ensures.1 in
+    let l = left (goal.at.returns-in_err-check-2 c).After-put_break in
+    rw (r.1, r.2) (left_over _ _ _ l.same l c.in_err-check-2.ensures)
 
 pub returns : goal.returns
 returns c =
-    let a = c.args in
-    let l = c.loop-col in
-    let t = marked a.cols.now a.colsmap.now in
-    let u = marked a.vars.now a.varsmap.now in
-    left_done _ _ l.out _ l.o _ l.invariant.1
-    (lines_over (shared a.with.now a.from.now a.indent.now a.k a.tail) t u l.at l.to c.in_default.ensures)
-    l.invariant.2
+    left_within _ _ c.loop-next.invariant.left (lines_over c.args.shared.now _ _ _ c.in_default.is) c.loop-next.invariant.within

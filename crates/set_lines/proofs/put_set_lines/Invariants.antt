@@ -1,17 +1,20 @@
-use mathlib.Core.Path.{◌≡◌}
-use Prim.Native.Nat.{◌+◌, ◌-◌, ◌≤◌}
-use lib.ListN.{length, drop}
-use Rattle.spec.specs.Map.{marked}
+use Prim.Native.Nat.{◌+◌, ◌≤◌}
+use lib.ListN.{length}
+use Rattle.output.proofs.WriterLaws.{Left}
+use Rattle.quotes.proofs.ItemLaws.{parts_length}
 use Rattle.spec.specs.SelectInto.{listed}
-use Rattle.set_lines.specs.Lines.{shared, lines_text}
-use Rattle.set_lines.proofs.PutLaws.{Left}
+use Rattle.set_lines.specs.Lines.{lines_text}
+use Rattle.set_lines.proofs.SetLineLaws.{parts_from}
 use Rattle.set_lines.proofs.put_set_lines.Given as goal
 
-abbrev pub invariant-loop-col : goal.invariant-loop-col
-invariant-loop-col l =
-    (length l.out ≡ length l.initial.out)
-    × Left l.initial.out l.n (lines_text (shared l.with l.from l.indent l.k l.tail) (listed (marked l.cols l.colsmap)) (listed (marked l.vars l.varsmap))) l.out l.o (lines_text (shared l.with l.from l.indent l.k l.tail) (listed (drop l.at (marked l.cols l.colsmap))) (listed (drop l.to (marked l.vars l.varsmap))))
-    × (l.o ≤ 65536)
+abbrev pub invariant-loop-next : goal.invariant-loop-next
+invariant-loop-next l =
+    record {
+      left : Left l.initial.out (lines_text l.shared (listed l.lists.cols) (listed l.lists.vars)) l.out (lines_text l.shared (parts_from l.next l.columns) l.variables);
+      within : l.out.len ≤ 65536;
+      columns : parts_length (parts_from l.next l.columns) ≤ length l.lists.cols + 1;
+      variables : parts_length l.variables ≤ length l.lists.vars + 1;
+    }
 
-abbrev pub decreases-loop-col : goal.decreases-loop-col
-decreases-loop-col l = length l.cols + 1 - l.at
+abbrev pub decreases-loop-next : goal.decreases-loop-next
+decreases-loop-next l = parts_length (parts_from l.next l.columns)

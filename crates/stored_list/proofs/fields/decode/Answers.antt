@@ -9,7 +9,7 @@ use lib.Dec.{leb}
 use lib.ListN.{length, drop}
 use Rattle.spec.proofs.Choice.{by}
 use Rattle.stored_list.specs.Numbers.{hex_bytes}
-use Rattle.stored_list.proofs.StoringLaws.{Storing, Stored, storing, storing_one, stored_all, stored_full}
+use Rattle.stored_list.proofs.StoringLaws.{Storing, Stored, storing_one, stored_all, stored_full}
 use Rattle.stored_list.proofs.NumberLaws.{hex_turn, hex_end}
 use Rattle.stored_list.proofs.fields.decode.Goals as goal
 
@@ -21,9 +21,6 @@ all_stored d hex d' n s e =
     by (leb (length d) n)
     (λ t. let h = leb-true (length d) n t in stored_full d 0 (hex_bytes hex) d' n rest s (omega (arith, h, s.kept)))
     (λ t. let h = leb-false (length d) n t in stored_all d 0 (hex_bytes hex) d' n rest s (hex_end hex (2 * n) (omega arith)))
-
-pub loop-i-init : goal.loop-i-init
-loop-i-init c = storing c.args.out.now 0 (hex_bytes c.args.hex.now) (omega arith)
 
 pub loop-i-preserved : goal.loop-i-preserved
 loop-i-preserved c =

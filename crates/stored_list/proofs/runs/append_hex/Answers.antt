@@ -17,7 +17,7 @@ returns c =
     let a = c.append_times in
     let d = c.decode-k in
     let vs = hex_bytes s.hex.now in
-    let text : take d.result d.new.out ≡ take run_limit vs = held _ d.new.out vs d.result d.ensures.out_after d.ensures.value
+    let text : take d.result d.new.out ≡ take run_limit vs = held {A = ℕ} _ d.new.out vs d.result d.ensures.out_after d.ensures.value
     ∙ ap (λ (n : ℕ). take n vs) (length-replicate {A = ℕ} 4096 0) in
     let reach = ap (λ (l : List ℕ). min (s.n + length (repeated s.times l)) (length s.out.now)) text in
     let stores = ap (λ (l : List ℕ). sets s.out.now s.n (repeated s.times l)) text in
