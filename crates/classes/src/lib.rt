@@ -1,6 +1,6 @@
 // Bytes: document 01's byte sets, letter case, bytes of a text, and a lone `=`. Where a function's body is one method of the library
 // (`in_range`, `upper_of`, `starts_with`), what it adds is its equation, in the words of the definitions; `is_pair` is the definition
-// of that name.
+// of that name. A text and a place in it are two arguments: one text has many places.
 #![tactic(auto)]
 
 ghost use Rattle.std.specs.Prelude.{◌≡◌, List, cond, ◌-◌, ◌≤◌, eqb, length, get_or, drop};

@@ -1,4 +1,5 @@
 // Whether a body is closed: a body with whatever is joined behind it is then rewritten as the two apart are.
+// A text and a place in it are two arguments: one text has many places.
 #![tactic(auto)]
 
 ghost use Rattle.std.specs.Prelude.{◌≡◌, List, not, ◌&&◌, [], ◌≤◌, ◌<◌, eqb, length, drop};

@@ -1,4 +1,5 @@
 // One part of the declarations: where its name, its type's words and its default stand, and how they are written.
+// A text and a place in it are two arguments: one text has many places.
 #![tactic(auto)]
 
 ghost use Rattle.std.specs.Prelude.{◌≡◌, ℕ, true, false, Some, reverse, ◌+◌, ◌*◌, ◌^◌, ◌≤◌, ◌<◌, length, take, drop};
@@ -24,7 +25,8 @@ pub struct Cut {
     pub rest: Option<usize>,
 }
 
-// Where the type's words stand, and whether CONSTANT stands ahead of them and NOT NULL behind them.
+// Where the type's words stand, and whether CONSTANT stands ahead of them and NOT NULL behind them: the two are what is told, and
+// have no value beside them.
 #[derive(Clone, Copy)]
 pub struct TypePlaces {
     pub words: Place,
@@ -33,7 +35,7 @@ pub struct TypePlaces {
 }
 
 // Places in a text: the name, the type's words, and the default, if there is one; then whether CONSTANT stands ahead of the
-// type and NOT NULL behind it. A part that has no type declares nothing.
+// type and NOT NULL behind it, which have no value beside them. A part that has no type declares nothing.
 #[derive(Clone, Copy)]
 pub struct DeclarationPlaces {
     pub name: Place,

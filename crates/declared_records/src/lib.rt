@@ -1,5 +1,8 @@
 // The records of a section while they are read: each holds the places of its last declaration in the section's text, and
 // its name's hash.
+// The text, the records and the number of a record are arguments of their own: one section has many records, and a struct of the
+// caller's slice and the count would have to say in each promise that it holds the same slice. The slice may be longer than 5,130:
+// an array would ask more of callers. The bounds 512 and 5,130 are limits of the call.
 #![tactic(auto)]
 
 ghost use Rattle.std.specs.Prelude.{◌≡◌, ◌+◌, ◌*◌, ◌^◌, ◌≤◌, ◌<◌, length, get_or, drop};

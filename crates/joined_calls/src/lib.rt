@@ -1,4 +1,4 @@
-// Demand 3 about the body call itself.
+// Demand 3 about the body call itself. The function takes what the three calls take, each with an output of its own.
 #![tactic(auto)]
 
 ghost use Rattle.std.specs.Prelude.{◌≡◌, ◌≤◌, length, take, drop};

@@ -9,8 +9,9 @@ ghost use Rattle.spec.specs.Requote.{doubled, single_quoted};
 
 use spec::Refusal;
 
-// The bytes of each lent byte buffer that a call fills: the most that a pass's result may have. In `requires` bounds of lengths are
-// numbers: they keep sums within 64 bits, and a type for them would have to be made of every part of a text.
+// The bytes of each lent byte buffer that a call fills: the most that a pass's result may have. In `requires` bounds of lengths, offsets
+// and counts are numbers: they keep sums, casts and results in range, and a type for them would have to be made of every part of a
+// text.
 pub const BUFFER_SIZE: usize = 65536;
 
 // A count of bytes, refusal 6 past the buffer size.
@@ -116,8 +117,8 @@ impl<'a> Writer<'a> {
     }
 }
 
-// src at offset n, as far as the buffer reaches. By a buffer and an offset: what a writer adds to it is the count, which `put_all`
-// moves for the byte that it stores itself as well.
+// src at offset n, as far as the buffer reaches. By a buffer and an offset: the count, which is what a writer adds to them,
+// moves by the length of src whether it fits or not.
 fn store(out: &mut [u8], n: usize, src: &[u8])
     ensures { out.new ≡ sets out.old n src.now }
 {

@@ -109,7 +109,8 @@ fn raise_pass(
     limit(transform_raise_statements(&MappedText::mapped(text, map), actions, out))
 }
 
-// All five passes over the text: each reads the result of the one before, in the buffer where that one left it.
+// All five passes over the text (the three buffers are parameters of their own, as those of each pass: a pass reads one and writes
+// another, so that a struct would be taken apart at once): each reads the result of the one before, in the buffer where that one left it.
 fn run_passes(
     text: &[u8],
     actions: Actions,

@@ -28,7 +28,7 @@ impl Answer {
     }
 }
 
-// A number in 32 bits; a larger one is the largest.
+// A number in 32 bits; a larger one is the largest, where `try_from` would fail.
 #[tactic(auto, unfolding(crate::specs::Four::narrow))]
 fn narrowed(n: usize) -> u32
     ensures { result ≡ narrow n }
@@ -36,7 +36,7 @@ fn narrowed(n: usize) -> u32
     u32::try_from(n).unwrap_or(u32::MAX)
 }
 
-// The four numbers.
+// The four numbers, the last three in 32 bits: what every `From` below calls.
 fn four(number: u32, second: usize, third: usize, fourth: usize) -> Answer
     ensures { result.0 ≡ number ∷ narrow second ∷ narrow third ∷ narrow fourth ∷ [] }
 {

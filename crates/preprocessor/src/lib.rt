@@ -1,4 +1,5 @@
-// The two rewriting calls, with a table of levels and without one, since C calls both.
+// The two rewriting calls, with a table of levels and without one, since C calls both. C lends each buffer apart, so the calls and
+// what they hand the buffers on to take them so.
 #![tactic(auto)]
 
 ghost use Rattle.std.specs.Prelude.{◌≡◌, ◌&&◌, [], ◌≤◌, leb, length};
@@ -83,7 +84,7 @@ fn all_lent(output: usize, work: usize, spare: usize, declared: usize, records: 
     are_lent(output, work, spare) && BUFFER_SIZE <= declared && RECORD_NUMBERS <= records
 }
 
-// The answer with this number of records, if it is accepted.
+// The answer with this number of records, if it is accepted: one field is set, which no derive does.
 fn with_records(r: Result<Accepted, Refusal>, count: usize) -> Result<Accepted, Refusal>
     ensures { result ≡ with_records count r }
 {

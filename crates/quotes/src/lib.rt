@@ -1,4 +1,5 @@
 // What pass 4 reads: a map that knows `'` and `"` only, and keywords and lists outside parentheses and those quotes.
+// A text, a word, a place in the text and the depth there are arguments of their own: one text has many places.
 #![tactic(auto)]
 
 ghost use Rattle.std.specs.Prelude.{◌≡◌, cond, ◌&&◌, reverse, ◌+◌, ◌^◌, ◌≤◌, ◌<◌, eqb, length, get_or, take, drop, None};

@@ -55,7 +55,7 @@ pub const NO_ANSWER: Numbers = Numbers {
     count: 0,
 };
 
-// The same with the front of two buffers lent; none if the line asks for no search or lends more than there is.
+// Any search with the front of two buffers lent; none if the line asks for no search or lends more than there is.
 pub fn ask_lent(
     kind: Option<Kind>,
     question: Question<'_>,

@@ -1,5 +1,5 @@
 // A line about the text: KIND NEEDLE FROM NUMBER FOUND PLACE LENGTH RESULT. The search is made, and its numbers and what it
-// wrote are compared with the line's.
+// wrote are compared with the line's. The kind stands in the line, and is read off it once, for the report's row.
 use crate::ask::{Counts, NO_ANSWER, Question, ask_lent};
 use crate::kind::Kind;
 use stored_list::{

@@ -83,7 +83,7 @@ pub fn requoted_len(text: &[u8]) -> usize
     ensures { result ≡ requoted_length text.now }
 {
     let mut n: usize = 0;
-    // By an index: a turn takes a byte or a whole span.
+    // By an index and no `Cursor`: a turn takes a byte that opens nothing, as most do, or a whole span.
     let mut at: usize = 0;
     while at < text.len() {
         // Most bytes open nothing, and such a byte stays as it is.

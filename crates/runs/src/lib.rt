@@ -1,5 +1,6 @@
 // Places in a text, and runs of the bytes of a set in it: where they end, where they start, whether there is one,
 // and a text without W at both ends.
+// A text and a place in it are two arguments: one text has many places.
 #![tactic(auto)]
 
 ghost use Rattle.std.specs.Prelude.{◌≡◌, ◌+◌, ◌≤◌, length, take, drop};

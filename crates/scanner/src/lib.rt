@@ -1,4 +1,6 @@
 // The scanner: the map of a text, and searches on a text whose map is already made.
+// A word, a needle and a place in the text are arguments of their own: one text is searched for many words, from many places.
+// What fills a map asks for room for the text, as a copy into a slice does.
 #![tactic(auto)]
 
 ghost use Rattle.std.specs.Prelude.{◌≡◌, ℕ, Bool, ◌^◌, cond, reverse, ◌+◌, ◌-◌, ◌≤◌, ◌<◌, length, get_or, take, drop, replicate, None};
@@ -37,7 +39,7 @@ fn mark_span(map: &mut [u8], from: usize, to: usize, flag: u8)
     }
 }
 
-// The map of `text`, at the front of `map`.
+// The map of `text`, at the front of `map`: a walk by `spans::Cursor`.
 #[tactic(auto, using(spans::proofs::StepLaws::step_taken, spans::proofs::StepLaws::step_done, crate::proofs::SpanWalkLaws::map_turn, crate::proofs::SpanWalkLaws::map_over, crate::proofs::SpanWalkLaws::map_kept))]
 pub fn map_text(text: &[u8], map: &mut [u8])
     requires { length text.now ≤ length map.old }
@@ -206,7 +208,7 @@ impl<'a> MappedText<'a> {
         let last = self.text.len().checked_sub(n)?;
         let initial = upper_of(word[0]);
         let mut i = from;
-        // The project's list of forms names this one: a loop over offsets that gives its place by `break`, and in it the comparison of
+        // The project's list of forms (docs/DECISIONS.md) names this one: a loop over offsets that gives its place by `break`, and in it the comparison of
         // bytes, left by a label.
         let place = 'offsets: loop {
             if last < i {
@@ -378,7 +380,7 @@ pub fn starts_ignoring_case(text: &[u8], word: &[u8]) -> bool
             .all(|(a, b)| upper_of(*b) == upper_of(*a))
 }
 
-// Whether a dollar literal opens and never closes.
+// Whether a dollar literal opens and never closes: a walk by `spans::Cursor`.
 #[tactic(auto, using(spans::proofs::StepLaws::step_taken, spans::proofs::StepLaws::step_done, crate::proofs::SpanWalkLaws::unclosed_here, crate::proofs::SpanWalkLaws::unclosed_behind, crate::proofs::SpanWalkLaws::unclosed_over))]
 pub fn has_unterminated(text: &[u8]) -> bool
     ensures { result ≡ has_unterminated_dollar_quote text.now }

@@ -1,4 +1,5 @@
 // Spans: what the text in front opens, and a cursor that walks from span to span.
+// A text and a place in it are two arguments: one text has many places.
 #![tactic(auto)]
 
 ghost use Rattle.std.specs.Prelude.{◌≡◌, cond, ◌+◌, ◌≤◌, ◌<◌, length, drop};
@@ -199,7 +200,7 @@ pub fn span_len(s: Span) -> usize
     }
 }
 
-// A place in a text, for a walk from span to span. The project's list of forms names this one: a cursor by value, whose step takes it
+// A place in a text, for a walk from span to span. The project's list of forms (docs/DECISIONS.md) names this one: a cursor by value, whose step takes it
 // and gives the span and the next cursor. The walks move it in a `while let`.
 #[derive(Clone, Copy)]
 pub struct Cursor {

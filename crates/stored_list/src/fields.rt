@@ -1,4 +1,5 @@
-// The fields of a line: a letter for its kind, then texts in hex and decimal numbers, with one space between two fields.
+// The fields of a line: a letter for its kind, then texts in hex and decimal numbers, with one space between two fields. A line and
+// the number or the offset of a field are two arguments: a line has many fields.
 ghost use Rattle.std.specs.Prelude.{◌≡◌, ◌≤◌, ◌<◌, min, length, IfSome};
 ghost use Rattle.std.proofs.lemmas.List.Edits.{sets};
 ghost use Rattle.stored_list.specs.Fields.{part_of, place_of, field_of};

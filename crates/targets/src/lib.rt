@@ -1,4 +1,5 @@
 // The check of a statement: whether it assigns to a qualified target `q.n`, and where that stands.
+// A text and a place in it are two arguments: one text has many places.
 #![tactic(auto)]
 
 ghost use Rattle.std.specs.Prelude.{◌≡◌, List, [], reverse, ◌^◌, ◌≤◌, ◌<◌, length, get_or, take, drop};
