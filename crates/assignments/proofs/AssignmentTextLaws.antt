@@ -18,7 +18,7 @@ use Rattle.spec.specs.Map.{Marked, marked, bytes, lives, front_live, of_byte}
 use Rattle.spec.specs.Search.{first, starts, needle_here}
 use Rattle.spec.specs.Assignments.{assign_here, right_side, starts_name, assignment_at, assignment}
 use Rattle.spec.specs.Parts.{trim}
-use Rattle.spec.proofs.Choice.{and_right}
+use Rattle.std.proofs.lemmas.Bool.{and_parts}
 use Rattle.spec.proofs.FirstLaws.{first_least}
 use Rattle.spec.proofs.WalkLaws.{starts_exact, prefix_by_len}
 use Rattle.spec.proofs.RunPlaces.{start_from, Behind, behind_at}
@@ -35,7 +35,7 @@ pub assign_inside : (t : List Marked) (i : ℕ) → Some i ≡ first (needle_her
 unfolding needle_here
 assign_inside t i e =
     let l = first_least (needle_here (ascii ":=")) t 0 i (sym e) in
-    let s = and_right (front_live (drop i t)) (starts (ascii ":=") (drop i t)) l.passes in
+    let s = (and_parts (front_live (drop i t)) (starts (ascii ":=") (drop i t)) l.passes).1 in
     let p = prefix_by_len (λ (b : ℕ). b) (ascii ":=") (bytes (drop i t)) (sym (starts_exact (ascii ":=") (drop i t)) ∙ s) in
     omega (arith, bytes_length (drop i t), length-drop i t, l.inside)
 

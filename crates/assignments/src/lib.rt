@@ -135,7 +135,8 @@ pub fn transform_assignments(text: &MappedText<'_>, out: &mut [u8]) -> Result<us
     ensures leaves { Leaves (assignments text.now) out.old out.new }
 {
     let mut written = Writer::new(out);
-    // By hand from one live `;` to the next: a turn takes a statement, and the library's walks take a byte.
+    // By hand from one live `;` to the next, as in `select_into` and `declared_records`: an iterator of the parts would be no plainer,
+    // since no `;` ends the last one, and each of the three takes a part in another way: without its `;`, with it, or by its offsets.
     let mut from: usize = 0;
     while let Some(end) = text.find_byte(b';', from) {
         put_statement(&mut written, &text.part(from, end))?;

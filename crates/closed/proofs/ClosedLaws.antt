@@ -1,19 +1,19 @@
 -- The parts of a closed body at an offset: its last byte, its spans, and each RAISE. Assumes nothing.
-use Rattle.std.specs.List.{list_all, range_with_len}
+use Rattle.std.specs.List.{list_all, list_any, starts_with, range_with_len}
 use Rattle.std.proofs.lemmas.List.{drop_more, take_rest}
 use mathlib.Core.Path.{◌≡◌, refl, sym, ap, ◌∙◌}
-use mathlib.Core.Bool.{Bool, true, false, not, ◌&&◌}
+use mathlib.Core.Bool.{Bool, true, false, not, ◌&&◌, and-false, false≢true}
 use mathlib.Core.List.{List, [], ◌∷◌, reverse}
-use Prim.Native.Nat.{ℕ, zero, suc, ◌+◌, ◌-◌, ◌≤◌, ◌<◌}
+use Prim.Native.Nat.{ℕ, zero, suc, ◌+◌, ◌-◌, ◌≤◌, ◌<◌, zero-le, suc-le-suc}
 use native.Mathlib.Omega.{arith}
-use borrow.Author.Tests.{eq-eqb, ne_eqb}
+use borrow.Author.Tests.{eqb-true, eq-eqb, ne_eqb}
 use lib.Dec.{eqb}
 use lib.ListN.{length, take, drop, get_or, length-drop, drop_of_length-le}
 use lib.Seq.{drop-drop, get_or-drop}
-use Rattle.spec.specs.Bytes.{ascii, is_pair, is_ident}
+use Rattle.spec.specs.Bytes.{ascii, is_pair, is_prefix, is_ident}
 use Rattle.spec.specs.Lists.{take_while, drop_while, any, all}
-use Rattle.spec.specs.Spans.{kind_at, opens_dollar, span_of, span_at, span_len, Lexeme, lexeme_at, lexemes_from, lexemes}
-use Rattle.spec.specs.Map.{Marked, live, byte, bytes, is_live, front_byte, of_byte}
+use Rattle.spec.specs.Spans.{block_len, kind_at, opens_dollar, span_of, span_at, span_len, Lexeme, lexeme_at, lexemes_from, lexemes}
+use Rattle.spec.specs.Map.{Marked, live, byte, bytes, is_live, front_byte, of_byte, is_live_byte}
 use Rattle.spec.specs.Search.{word_here}
 use Rattle.spec.specs.Closed.{ends_live, is_plain_span, ends_word, is_followed, raises_followed}
 use Rattle.spec.specs.declared.Span.{Span}
@@ -21,19 +21,21 @@ use Rattle.spec.proofs.BytesLaws.{bytes_drop, front_bytes}
 use Rattle.spec.proofs.Choice.{by}
 use Rattle.spec.proofs.LengthLaws.{word_in}
 use Rattle.spec.proofs.RunPlaces.{end_from, ahead_at}
-use Rattle.spec.proofs.SpanLaws.{lexemes_step}
+use Rattle.spec.proofs.SpanLaws.{lexemes_step, span_pos}
 use Rattle.spec.proofs.WalkLaws.{before_next, starts_length}
-use Rattle.scanner.proofs.ByteLaws.{live_byte}
+use Rattle.classes.proofs.PrefixLaws.{is_prefix_of_library}
+use Rattle.runs.proofs.ListsOfLibrary.{any_of_library}
+use Rattle.runs.proofs.RunLaws.{any_byte}
 use Rattle.spans.proofs.StepLaws.{by_front, Stepped}
 use Rattle.closed.specs.Answer.{is_unfollowed_raise}
 
 -- ---- the last byte
 
 pub ends_last : (t : List Marked) → 0 < length t
-    → ends_live t ≡ (is_live (get_or t (length t - 1) (live 0)) && eqb (byte (get_or t (length t - 1) (live 0))) 59)
+    → ends_live t ≡ is_live_byte 59 (get_or t (length t - 1) (live 0))
 unfolding ends_live
 ends_last [] h = absurd (omega arith)
-ends_last (x ∷ []) h = live_byte 59 x
+ends_last (x ∷ []) h = refl
 ends_last (x ∷ y ∷ t) h =
     let n : length (x ∷ y ∷ t) - 1 ≡ suc (length (y ∷ t) - 1) = omega arith in
     rw n (ends_last (y ∷ t) (omega arith))
@@ -86,6 +88,103 @@ module _ (xs : List ℕ) where
           rw f (by (opens_dollar xs) (λ g. rw g refl) (λ g.
           rw (g, live_one p q e f g) (sym (ap not (one_other xs n)))))))))
 
+-- a prefix of a part that is long enough
+prefix_part : (p xs : List ℕ) (n : ℕ) → length p ≤ n → is_prefix p (take n xs) ≡ is_prefix p xs
+unfolding is_prefix
+prefix_part [] xs n h = refl
+prefix_part (a ∷ p) [] zero h = absurd (omega arith)
+prefix_part (a ∷ p) [] (suc n) h = refl
+prefix_part (a ∷ p) (x ∷ xs) zero h = absurd (omega arith)
+prefix_part (a ∷ p) (x ∷ xs) (suc n) h = rw (prefix_part p xs n (omega arith)) refl
+
+-- a prefix of a part stands in front of the whole
+prefix_whole : (p xs : List ℕ) (n : ℕ) → is_prefix p xs ≡ false → is_prefix p (take n xs) ≡ false
+unfolding is_prefix
+prefix_whole [] xs n h = h
+prefix_whole (a ∷ p) [] zero h = refl
+prefix_whole (a ∷ p) [] (suc n) h = refl
+prefix_whole (a ∷ p) (x ∷ xs) zero h = refl
+prefix_whole (a ∷ p) (x ∷ xs) (suc n) h = by (eqb x a) (λ e. rw e (prefix_whole p xs n (rw e at h))) (λ e. rw e refl)
+
+-- two bytes in front
+pair_front : (a b : ℕ) (xs : List ℕ) → is_prefix (suc a ∷ suc b ∷ []) xs ≡ is_pair (suc a) (suc b) (get_or xs 0 0) (get_or xs 1 0)
+unfolding is_prefix is_pair
+pair_front a b [] = rw (ne_eqb 0 (suc a) (λ e. omega (arith, e))) refl
+pair_front a b (c ∷ []) = rw (ne_eqb 0 (suc b) (λ e. omega (arith, e))) refl
+pair_front a b (c ∷ d ∷ cs) = by (eqb d (suc b)) (λ e. rw e refl) (λ e. rw e refl)
+
+-- one byte in front
+front_one : (a : ℕ) (xs : List ℕ) → is_prefix (suc a ∷ []) xs ≡ true → get_or xs 0 0 ≡ suc a
+unfolding is_prefix
+front_one a [] e = absurd (false≢true e)
+front_one a (c ∷ cs) e = by (eqb c (suc a)) (λ f. eqb-true c (suc a) f) (λ f. absurd (false≢true (rw f at e)))
+
+not_one : (a : ℕ) (xs : List ℕ) → is_prefix (suc a ∷ []) xs ≡ false → get_or xs 0 0 ≡ suc a → ⊥
+unfolding is_prefix
+not_one a [] e f = omega arith
+not_one a (c ∷ cs) e f = false≢true (sym e ∙ rw (eq-eqb c (suc a) f) refl)
+
+-- such a span has a byte, a block comment two
+span_one : (a : ℕ) (xs : List ℕ) → is_prefix (suc a ∷ []) xs ≡ true → 1 ≤ span_len (span_at xs)
+unfolding is_prefix
+span_one a [] e = absurd (false≢true e)
+span_one a (c ∷ cs) e = span_pos c cs
+
+block_two : (xs : List ℕ) → is_pair 47 42 (get_or xs 0 0) (get_or xs 1 0) ≡ true → 2 ≤ block_len xs
+unfolding block_len is_pair
+block_two [] e = absurd (false≢true e)
+block_two (c ∷ []) e = absurd (false≢true (sym (and-false (eqb c 47)) ∙ e))
+block_two (c ∷ d ∷ cs) e = suc-le-suc (suc-le-suc zero-le)
+
+-- the library's `contains`
+contains_byte : (c : ℕ) (xs : List ℕ) → list_any (λ y. eqb y c) xs ≡ any (eqb c) xs
+contains_byte c xs = sym (any_of_library (λ y. eqb y c) xs) ∙ any_byte c xs
+
+module _ (xs : List ℕ) (r : Bool) (e : r ≡ list_any (λ y. eqb y 92) xs) where
+  pub backslash_yes : r ≡ true → any (eqb 92) xs ≡ true
+  backslash_yes h = sym (contains_byte 92 xs) ∙ (sym e ∙ h)
+
+  pub backslash_no : r ≡ false → any (eqb 92) xs ≡ false
+  backslash_no h = sym (contains_byte 92 xs) ∙ (sym e ∙ h)
+
+-- the span in front of xs, by its bytes ys
+module _ (xs ys : List ℕ) (h : ys ≡ take (span_len (span_at xs)) xs) where
+  -- what stands in front of the span, where the span is long enough for it, stands in front of the text
+  front_same : (p : List ℕ) → (is_prefix p xs ≡ true → length p ≤ span_len (span_at xs)) → starts_with eqb ys p ≡ is_prefix p xs
+  front_same p long =
+      rw h
+      (sym (is_prefix_of_library p (take (span_len (span_at xs)) xs))
+      ∙ by (is_prefix p xs)
+      (λ e. prefix_part p xs (span_len (span_at xs)) (long e))
+      (λ e. prefix_whole p xs (span_len (span_at xs)) e ∙ sym e))
+
+  line_same : starts_with eqb ys (45 ∷ 45 ∷ []) ≡ is_pair 45 45 (get_or xs 0 0) (get_or xs 1 0)
+  unfolding span_at span_of kind_at
+  line_same = front_same (45 ∷ 45 ∷ []) (λ e. rw (sym (pair_front 44 44 xs) ∙ e) (omega arith)) ∙ pair_front 44 44 xs
+
+  pub bytes_line : starts_with eqb ys (45 ∷ 45 ∷ []) ≡ true → is_plain_span (lexeme_at xs) ≡ false
+  bytes_line e = plain_line xs (sym line_same ∙ e)
+
+  module _ (p : starts_with eqb ys (45 ∷ 45 ∷ []) ≡ false) where
+    block_same : starts_with eqb ys (47 ∷ 42 ∷ []) ≡ is_pair 47 42 (get_or xs 0 0) (get_or xs 1 0)
+    unfolding span_at span_of kind_at
+    block_same = front_same (47 ∷ 42 ∷ []) (λ e. rw (sym line_same ∙ p, sym (pair_front 46 41 xs) ∙ e) (block_two xs (sym (pair_front 46 41 xs) ∙ e))) ∙ pair_front 46 41 xs
+
+    pub bytes_block : starts_with eqb ys (47 ∷ 42 ∷ []) ≡ true → is_plain_span (lexeme_at xs) ≡ false
+    bytes_block e = plain_block xs (sym line_same ∙ p) (sym block_same ∙ e)
+
+    module _ (q : starts_with eqb ys (47 ∷ 42 ∷ []) ≡ false) where
+      newline_same : starts_with eqb ys (10 ∷ []) ≡ is_prefix (10 ∷ []) xs
+      newline_same = front_same (10 ∷ []) (span_one 9 xs)
+
+      pub bytes_newline : starts_with eqb ys (10 ∷ []) ≡ true → is_plain_span (lexeme_at xs) ≡ true
+      bytes_newline e = plain_newline xs (sym line_same ∙ p) (sym block_same ∙ q) (front_one 9 xs (sym newline_same ∙ e))
+
+      pub bytes_other : starts_with eqb ys (10 ∷ []) ≡ false → is_plain_span (lexeme_at xs) ≡ not (list_any (λ y. eqb y 10) ys)
+      bytes_other e =
+          plain_other xs (sym line_same ∙ p) (sym block_same ∙ q) (not_one 9 xs (sym newline_same ∙ e))
+          ∙ ap not (ap (λ (l : List ℕ). any (eqb 10) l) (sym h) ∙ sym (contains_byte 10 ys))
+
 -- ---- all spans
 
 plain_step : (c : ℕ) (cs : List ℕ)
@@ -95,29 +194,27 @@ unfolding all
 plain_step c cs = ap (λ (ls : List Lexeme). all is_plain_span ls) (lexemes_step c cs)
 
 module _ (xs : List ℕ) (at : ℕ) where
-  -- the span at `at`, in the part of the text from there on
-  pub step_part : (s : Span) (to : ℕ) → Stepped xs at s to
-      → (to - at ≡ span_len (span_at (take (length xs - at) (drop at xs)))) × (to - at ≤ length (take (length xs - at) (drop at xs)))
+  -- a step's bytes are those of the span at `at`
+  pub step_part : (s : Span) (to : ℕ) → Stepped xs at s to → take (to - at) (drop at xs) ≡ take (span_len (span_at (drop at xs))) (drop at xs)
   step_part s to t =
-      rw take_rest
-      (omega (arith, t.far, ap span_len t.front), omega (arith, t.within, length-drop at xs))
+      let n : to - at ≡ span_len (span_at (drop at xs)) = omega (arith, t.far, ap span_len t.front) in
+      rw n refl
 
   -- that span, and the spans behind it
-  plain_ahead : (s : Span) (to : ℕ) → Stepped xs at s to → (r : Bool) → r ≡ is_plain_span (lexeme_at (take (length xs - at) (drop at xs)))
-      → all is_plain_span (lexemes (drop at xs)) ≡ (r && all is_plain_span (lexemes (drop to xs)))
-  plain_ahead s to t r e =
-      let f : r ≡ is_plain_span (lexeme_at (drop at xs)) = rw take_rest at e in
-      rw (f, ← t.behind)
+  plain_ahead : (s : Span) (to : ℕ) → Stepped xs at s to
+      → all is_plain_span (lexemes (drop at xs)) ≡ (is_plain_span (lexeme_at (drop at xs)) && all is_plain_span (lexemes (drop to xs)))
+  plain_ahead s to t =
+      rw (← t.behind)
       (by_front (λ (l : List ℕ). all is_plain_span (lexemes l) ≡ (is_plain_span (lexeme_at l) && all is_plain_span (lexemes (drop (span_len (span_at l)) l))))
       plain_step (drop at xs) (omega (arith, t.before, length-drop at xs)))
 
   -- the same by whether that span is plain
   module _ (s : Span) (to : ℕ) (t : Stepped xs at s to) where
-    pub plain_here : is_plain_span (lexeme_at (take (length xs - at) (drop at xs))) ≡ true → all is_plain_span (lexemes (drop at xs)) ≡ all is_plain_span (lexemes (drop to xs))
-    plain_here e = plain_ahead s to t true (sym e)
+    pub plain_here : is_plain_span (lexeme_at (drop at xs)) ≡ true → all is_plain_span (lexemes (drop at xs)) ≡ all is_plain_span (lexemes (drop to xs))
+    plain_here e = plain_ahead s to t ∙ rw e refl
 
-    pub plain_not : is_plain_span (lexeme_at (take (length xs - at) (drop at xs))) ≡ false → all is_plain_span (lexemes (drop at xs)) ≡ false
-    plain_not e = plain_ahead s to t false (sym e)
+    pub plain_not : is_plain_span (lexeme_at (drop at xs)) ≡ false → all is_plain_span (lexemes (drop at xs)) ≡ false
+    plain_not e = plain_ahead s to t ∙ rw e refl
 
   pub plain_over : length xs ≤ at → all is_plain_span (lexemes (drop at xs)) ≡ true
   unfolding all lexemes lexemes_from

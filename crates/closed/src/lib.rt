@@ -2,7 +2,7 @@
 // A text and a place in it are two arguments: one text has many places.
 #![tactic(auto)]
 
-ghost use Rattle.std.specs.Prelude.{◌≡◌, List, not, ◌&&◌, [], ◌≤◌, ◌<◌, eqb, length, drop};
+ghost use Rattle.std.specs.Prelude.{◌≡◌, ℕ, List, not, ◌&&◌, [], ◌≤◌, ◌<◌, eqb, length, take, drop};
 ghost use Rattle.spec.specs.Lists.{any, all};
 ghost use Rattle.spec.specs.Spans.{span_at, span_len, lexeme_at, lexemes};
 ghost use Rattle.spec.specs.Map.{Marked, bytes};
@@ -10,8 +10,8 @@ ghost use Rattle.spec.specs.Closed.{ends_live, is_plain_span, ends_word, is_foll
 ghost use Rattle.spec.specs.Answers.{map_exit};
 ghost use Rattle.closed.specs.Answer.{closed_answer, is_unfollowed_raise};
 
-use classes::{byte_at, byte_before, is_ident_byte, is_pair};
-use runs::{Set, has, run_end};
+use classes::{byte_at, is_ident_byte};
+use runs::{Set, run_end};
 use scanner::MappedText;
 use searches::{searched, yes_no};
 use spans::Cursor;
@@ -23,32 +23,28 @@ fn ends_live(text: &MappedText<'_>) -> bool
     ensures { result ≡ ends_live text.now }
 {
     let n = text.len();
-    n != 0 && text.is_live(n - 1) && text.byte(n - 1) == b';'
+    n != 0 && text.is_live_byte(n - 1, b';')
 }
 
-// Whether the span in front, of n bytes, is neither a comment nor a literal with a newline. A newline in front is live text:
+// Whether the bytes `span` are no comment, and no literal with a newline. A newline in front is live text:
 // a literal starts with a quote or a `$`.
-#[tactic(auto, using(crate::proofs::ClosedLaws::plain_line, crate::proofs::ClosedLaws::plain_block, crate::proofs::ClosedLaws::plain_newline, crate::proofs::ClosedLaws::plain_other, runs::proofs::RunLaws::any_byte))]
-fn is_plain_span(rest: &[u8], n: usize) -> bool
-    requires n_value { n ≡ span_len (span_at rest.now) }
-    requires n_in_bounds { n ≤ length rest.now }
-    ensures { result ≡ is_plain_span (lexeme_at rest.now) }
+#[tactic(auto, using(crate::proofs::ClosedLaws::bytes_line, crate::proofs::ClosedLaws::bytes_block, crate::proofs::ClosedLaws::bytes_newline, crate::proofs::ClosedLaws::bytes_other))]
+fn is_plain_span(span: &[u8]) -> bool
+    ensures { (xs : List ℕ) → span.now ≡ take (span_len (span_at xs)) xs → result ≡ is_plain_span (lexeme_at xs) }
 {
-    let c = byte_at(rest, 0);
-    let d = byte_at(rest, 1);
-    !is_pair(b'-', b'-', c, d)
-        && !is_pair(b'/', b'*', c, d)
-        && (c == b'\n' || !has(&rest[..n], Set::Only(b'\n')))
+    !span.starts_with(b"--")
+        && !span.starts_with(b"/*")
+        && (span.starts_with(b"\n") || !span.contains(&b'\n'))
 }
 
-// Whether no span is a comment or a literal with a newline: a walk as at `spans::Cursor`.
+// Whether no span is a comment or a literal with a newline: a walk by `spans::Cursor`, for the reason at `scanner::has_unterminated`.
 #[tactic(auto, using(crate::proofs::ClosedLaws::step_part, crate::proofs::ClosedLaws::plain_here, crate::proofs::ClosedLaws::plain_not, crate::proofs::ClosedLaws::plain_over, spans::proofs::StepLaws::step_taken, spans::proofs::StepLaws::step_done))]
 fn has_plain_spans(text: &[u8]) -> bool
     ensures { result ≡ all is_plain_span (lexemes text.now) }
 {
     let mut cursor = Cursor { at: 0 };
     while let Some((_, next)) = cursor.step(text) {
-        if !is_plain_span(&text[cursor.at..], next.at - cursor.at) {
+        if !is_plain_span(&text[cursor.at..next.at]) {
             return false;
         }
         cursor = next;
@@ -76,12 +72,12 @@ fn is_followed(text: &[u8], i: usize) -> bool
 }
 
 // Whether a RAISE stands at i that has something else behind it.
-#[tactic(auto, using(crate::proofs::ClosedLaws::word_fits, classes::proofs::BackLaws::byte_back, spec::proofs::RefusalBounds::bytes_length))]
+#[tactic(auto, using(crate::proofs::ClosedLaws::word_fits, spec::proofs::RefusalBounds::bytes_length))]
 fn is_unfollowed_raise(text: &MappedText<'_>, i: usize) -> bool
     requires { i < length text.now }
     ensures { result ≡ is_unfollowed_raise text.now i }
 {
-    text.word_at(b"RAISE", byte_before(text.text(), i), i) && !is_followed(text.text(), i + 5)
+    text.word_at(b"RAISE", i) && !is_followed(text.text(), i + 5)
 }
 
 // Whether every live RAISE has a space, a word and a space or `;` behind it.
@@ -96,12 +92,12 @@ fn has_followed_raises(text: &MappedText<'_>) -> bool
 }
 
 // Whether a text with its map is a closed body.
-#[tactic(auto, using(runs::proofs::RunLaws::any_byte))]
+#[tactic(auto, using(crate::proofs::ClosedLaws::backslash_yes, crate::proofs::ClosedLaws::backslash_no))]
 fn is_closed_in(text: &MappedText<'_>) -> bool
     ensures { result ≡ (ends_live text.now && (not (any (eqb 92) (bytes text.now)) && (all is_plain_span (lexemes (bytes text.now)) && raises_followed 0 text.now))) }
 {
     ends_live(text)
-        && !has(text.text(), Set::Only(b'\\'))
+        && !text.text().contains(&b'\\')
         && has_plain_spans(text.text())
         && has_followed_raises(text)
 }

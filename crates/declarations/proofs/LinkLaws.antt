@@ -3,8 +3,8 @@ use mathlib.Core.Path.{◌≡◌, ap, fun_ext, subst, ◌∙◌}
 use mathlib.Core.List.{List}
 use Prim.Native.Nat.{ℕ, suc, ◌+◌, ◌-◌, ◌*◌, ◌≤◌}
 use native.Mathlib.Omega.{arith}
-use lib.ListN.{length, get_or, set}
-use lib.Seq.{get_or-set_other}
+use lib.ListN.{length, get_or, drop, set}
+use lib.Seq.{get_or-drop, get_or-set_other}
 use Rattle.spec.specs.Declarations.{Declared}
 use Rattle.declared_records.specs.Held.{record_in}
 use Rattle.declared_records.proofs.HeldLaws.{record_same}
@@ -46,13 +46,15 @@ linked_head xs rs count k v rs' l =
     }
 
 -- record k is put in by two stores
-pub inserted : (xs rs : List ℕ) (count k p : ℕ) → Different (name_in xs rs) count → 1 ≤ k → k ≤ count → count ≤ 512 → 5130 ≤ length rs
-    → Chained (name_in xs rs) rs count k → LastAhead (name_in xs rs) rs count k p
-    → Inserted xs rs count k (set (set rs (10 * k) (get_or rs (10 * p) 0)) (10 * p) k)
-inserted xs rs count k p u a b low long c t =
+pub inserted : (xs rs : List ℕ) (count k p q : ℕ) (rs₁ rs₂ : List ℕ) → Different (name_in xs rs) count → 1 ≤ k → k ≤ count → count ≤ 512 → 5130 ≤ length rs
+    → Chained (name_in xs rs) rs count k → LastAhead (name_in xs rs) rs count k p → q ≡ get_or (drop (10 * p) rs) 0 0
+    → rs₁ ≡ set rs (10 * k) q → rs₂ ≡ set rs₁ (10 * p) k → Inserted xs rs count k rs₂
+inserted xs rs count k p q rs₁ rs₂ u a b low long c t e s₁ s₂ =
     let z : suc (k - 1) ≡ k = omega arith in
-    let q = get_or rs (10 * p) 0 in
-    record {
-      chained = rw z at (insert_one (name_in xs rs) rs count (k - 1) p u (rw z b) (omega arith) (rw z c) (rw z t));
+    let y : 10 * p + 0 ≡ 10 * p = omega arith in
+    let r : q ≡ get_or rs (10 * p) 0 = e ∙ (rw y at (get_or-drop (10 * p) rs 0 0)) in
+    rw (s₂, s₁)
+    (record {
+      chained = rw r (rw z at (insert_one (name_in xs rs) rs count (k - 1) p u (rw z b) (omega arith) (rw z c) (rw z t)));
       same = λ j. store_same xs (set rs (10 * k) q) p k j ∙ store_same xs rs k q j;
-    }
+    })

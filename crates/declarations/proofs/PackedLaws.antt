@@ -5,9 +5,9 @@ use mathlib.Core.List.{List, [], ◌∷◌, ◌++◌}
 use Prim.Native.Nat.{ℕ, zero, suc, ◌+◌, ◌*◌, ◌≤◌, ◌<◌, zero-le}
 use native.Mathlib.Omega.{arith}
 use borrow.Author.Tests.{ne_eqb, lt-ltb, le-ltb}
-use lib.ListN.{length, get_or, take, drop, length-append, drop_of_length-le}
-use lib.Seq.{sets, drop_at}
-use Rattle.std.proofs.lemmas.List.{take-append-le}
+use lib.ListN.{length, get_or, take, drop, set, replicate, length-append, drop_of_length-le}
+use lib.Seq.{sets, drop_at, length-sets, set-get_or}
+use Rattle.std.proofs.lemmas.List.{take-append-le, set-append_left, length-set}
 use Rattle.output.proofs.StoreLaws.{sets_append}
 use Rattle.spec.proofs.Choice.{by}
 use Rattle.spec.proofs.LengthLaws.{pieces_length}
@@ -81,6 +81,10 @@ none_behind rs rs' l m =
     drop_of_length-le rs' b ∙ sym (drop_of_length-le rs a)
 
 -- ---- all numbers
+
+-- the head keeps its next where its other numbers become 0
+pub head_cleared : (rs rs' : List ℕ) → rs' ≡ sets rs 1 (replicate 9 0) → rs' ≡ sets rs (10 * 0) (get_or rs 0 0 ∷ 0 ∷ 0 ∷ 0 ∷ 0 ∷ 0 ∷ 0 ∷ 0 ∷ 0 ∷ 0 ∷ [])
+head_cleared rs rs' e = e ∙ ap (λ (l : List ℕ). sets l 1 (replicate 9 0)) (sym (set-get_or rs 0 0))
 
 -- the records' numbers where each has its next
 final_records : (xs rs : List ℕ) (ds : List Declared) (at k n : ℕ)
@@ -182,19 +186,28 @@ unfolding records_of_section
 over_holds xs t rs rs₀ out e g z m =
     record { accepted = λ l. absurd (omega (arith, g.1)); refused = λ _. refl; behind = none_behind rs₀ rs z m }
 
--- what stands in front of a longer buffer
-pub holds_in : (es : List Declared) (out out' ws ws' rs : List ℕ) → length ws' ≡ 5130 → Holds es out out' ws ws' → Holds es out out' rs (ws' ++ drop 5130 rs)
+-- stores within the front of a text leave what is behind it
+sets_front : (vs d e : List ℕ) (i : ℕ) → i + length vs ≤ length d → sets (d ++ e) i vs ≡ sets d i vs ++ e
+sets_front [] d e i h = refl
+sets_front (v ∷ vs) d e i h =
+    rw (set-append_left d e i v (omega arith)) (sets_front vs (set d i v) e (suc i) (omega (arith, length-set d i v)))
+
+-- what stands in front of longer buffers
+pub holds_in : (es : List Declared) (out front front' ws ws' rs : List ℕ) (n : ℕ) → front ++ drop n out ≡ out → length (packed es) ≤ length front → length ws' ≡ 5130
+    → Holds es front front' ws ws' → Holds es out (front' ++ drop n out) rs (ws' ++ drop 5130 rs)
 unfolding record_width
-holds_in es out out' ws ws' rs l h =
+holds_in es out front front' ws ws' rs n whole fits l h =
     record {
       accepted =
           λ a.
           let p = h.accepted a in
           record {
-            texts = p.texts;
-            front = p.front;
+            texts =
+                ap (λ (d : List ℕ). d ++ drop n out) p.texts
+                ∙ (sym (sets_front (packed es) front (drop n out) 0 (omega (arith, fits))) ∙ ap (λ (d : List ℕ). sets d 0 (packed es)) whole);
+            front = take-append-le (length (packed es)) front' (drop n out) (omega (arith, fits, ap length p.texts, length-sets front 0 (packed es))) ∙ p.front;
             numbers = take-append-le (length (numbers_of es)) ws' (drop 5130 rs) (omega (arith, numbers_length es)) ∙ p.numbers;
           };
-      refused = h.refused;
+      refused = λ a. ap (λ (d : List ℕ). d ++ drop n out) (h.refused a) ∙ whole;
       behind = drop_at ws' (drop 5130 rs) 5130 l;
     }

@@ -4,9 +4,9 @@ use Rattle.std.specs.Option.{unwrap_or}
 use Rattle.std.proofs.lemmas.Bool.{cond_both}
 use mathlib.Core.Path.{◌≡◌, refl, sym, ◌∙◌}
 use mathlib.Core.List.{List, []}
-use Prim.Native.Nat.{ℕ, ◌+◌, ◌-◌, ◌≤◌, ◌<◌, zero-le}
+use Prim.Native.Nat.{ℕ, ◌+◌, ◌-◌, ◌≤◌, ◌<◌, zero-le, min}
 use native.Mathlib.Omega.{arith}
-use borrow.Author.Tests.{ltb-true, ltb-false, lt-ltb}
+use borrow.Author.Tests.{ltb-true, ltb-false, lt-ltb, le-ltb}
 use lib.Dec.{ltb}
 use lib.ListN.{length, take, drop}
 use Rattle.spec.proofs.Choice.{by}
@@ -34,6 +34,14 @@ begin_at t = first (keyword_here (ascii "BEGIN")) 0 t
 pub declare_end_lem : (t : List Marked) (f : Option ℕ) → f ≡ declare_at t → declare_end f ≤ length t + 7
 declare_end_lem t (Some d) e = omega (arith, (first_within (keyword_here (ascii "DECLARE")) t 0 d (sym e)).1)
 declare_end_lem t None e = zero-le
+
+-- past the largest number nothing begins, so the sum may stop there
+pub between_stopped : (d b m : ℕ) → m ≡ min (d + 7) 18446744073709551615 → b < 18446744073709551616 → place_between m b ≡ place_between (d + 7) b
+unfolding place_between
+between_stopped d b m e h =
+    by (ltb (d + 7) b)
+    (λ q. let k : m ≡ d + 7 = omega (arith, ltb-true (d + 7) b q) in rw k refl)
+    (λ q. rw (q, le-ltb m b (omega (arith, ltb-false (d + 7) b q))) refl)
 
 -- the section, empty if there is none
 abbrev pub section_place : Option ℕ → Option ℕ → Place

@@ -22,11 +22,12 @@ unfoldable pub records_in : List Marked → List Declared
 records_in t =
     records_of_section (declare_section (first (keyword_here (ascii "DECLARE")) 0 t) (first (keyword_here (ascii "BEGIN")) 0 t) t)
 
--- the section by the first DECLARE and the first BEGIN
+-- where the first DECLARE ends, 0 if there is none
 abbrev pub declare_end : Option ℕ → ℕ
 declare_end (Some d) = d + 7
 declare_end None = 0
 
+-- the section by the first DECLARE and the first BEGIN
 abbrev pub section_of : Option ℕ → Option ℕ → Option Place
 section_of (Some d) (Some b) = place_between (d + 7) b
 section_of (Some d) None = None

@@ -1,8 +1,14 @@
 // The declaration records of a text. They are read once, each record holding the places of its last declaration in the
 // section's text; then each gets its next, and last the texts are packed and the places replaced.
+// The records are an array here, which says the length in place of a clause on each function. The text that the places are in, and
+// how many records there are, are passed beside them: `gather` alone changes the count and nothing the text, so in a struct of the
+// three, as `Writer` is one of a buffer and its count, each function that stores a number would have to promise that the other two
+// are as they were. The number of a record is passed beside them too, and its bounds, `k ≤ 512` or `k ≤ count`, are clauses: one
+// section has many records, and a struct of one number and its bound would be built for each record that a loop comes to, and for
+// each other one that `start_of` and `find_place` look at.
 #![tactic(auto)]
 
-ghost use Rattle.std.specs.Prelude.{◌≡◌, true, false, ◌+◌, ◌*◌, ◌^◌, ◌≤◌, ◌<◌, length, drop};
+ghost use Rattle.std.specs.Prelude.{◌≡◌, true, false, ◌+◌, ◌*◌, ◌^◌, ◌≤◌, ◌<◌, length, drop, set};
 ghost use Rattle.std.proofs.lemmas.List.Edits.{sets};
 ghost use Rattle.spec.specs.Bytes.{ascii};
 ghost use Rattle.spec.specs.Map.{bytes};
@@ -12,27 +18,20 @@ ghost use Rattle.output.specs.Written.{Wrote};
 ghost use Rattle.declared_parts.specs.DeclaredParts.{spaced};
 ghost use Rattle.declared_records.specs.Held.{record_in, records_from};
 ghost use Rattle.declarations.specs.Chain.{name_in, Different, Chained, LastAhead, Inserted, comes_behind, InChain};
-ghost use Rattle.declarations.specs.SectionRecords.{records_in, Linked, requoted, text_in, value_from, packed_places, declare_end, section_of, SectionIn, records_of_section, parsed_of, record_numbers, final_numbers, Holds};
+ghost use Rattle.declarations.specs.SectionRecords.{records_in, Linked, requoted, text_in, value_from, packed_places, section_of, SectionIn, records_of_section, parsed_of, record_numbers, final_numbers, Holds};
 
 use declared_parts::{DeclarationPlaces, comes_before, put_requoted, put_spaced};
 use declared_records::{
-    CONSTANT, HAS_VALUE, KIND, NEXT, NOT_NULL, RECORD_NUMBERS, RECORD_WIDTH, VALUE, gather,
-    mark_of, name_of, number, place_in, put_numbers, put_part,
+    CONSTANT, HAS_VALUE, KIND, NEXT, NOT_NULL, RECORD_NUMBERS, RECORD_WIDTH, Records, VALUE,
+    gather, mark_of, name_of, number, place_in, put_part,
 };
-use output::Writer;
+use output::{BUFFER_SIZE, Writer, fill};
 use runs::Place;
 use scanner::MappedText;
 use spec::Refusal;
 
-// The numbers of the head, which is record 0, and of the records. The functions of `declared_records` take a slice, so that
-// their callers need no array; in this crate the array says the length, in place of a clause on each function. The text that
-// the places are in, and how many records there are, are passed beside them: `gather` alone changes the count and nothing the
-// text, so in a struct of the three, as `Writer` is one of a buffer and its count, each function that stores a number would
-// have to promise that the other two are as they were.
-type Records = [u32; RECORD_NUMBERS];
-
 // How many records there are, and how many bytes their texts have.
-#[derive(Clone, Copy)]
+#[derive(Clone, Copy, Default)]
 pub struct DeclaredSizes {
     pub records: usize,
     pub bytes: usize,
@@ -53,8 +52,9 @@ fn start_of(text: &[u8], records: &Records, count: usize, k: usize) -> usize
     if comes_before(last, name) { k + 1 } else { 0 }
 }
 
-// The last record in the chain that record k comes behind, from one that it comes behind on; record 0 is the head. The
-// chain is one of numbers in the caller's buffer, so the walk is a loop.
+// The last record in the chain that record k comes behind, from one that it comes behind on; record 0 is the head. A
+// loop: the place sought is the last of the walk, which `successors(..).last()` would give as an Option that is never none, and
+// `LastAhead` speaks of a last record, where the library's promise speaks of runs of steps.
 fn find_place(text: &[u8], records: &Records, count: usize, k: usize, from: usize) -> usize
     requires count_bound { count ≤ 512 }
     requires k_le_count { k ≤ count }
@@ -74,6 +74,15 @@ fn find_place(text: &[u8], records: &Records, count: usize, k: usize, from: usiz
     }
 }
 
+// This record comes next behind record k; record 0 is the head.
+fn set_next(records: &mut Records, k: usize, next: usize)
+    requires k_bound { k ≤ 512 }
+    requires next_bound { next < 2 ^ 32 }
+    ensures { records.new ≡ set records.old (10 * k) next }
+{
+    records[RECORD_WIDTH * k + NEXT] = next as u32;
+}
+
 // Record k is put into the chain of those numbered above it.
 fn insert(text: &[u8], records: &mut Records, count: usize, k: usize)
     requires count_bound { count ≤ 512 }
@@ -85,9 +94,9 @@ fn insert(text: &[u8], records: &mut Records, count: usize, k: usize)
 {
     let from = start_of(text, records, count, k);
     let p = find_place(text, records, count, k, from);
-    let next = records[RECORD_WIDTH * p];
-    records[RECORD_WIDTH * k] = next;
-    records[RECORD_WIDTH * p] = k as u32;
+    let next = number(records, p, NEXT);
+    set_next(records, k, next);
+    set_next(records, p, k);
 }
 
 // Each record gets its next. The records are put in from the last to the first.
@@ -96,7 +105,7 @@ fn link(text: &[u8], records: &mut Records, count: usize)
     requires different { Different (name_in text.now records.old) count }
     ensures { Linked text.now records.old count records.new }
 {
-    records[0] = 0;
+    set_next(records, 0, 0);
     for k in (1..=count).rev() {
         insert(text, records, count, k);
     }
@@ -119,10 +128,7 @@ fn value_in<'a>(text: &'a [u8], records: &Records, k: usize) -> Option<&'a [u8]>
     ensures value { requoted result ≡ (record_in text.now records.now k).default }
     ensures upper_bound { length (text_in result) ≤ length text.now }
 {
-    if !mark_of(records, k, HAS_VALUE) {
-        return None;
-    }
-    Some(place_in(records, k, VALUE).of(text))
+    mark_of(records, k, HAS_VALUE).then(|| place_in(records, k, VALUE).of(text))
 }
 
 // A default, requoted, if there is one; the result is where it stands.
@@ -211,25 +217,24 @@ fn pack_records(text: &[u8], declared: &mut [u8], records: &mut Records, count: 
     written.len
 }
 
-// The section by the first DECLARE and the first BEGIN, if there is one that is not empty.
+// The section by the first DECLARE and the first BEGIN, if there is one that is not empty. Contracts say of no `MappedText`
+// how long it is at most, so the sum of DECLARE's place and its length stops at the largest number; nothing begins behind that.
+#[tactic(auto, using(crate::proofs::SectionLaws::between_stopped))]
 fn section_at(declare: Option<usize>, begin: Option<usize>) -> Option<Place>
-    requires { declare_end declare < 2 ^ 63 }
     ensures { result ≡ section_of declare begin }
 {
-    Place::between(declare? + 7, begin?)
+    Place::between(declare?.saturating_add(7), begin?)
 }
 
 // The section between the first live DECLARE and the first live BEGIN, empty if there is none, since a text without one is
-// read as a text that declares nothing. The bound is for the sum of DECLARE's place and its length: contracts say of no
-// `MappedText` how long it is at most.
-#[tactic(auto, using(crate::proofs::SectionLaws::declare_end_lem), unfolding(spec::specs::Lists::is_empty))]
+// read as a text that declares nothing.
+#[tactic(auto, unfolding(spec::specs::Lists::is_empty))]
 pub fn find_section(text: &MappedText<'_>) -> Place
-    requires { length text.now ≤ 65536 }
     ensures { SectionIn text.now result }
 {
     let declare = text.find_keyword(b"DECLARE", 0);
     let begin = text.find_keyword(b"BEGIN", 0);
-    section_at(declare, begin).unwrap_or(Place { at: 0, len: 0 })
+    section_at(declare, begin).unwrap_or_default()
 }
 
 // Where the body starts: at the first live BEGIN, else at 0.
@@ -244,11 +249,10 @@ pub fn body_start(text: &MappedText<'_>) -> usize
 // The records of a section's text.
 fn parse_section(
     text: &MappedText<'_>,
-    declared: &mut [u8],
+    declared: &mut [u8; BUFFER_SIZE],
     records: &mut Records,
 ) -> Result<DeclaredSizes, Refusal>
     requires text_len_bound { length text.now ≤ 16384 }
-    requires declared_in_bounds { 65536 ≤ length declared.old }
     ensures value { result ≡ parsed_of (records_of_section text.now) }
     ensures holds { Holds (records_of_section text.now) declared.old declared.new records.old records.new }
     ensures records_len { length records.new ≡ 5130 }
@@ -256,8 +260,8 @@ fn parse_section(
     let bytes = text.text();
     let count = gather(text, records)?;
     link(bytes, records, count);
-    let head = records[0];
-    put_numbers(records, 0, [head, 0, 0, 0, 0, 0, 0, 0, 0, 0]);
+    // The head has a next, and no other number.
+    fill(records, NEXT + 1, RECORD_WIDTH, 0);
     Ok(DeclaredSizes {
         records: count,
         bytes: pack_records(bytes, declared, records, count),
@@ -265,7 +269,6 @@ fn parse_section(
 }
 
 // The records of a text: the texts in front of `declared`, the numbers in front of `records`.
-#[tactic(auto, using(declared_parts::proofs::BetweenLaws::between_length), unfolding(crate::specs::SectionRecords::records_in))]
 pub fn parse_declarations(
     text: &MappedText<'_>,
     declared: &mut [u8],
@@ -277,7 +280,10 @@ pub fn parse_declarations(
     ensures value { result ≡ parsed_of (records_in text.now) }
     ensures holds { Holds (records_in text.now) declared.old declared.new records.old records.new }
 {
-    let Some(records) = records.first_chunk_mut() else {
+    let (Some(declared), Some(records)) = (
+        declared.first_chunk_mut::<BUFFER_SIZE>(),
+        records.first_chunk_mut::<RECORD_NUMBERS>(),
+    ) else {
         unreachable!()
     };
     let s = find_section(text);

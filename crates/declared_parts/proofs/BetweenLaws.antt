@@ -1,5 +1,7 @@
 -- The text between two places: its parts, its front and its end by a test. Assumes nothing.
-use mathlib.Core.Path.{◌≡◌, refl, ◌∙◌}
+use Rattle.std.specs.Prelude.{Option, Some, None}
+use Rattle.std.specs.Option.{unwrap_or, UnwrapsOrElse}
+use mathlib.Core.Path.{◌≡◌, refl, ap, ◌∙◌}
 use mathlib.Core.Bool.{Bool}
 use mathlib.Core.List.{List, []}
 use Prim.Native.Nat.{ℕ, ◌+◌, ◌-◌, ◌≤◌}
@@ -12,6 +14,7 @@ use Rattle.spec.proofs.WalkLaws.{while_drop}
 use Rattle.spec.specs.Bytes.{is_w}
 use Rattle.spec.specs.Lists.{take_while, drop_while, drop_end}
 use Rattle.spec.specs.Parts.{part}
+use Rattle.runs.specs.declared.Place.{Place}
 use Rattle.declared_parts.specs.DeclaredParts.{trimmed_place}
 
 -- a part of a text is not longer than the text
@@ -60,3 +63,8 @@ pub place_by : (xs : List ℕ) (from to at end : ℕ) → at ≡ front_end is_w 
 place_by xs from to at end p q =
     let k : end - at ≡ end_len is_w xs at to = omega arith in
     rw (k, p) refl
+
+-- a place, or the default one, which is 0 and 0
+pub default_place : (o : Option Place) (v : Place) → UnwrapsOrElse o (λ q. (q.at ≡ 0) × (q.len ≡ 0)) v → v ≡ unwrap_or o (record { at = 0; len = 0 })
+default_place (Some p) v e = e
+default_place None v e = ap (λ (n : ℕ). record { at = n; len = v.len }) e.0 ∙ ap (λ (n : ℕ). record { at = 0; len = n }) e.1

@@ -1,8 +1,15 @@
 -- Where a part is cut for its default: the tests of the code decide, byte by byte, whether a default key stands at i; the
 -- cut is at the leftmost and stands within the part. By the predicate of `DefaultLaws`. Assumes nothing.
-use Rattle.std.specs.Prelude.{Option, Some, None, is_some}
+use Rattle.std.proofs.lemmas.Option.{none-some}
+use Rattle.std.specs.Prelude.{Option, Some, None, IfSome, IsSomeAnd, MatchOption, IsTrue}
+use Rattle.std.specs.Option.{unwrap_or, option_map}
+use denote.Param.Members.{Mut, Called}
+use Rattle.std.specs.declared.ops.Range.{Range}
+use Rattle.std.specs.Iterator.Runs.{Run, SomeRun, AllItemsGive, IsFirstToGive}
+use Rattle.std.proofs.iter.Yields.{nat_range_steps}
+use Rattle.std.proofs.iter.runs.Sources.{range_runs}
 use Rattle.std.proofs.lemmas.List.{drop_more}
-use mathlib.Core.Path.{◌≡◌, refl, sym, ap, ◌∙◌}
+use mathlib.Core.Path.{◌≡◌, refl, sym, ap, subst, ◌∙◌}
 use mathlib.Core.Bool.{true, false, cond, not, false≢true}
 use mathlib.Core.List.{List}
 use Prim.Native.Nat.{ℕ, ◌+◌, ◌-◌, ◌≤◌, ◌<◌}
@@ -17,15 +24,16 @@ use Rattle.spec.specs.Assignments.{assign_here, lone_equals}
 use Rattle.spec.specs.Declarations.{is_lone, equals_here, default_here, key_length}
 use Rattle.classes.proofs.BackLaws.{byte_back}
 use Rattle.spec.proofs.BytesLaws.{bytes_drop}
-use Rattle.spec.proofs.Choice.{by, or_second}
+use Rattle.std.proofs.lemmas.Bool.{or_right}
+use Rattle.spec.proofs.Choice.{by}
 use Rattle.spec.proofs.AssignTargets.{assign_says}
 use Rattle.spec.proofs.DefaultLaws.{IsDefaultKey, assign, equals, word, equals_says, key_sound, key_complete, key_length_lem}
-use Rattle.spec.proofs.FirstLaws.{apart, first_least}
+use Rattle.spec.proofs.FirstLaws.{first_least, least_first, none_first}
 use Rattle.spec.proofs.MarkingWords.{word_says}
 use Rattle.spec.proofs.RefusalBounds.{bytes_length}
 use Rattle.spec.proofs.RunPlaces.{byte_inside}
 use Rattle.spec.proofs.WalkLaws.{passes_at, starts_exact, prefix_exact}
-use Rattle.declared_parts.specs.DeclaredParts.{starts_key, key_at, key_end, cut_of, cut_in, Fits}
+use Rattle.declared_parts.specs.DeclaredParts.{starts_key, key_at, cut_at, cut_of, cut_in, Fits}
 use Rattle.declared_parts.specs.declared.Cut.{Cut}
 
 -- the byte at i
@@ -62,7 +70,7 @@ module _ (t : List Marked) (i : ℕ) where
       let b = get_or (bytes t) i 0 in
       let z : i ≡ i + 0 = omega arith in
       let d = ap (λ (j : ℕ). upper (get_or (bytes t) j 0)) z ∙ r.matches.same 0 (omega arith) in
-      or_second (eqb b 58) _ (or_second (eqb b 61) _ (eq-eqb (upper b) 68 d))
+      or_right (eqb b 58) _ (or_right (eqb b 61) _ (eq-eqb (upper b) 68 d))
 
   -- a key of n bytes stands there; or none does
   key_stands : (n : ℕ) → IsDefaultKey t i n → (Some n ≡ key_at t i) × (i + n ≤ length t)
@@ -134,23 +142,35 @@ key_within t i n e =
     let q : Some n ≡ Some k.0 = e ∙ sym s.0 in
     let z : n ≡ k.0 = cc in
     omega (arith, s.1))
-    (λ p. apart (Some n) n refl (e ∙ sym (key_missing t i p)))
+    (λ p. absurd (none-some n (key_missing t i p ∙ sym e)))
 
 -- ---- the cut
 
--- whether a key stands there
-pub key_passes : (t : List Marked) (k : ℕ) → passes_at default_here t k ≡ is_some (key_at t k)
-unfolding key_at
-key_passes t k = by (passes_at default_here t k) (λ e. rw e refl) (λ e. rw e refl)
+-- the cut at i is the definition's if a key stands there; and so one does
+at_key : (t : List Marked) (i : ℕ) → passes_at default_here t i ≡ true → cut_at t i ≡ Some (cut_of (Some i) t)
+unfolding cut_at key_at
+at_key t i e = rw e refl
 
--- a search that finds a key, and one that finds none
-pub cut_found : (t : List Marked) (i : ℕ) (r : Option ℕ) → Some i ≡ first default_here 0 t → r ≡ key_end t i → record { head = i; rest = r } ≡ cut_in t
-unfolding cut_in key_end key_at
-cut_found t i r e k = rw (← e, k, (first_least default_here t 0 i (sym e)).passes) refl
+no_key : (t : List Marked) (i : ℕ) → None ≡ cut_at t i → passes_at default_here t i ≡ false
+no_key t i e = by (passes_at default_here t i) (λ p. absurd (none-some _ (e ∙ at_key t i p))) (λ p. p)
 
-pub cut_missed : (t : List Marked) (n : ℕ) → None ≡ first default_here 0 t → n ≡ length t → record { head = n; rest = None } ≡ cut_in t
+a_key : (t : List Marked) (i : ℕ) (c : Cut) → Some c ≡ cut_at t i → passes_at default_here t i ≡ true
+unfolding cut_at key_at
+a_key t i c e = by (passes_at default_here t i) (λ p. p) (λ p. absurd (none-some c (sym (e ∙ rw p refl))))
+
+-- the cut at an offset with none ahead of it; or there is none in the text
+cut_found : (t : List Marked) (i : ℕ) (c : Cut) → i < length t → Some c ≡ cut_at t i → ((k : ℕ) → k < i → None ≡ cut_at t k) → c ≡ cut_in t
 unfolding cut_in
-cut_missed t n e h = rw (← e, h) refl
+cut_found t i c h e n =
+    let p = a_key t i c e in
+    let f = least_first default_here t 0 i (record { from = omega arith; inside = h; passes = p; least = λ k a b. no_key t k (n k b) }) in
+    let z : Some c ≡ Some (cut_of (Some i) t) = e ∙ at_key t i p in
+    let same : c ≡ cut_of (Some i) t = cc in
+    rw f same
+
+cut_missed : (t : List Marked) → ((k : ℕ) → k < length t → None ≡ cut_at t k) → record { head = length t; rest = None } ≡ cut_in t
+unfolding cut_in
+cut_missed t h = rw (none_first default_here t 0 (λ k a b. no_key t k (h k b))) refl
 
 -- its two parts stand within the text
 pub cut_fits : (t : List Marked) → Fits (cut_in t) (length t)
@@ -170,10 +190,53 @@ cut_fits t = go (first default_here 0 t) refl
     go None e =
         record {
           head = omega arith;
-          ordered = λ r q. apart None r q refl;
-          within = λ r q. apart None r q refl;
+          ordered = λ r q. absurd (none-some r q);
+          within = λ r q. absurd (none-some r q);
         }
 
 -- so is a cut that is the definition's
 pub cut_tells : (t : List Marked) (c : Cut) → c ≡ cut_in t → Fits c (length t)
 cut_tells t c e = rw e (cut_fits t)
+
+-- ---- what `find_map` gives over the offsets of the text, each call at an offset giving the cut there
+
+-- an item that is n has what all items have, or what one has
+item_has : (P : ℕ → Type 0) (n : ℕ) (o : Option ℕ) → option_map (λ x. x) o ≡ Some n → IfSome o P → P n
+item_has P n None e h = absurd (none-some n e)
+item_has P n (Some a) e h = let same : a ≡ n = cc in subst P same h
+
+item_is : (P : ℕ → Type 0) (n : ℕ) (o : Option ℕ) → option_map (λ x. x) o ≡ Some n → IsSomeAnd o P → P n
+item_is P n None e h = absurd h
+item_is P n (Some a) e h = let same : a ≡ n = cc in subst P same h
+
+abbrev offsets : ℕ → Range ℕ
+offsets n = record { start = 0; end = n }
+
+-- the offset at place k is k
+kth : (p : Run nat_range_steps) (n : ℕ) → p.from ≡ offsets n → (k : ℕ) → k < p.len → option_map (λ b. b) (p.at k) ≡ Some k
+kth p n s k h =
+    let z : p.from.start + k ≡ k = omega (arith, ap (λ (b : Range ℕ). b.start) s) in
+    (range_runs p p.seen).3 k h ∙ ap Some z
+
+module _ {F : Type 0} (g : Mut F (ℕ × Unit {0}) (Option Cut)) (f : F) (t : List Marked)
+    (each : (a : ℕ × Unit {0}) (r : Option Cut) (f' : F) → Called g f a r f' → (f' ≡ f) × (r ≡ cut_at t a.0)) where
+  pub cut_mapped : (n m : ℕ) → n ≡ length t → m ≡ length t → (r : Option Cut)
+      → SomeRun nat_range_steps (offsets n) (λ p. MatchOption r (IsTrue p.whole × AllItemsGive p g f None) (λ y. (i : ℕ) × (i < p.len) × (p.len ≡ i + 1) × IsFirstToGive p g f (Some y) None i))
+      → unwrap_or r (record { head = m; rest = None }) ≡ cut_in t
+  cut_mapped n m same whole None (p, s, h) =
+      let c = range_runs p p.seen in
+      let all = h.1 (λ a r q k. (each a r q k).0) in
+      let long : p.len ≡ n = omega (arith, c.1 h.0, ap (λ (b : Range ℕ). b.end - b.start) s) in
+      rw whole
+      (cut_missed t
+      (λ k l.
+      let q : k < p.len = omega (arith, long, same) in
+      (each (k, tt) None f (item_has (λ b. Called g f (b, tt) None f) k (p.at k) (kth p n s k q) (all k))).1))
+  cut_mapped n m same whole (Some y) (p, s, h) =
+      let c = range_runs p p.seen in
+      let i = h.0 in
+      let d = h.3 (λ a r q k. (each a r q k).0) in
+      let at = kth p n s in
+      cut_found t i y (omega (arith, h.1, same, c.0, ap (λ (b : Range ℕ). b.end - b.start) s))
+      (each (i, tt) (Some y) f (item_is (λ b. Called g f (b, tt) (Some y) f) i (p.at i) (at i h.1) d.0)).1
+      (λ k m. (each (k, tt) None f (item_is (λ b. Called g f (b, tt) None f) k (p.at k) (at k (omega (arith, h.1))) (d.1 k m))).1)

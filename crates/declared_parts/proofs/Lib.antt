@@ -3,6 +3,7 @@ pub mod DeclaredNameLaws
 pub mod DefaultCutLaws
 pub mod WholeLaws
 pub mod SpacedLaws
+pub mod WordLaws
 pub mod WordsLaws
 pub mod LastWordLaws
 pub mod TypePlaceLaws

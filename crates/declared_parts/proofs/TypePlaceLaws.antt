@@ -16,19 +16,6 @@ use Rattle.declared_parts.specs.DeclaredParts.{not_w, is_text, constant_len, las
 use Rattle.runs.specs.declared.Place.{Place}
 
 module _ (xs : List ℕ) where
-  -- the first word ends at n
-  module _ (n : ℕ) (e : n ≡ 0 + length (take_while not_w xs)) where
-    first_at : length (take_while not_w xs) ≡ n
-    first_at = omega arith
-
-    pub constant_stands : (m : ℕ) → m ≡ n + length (take_while is_w (drop n xs)) → true ≡ is_text (ascii "CONSTANT") (take n xs) → Some m ≡ constant_len xs
-    unfolding constant_len
-    constant_stands m h q = rw (first_at, ← q) (ap Some h)
-
-    pub constant_missing : false ≡ is_text (ascii "CONSTANT") (take n xs) → None ≡ constant_len xs
-    unfolding constant_len
-    constant_missing q = rw (first_at, ← q) refl
-
   -- the last word ends at b and starts at a
   pub last_by : (a b : ℕ) → b ≡ length (drop_end is_w (take (length xs) xs)) → a ≡ length (drop_end not_w (take b xs))
       → record { at = a; len = b - a } ≡ last_word xs

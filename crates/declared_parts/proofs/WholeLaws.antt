@@ -1,23 +1,28 @@
 -- A default that is wholly a dollar literal. Assumes nothing.
 use Rattle.std.specs.Cmp.Lexicographic.{pointwise}
 use Rattle.std.specs.Prelude.{nat_eq}
-use mathlib.Core.Path.{◌≡◌, refl, ◌∙◌}
+use Rattle.std.specs.Borrow.{Bor}
+use Rattle.std.specs.Prelude.{Option, Some, None, is_some, IfSome}
+use Rattle.std.specs.Option.{option_copied}
+use Rattle.std.proofs.lemmas.Option.{cond_some, none-some}
+use mathlib.Core.Path.{◌≡◌, refl, sym, ap, ◌∙◌}
 use mathlib.Core.Bool.{Bool, true, false, ◌&&◌, and-true, and-false}
 use mathlib.Core.List.{List, [], ◌∷◌, ◌++◌}
 use Prim.Native.Nat.{ℕ, suc, ◌+◌, ◌-◌, ◌*◌, ◌≤◌, ◌<◌}
 use native.Mathlib.Omega.{arith}
 use borrow.Author.Tests.{eq-eqb, ne_eqb, le-leb, lt-leb, leb-true}
 use lib.Dec.{eqb, leb}
-use lib.ListN.{length, get_or, take, drop, length-append, length-drop}
+use lib.ListN.{length, get_or, take, drop, length-append, length-drop, length-take}
 use lib.Seq.{drop-drop}
 use Rattle.spec.proofs.WalkLaws.{prefix_take}
-use Rattle.spec.proofs.Choice.{by, and_left, and_right}
+use Rattle.std.proofs.lemmas.Bool.{and_parts}
+use Rattle.spec.proofs.Choice.{by}
 use Rattle.spec.proofs.SpanLaws.{prefix_len}
 use Rattle.spec.specs.Bytes.{is_ident, is_prefix, is_same}
 use Rattle.spec.specs.Lists.{take_while}
 use Rattle.spec.specs.Requote.{single_quoted}
 use Rattle.spec.specs.Declarations.{delimiter_of, requoted_by, requoted_default}
-use Rattle.declared_parts.specs.DeclaredParts.{is_whole}
+use Rattle.declared_parts.specs.DeclaredParts.{is_whole, inside_of}
 use Rattle.declared_parts.proofs.DeclaredNameLaws.{same_of_library}
 
 pub delimiter_length : (xs : List ℕ) → length (delimiter_of xs) ≡ length (take_while is_ident (drop 1 xs)) + 2
@@ -79,9 +84,9 @@ module _ (xs : List ℕ) (n : ℕ) (d : n ≡ length (delimiter_of xs)) where
   whole_long h =
       let m = length (delimiter_of xs) in
       let r = drop m xs in
-      let e = and_right (is_prefix (delimiter_of xs) xs) (leb m (length r) && is_same (drop (length r - m) r) (delimiter_of xs)) h in
-      let p = and_left (is_prefix (delimiter_of xs) xs) (leb m (length r) && is_same (drop (length r - m) r) (delimiter_of xs)) h in
-      omega (arith, leb-true m (length r) (and_left (leb m (length r)) (is_same (drop (length r - m) r) (delimiter_of xs)) e), length-drop m xs, prefix_len (delimiter_of xs) xs p)
+      let e = (and_parts (is_prefix (delimiter_of xs) xs) (leb m (length r) && is_same (drop (length r - m) r) (delimiter_of xs)) h).1 in
+      let p = (and_parts (is_prefix (delimiter_of xs) xs) (leb m (length r) && is_same (drop (length r - m) r) (delimiter_of xs)) h).0 in
+      omega (arith, leb-true m (length r) ((and_parts (leb m (length r)) (is_same (drop (length r - m) r) (delimiter_of xs)) e).0), length-drop m xs, prefix_len (delimiter_of xs) xs p)
 
   -- what it becomes, and what any other becomes
   pub whole_text : is_whole (delimiter_of xs) xs ≡ true → requoted_default xs ≡ single_quoted (take (length xs - n - n) (drop n xs))
@@ -94,3 +99,38 @@ module _ (xs : List ℕ) (n : ℕ) (d : n ≡ length (delimiter_of xs)) where
   pub other_text : is_whole (delimiter_of xs) xs ≡ false → requoted_default xs ≡ xs
   unfolding requoted_default requoted_by is_whole
   other_text h = rw h refl
+
+module _ (xs : List ℕ) where
+  abbrev delimiter : ℕ
+  delimiter = length (delimiter_of xs)
+
+  abbrev inside : List ℕ
+  inside = take (length xs - delimiter - delimiter) (drop delimiter xs)
+
+  -- what the code answers, by its test
+  pub inside_by : (n : ℕ) (b : Bool) (r : Option (Bor (List ℕ))) → n ≡ delimiter → b ≡ is_whole (delimiter_of xs) xs → is_some r ≡ b → IfSome r (λ v. v.now ≡ take (length xs - n - n) (drop n xs))
+      → option_copied r ≡ inside_of xs
+  unfolding inside_of
+  inside_by n b (Some v) d p e s = rw (sym p, sym e) (ap Some (s ∙ rw d refl))
+  inside_by n b None d p e s = rw (sym p, sym e) refl
+
+  -- the same by what stands inside
+  module _ (ys : List ℕ) (e : Some ys ≡ inside_of xs) where
+    pub inside_text : requoted_default xs ≡ single_quoted ys
+    unfolding inside_of
+    inside_text =
+        let k = cond_some (is_whole (delimiter_of xs) xs) inside ys (sym e) in
+        whole_text xs delimiter refl k.0 ∙ ap single_quoted k.1
+
+    pub inside_le : length ys ≤ length xs
+    unfolding inside_of
+    inside_le =
+        let k = cond_some (is_whole (delimiter_of xs) xs) inside ys (sym e) in
+        omega (arith, ap length (sym k.1), length-take (length xs - delimiter - delimiter) (drop delimiter xs), length-drop delimiter xs)
+
+  pub inside_none : None ≡ inside_of xs → requoted_default xs ≡ xs
+  unfolding inside_of
+  inside_none e =
+      by (is_whole (delimiter_of xs) xs)
+      (λ p. absurd (none-some inside (e ∙ rw p refl)))
+      (λ p. other_text xs delimiter refl p)

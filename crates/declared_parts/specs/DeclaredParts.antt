@@ -6,7 +6,7 @@ use Rattle.spec.specs.Lists.{take_while, drop_end}
 use Rattle.spec.specs.Parts.{part}
 use Rattle.spec.specs.Map.{Marked}
 use Rattle.spec.specs.Search.{first}
-use Rattle.spec.specs.Declarations.{Declared, requoted_default, default_here, key_length, one_if}
+use Rattle.spec.specs.Declarations.{Declared, delimiter_of, requoted_default, default_here, key_length, one_if}
 use Rattle.runs.specs.Places.{piece_at}
 use Rattle.runs.specs.declared.Place.{Place}
 use Rattle.declared_parts.specs.declared.Cut.{Cut}
@@ -21,14 +21,6 @@ starts_key b = eqb b 58 || (eqb b 61 || eqb (upper b) 68)
 unfoldable pub key_at : List Marked → ℕ → Option ℕ
 key_at t i = cond (default_here (reverse (take i t)) (drop i t)) (Some (key_length (drop i t))) None
 
--- where the default key at i ends, if one stands there
-abbrev pub end_by : ℕ → Option ℕ → Option ℕ
-end_by i (Some n) = Some (i + n)
-end_by i None = None
-
-unfoldable pub key_end : List Marked → ℕ → Option ℕ
-key_end t i = end_by i (key_at t i)
-
 -- the words of a text that does not start with W, joined by single spaces; g: W stood before
 unfoldable pub spaced : Bool → List ℕ → List ℕ
 spaced g [] = []
@@ -38,6 +30,14 @@ spaced g (c ∷ cs) =
     let after : List ℕ = 32 ∷ here in
     let plain = cond g after here in
     cond (is_w c) gap plain
+
+-- the cut for the default key at i, if one stands there
+abbrev pub cut_by : ℕ → Option ℕ → Option Cut
+cut_by i (Some n) = Some (record { head = i; rest = Some (i + n) })
+cut_by i None = None
+
+unfoldable pub cut_at : List Marked → ℕ → Option Cut
+cut_at t i = cut_by i (key_at t i)
 
 -- the default of t by the place of its key
 abbrev pub cut_of : Option ℕ → List Marked → Cut
@@ -177,3 +177,10 @@ is_whole d xs =
     let rest = drop (length d) xs in
     let n = length rest - length d in
     is_prefix d xs && (leb (length d) (length rest) && is_same (drop n rest) d)
+
+-- what stands inside the text xs, if it is wholly a delimiter, an inside, the delimiter
+unfoldable pub inside_of : List ℕ → Option (List ℕ)
+inside_of xs =
+    let n = length (delimiter_of xs) in
+    let inside = take (length xs - n - n) (drop n xs) in
+    cond (is_whole (delimiter_of xs) xs) (Some inside) None

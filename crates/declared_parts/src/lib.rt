@@ -3,20 +3,20 @@
 #![tactic(auto)]
 
 ghost use Rattle.std.specs.Prelude.{◌≡◌, ℕ, true, false, Some, reverse, ◌+◌, ◌*◌, ◌^◌, ◌≤◌, ◌<◌, length, take, drop};
-ghost use Rattle.std.specs.Option.{unwrap_or};
+ghost use Rattle.std.specs.Option.{unwrap_or, option_copied};
 ghost use Rattle.spec.specs.Bytes.{is_w, is_before};
 ghost use Rattle.spec.specs.Lists.{take_while, drop_end};
 ghost use Rattle.spec.specs.Map.{bytes};
-ghost use Rattle.spec.specs.Declarations.{delimiter_of, requoted_default, is_lone, declaration};
+ghost use Rattle.spec.specs.Declarations.{requoted_default, is_lone, declaration};
 ghost use Rattle.output.specs.Written.{Wrote};
 ghost use Rattle.runs.specs.Sets.{in_set};
 ghost use Rattle.spec.specs.Parts.{part};
-ghost use Rattle.declared_parts.specs.DeclaredParts.{spaced, starts_key, key_at, key_end, cut_in, is_text, constant_len, last_word, type_len, type_in, Fits, value_place, PlaceWithin, read_of, Within, is_whole};
+ghost use Rattle.declared_parts.specs.DeclaredParts.{spaced, starts_key, key_at, cut_at, cut_in, is_text, constant_len, last_word, type_len, type_in, Fits, value_place, PlaceWithin, read_of, Within, inside_of};
 
 use classes::{byte_before, is_w, lone_equals, starts_with, upper_of};
 use output::Writer;
 use runs::{Place, Set, run_end, run_start};
-use scanner::{MappedText, starts_ignoring_case};
+use scanner::MappedText;
 
 // Where a part ends ahead of its default, and where the default begins, if there is one.
 #[derive(Clone, Copy)]
@@ -35,7 +35,9 @@ pub struct TypePlaces {
 }
 
 // Places in a text: the name, the type's words, and the default, if there is one; then whether CONSTANT stands ahead of the
-// type and NOT NULL behind it, which have no value beside them. A part that has no type declares nothing.
+// type and NOT NULL behind it, which have no value beside them. A part that has no type declares nothing: its `kind.len` is 0, by
+// which the definition `read_of` says so too. No Option: `read_part` tells the places of any part, and only `add_part` in
+// `declared_records` asks whether the type is empty; an Option would be wrapped in `read_part` and taken apart again there.
 #[derive(Clone, Copy)]
 pub struct DeclarationPlaces {
     pub name: Place,
@@ -107,15 +109,18 @@ fn default_key(text: &MappedText<'_>, i: usize) -> Option<usize>
     }
 }
 
-// Where the default key at i ends, if one stands there.
-#[tactic(auto, unfolding(crate::specs::DeclaredParts::key_end))]
-fn key_end(text: &MappedText<'_>, i: usize) -> Option<usize>
+// Where a part is cut for the default key at i, if one stands there.
+#[tactic(auto, using(crate::proofs::DefaultCutLaws::key_within), unfolding(crate::specs::DeclaredParts::cut_at))]
+fn cut_at(text: &MappedText<'_>, i: usize) -> Option<Cut>
     requires in_bounds { i < length text.now }
     requires text_len_bound { length text.now < 2 ^ 64 }
-    ensures { result ≡ key_end text.now i }
+    ensures { result ≡ cut_at text.now i }
 {
     let n = default_key(text, i)?;
-    Some(i + n)
+    Some(Cut {
+        head: i,
+        rest: Some(i + n),
+    })
 }
 
 // Where a part, trimmed of W, is cut for its default: at its leftmost default key.
@@ -123,43 +128,28 @@ fn find_default(text: &MappedText<'_>) -> Cut
     ensures value { result ≡ cut_in text.now }
     ensures fits { Fits result (length text.now) }
 {
-    let key = (0..text.len()).find(
-        |i|
-            requires { i.now < length text.now }
-        { default_key(text, *i).is_some() },
-    );
-    match key {
-        Some(head) => Cut {
-            head,
-            rest: key_end(text, head),
-        },
-        None => Cut {
-            head: text.len(),
-            rest: None,
-        },
-    }
+    let cut = (0..text.len()).find_map(|i| cut_at(text, i));
+    cut.unwrap_or(Cut {
+        head: text.len(),
+        rest: None,
+    })
 }
 
 // Whether the text is this word, in any letter case.
-#[tactic(auto, unfolding(crate::specs::DeclaredParts::is_text))]
 fn is_text(text: &[u8], word: &[u8]) -> bool
     ensures { result ≡ is_text word.now text.now }
 {
-    text.len() == word.len() && starts_ignoring_case(text, word)
+    text.eq_ignore_ascii_case(word)
 }
 
 // How many bytes CONSTANT and the W behind it take at the front of a text, if its first word is CONSTANT.
-#[tactic(auto, using(crate::proofs::TypePlaceLaws::constant_stands, crate::proofs::TypePlaceLaws::constant_missing))]
+#[tactic(auto, unfolding(crate::specs::DeclaredParts::constant_len))]
 fn constant_len(text: &[u8]) -> Option<usize>
     ensures value { result ≡ constant_len text.now }
     ensures upper_bound { unwrap_or result 0 ≤ length text.now }
 {
     let end = run_end(text, Set::NotW, 0);
-    if is_text(&text[..end], b"CONSTANT") {
-        Some(run_end(text, Set::W, end))
-    } else {
-        None
-    }
+    is_text(&text[..end], b"CONSTANT").then(|| run_end(text, Set::W, end))
 }
 
 // The last word of a text; empty if there is none.
@@ -270,59 +260,35 @@ pub fn put_spaced(out: &mut Writer<'_>, text: &[u8])
     }
 }
 
-// Whether x comes before y in byte order. A loop by hand, since the library's `<` was measured and takes 1.1 to 2.3 times as long;
-// two bytes in each round, since a loop of one byte takes half as long again where the linker lets it cross a line of the
-// cache.
+// Whether x comes before y in byte order. By `cmp`, which passes equal bytes in groups: `<` goes byte by byte, and with it
+// `declarations::parse_declarations` took 3.5 times as long as with `cmp` on 80 names of 180 letters that differ in the last.
+#[tactic(auto, using(crate::proofs::DeclaredNameLaws::before_of_library))]
 pub fn comes_before(x: &[u8], y: &[u8]) -> bool
     ensures { result ≡ is_before x.now y.now }
 {
-    let n = x.len().min(y.len());
-    let mut i: usize = 0;
-    while i + 1 < n {
-        if x[i] != y[i] {
-            return x[i] < y[i];
-        }
-        if x[i + 1] != y[i + 1] {
-            return x[i + 1] < y[i + 1];
-        }
-        i += 2;
-    }
-    if i < n && x[i] != y[i] {
-        return x[i] < y[i];
-    }
-    n < y.len()
+    x.cmp(&y).is_lt()
 }
 
-// How many bytes the delimiter of a default has, if it is wholly `$tag$..$tag$`.
-fn delimiter_len(text: &[u8]) -> usize
-    ensures { result ≡ length (delimiter_of text.now) }
+// What stands inside a default that is wholly `$tag$..$tag$`, whose delimiter has d bytes then.
+fn inside_whole<'a>(text: &'a [u8]) -> Option<&'a [u8]>
+    ensures { option_copied result ≡ inside_of text.now }
 {
-    run_end(text, Set::Ident, 1) + 1
-}
-
-// Whether a default is wholly `$tag$..$tag$`, where its delimiter would have d bytes.
-#[tactic(auto, using(crate::proofs::WholeLaws::delimiter_length, crate::proofs::WholeLaws::whole_short, crate::proofs::WholeLaws::whole_first, crate::proofs::WholeLaws::whole_last, crate::proofs::WholeLaws::whole_same, std::proofs::lemmas::List::take_rest))]
-fn is_whole(text: &[u8], d: usize) -> bool
-    requires { d ≡ length (delimiter_of text.now) }
-    ensures value { result ≡ is_whole (delimiter_of text.now) text.now }
-    ensures delimited { result ≡ true → 2 * d ≤ length text.now }
-{
-    d <= text.len() / 2
+    let d = run_end(text, Set::Ident, 1) + 1;
+    let is_whole = d <= text.len() / 2
         && text[0] == b'$'
         && text[d - 1] == b'$'
-        && text[text.len() - d..] == text[..d]
+        && text[text.len() - d..] == text[..d];
+    is_whole.then(|| &text[d..text.len() - d])
 }
 
 // A default, requoted.
-#[tactic(auto, using(crate::proofs::WholeLaws::whole_text, crate::proofs::WholeLaws::other_text, output::proofs::WriterLaws::wrote_same))]
+#[tactic(auto, using(crate::proofs::WholeLaws::inside_text, crate::proofs::WholeLaws::inside_none, crate::proofs::WholeLaws::inside_le, output::proofs::WriterLaws::wrote_same))]
 pub fn put_requoted(out: &mut Writer<'_>, text: &[u8])
     requires { out.old.len + 2 * length text.now + 2 < 2 ^ 63 }
     ensures { Wrote out.old (requoted_default text.now) out.new }
 {
-    let d = delimiter_len(text);
-    if is_whole(text, d) {
-        out.put_single_quoted(&text[d..text.len() - d]);
-    } else {
-        out.put_all(text);
+    match inside_whole(text) {
+        Some(inside) => out.put_single_quoted(inside),
+        None => out.put_all(text),
     }
 }

@@ -27,7 +27,7 @@ use Rattle.declared_parts.specs.declared.DeclarationPlaces.{DeclarationPlaces}
 use Rattle.declared_records.specs.Held.{record_in, records_from, place_of, name_hash, held_numbers, HashIn, Hashed, HeldIn, Added, Gathered}
 use Rattle.spec.specs.declared.Refusal.{Refusal}
 use Rattle.spec.specs.declared.Refusal.TheVariants.{TooManyNames}
-use Rattle.declared_records.proofs.HeldLaws.{sets_drop, record_other, record_put, hash_put, hash_other, from_length, from_replaced, from_added}
+use Rattle.declared_records.proofs.HeldLaws.{record_other, record_put, hash_put, hash_other, from_length, from_replaced, from_added, hash_front, from_front}
 
 -- ---- where a name stands
 
@@ -135,11 +135,6 @@ pub part_stored : (rs rs' : List ℕ) (k front : ℕ) (p : DeclarationPlaces) (v
     → rs' ≡ sets rs (10 * k) (held_numbers front p)
 unfolding part_numbers
 part_stored rs rs' k front p v b c n e f g h q = q ∙ rw (e, f, g, h, or_place p.value) refl
-
--- a record that is stored leaves what stands behind all records
-pub put_behind : (rs : List ℕ) (k h : ℕ) (p : DeclarationPlaces) → k ≤ 512 → drop 5130 (sets rs (10 * k) (held_numbers h p)) ≡ drop 5130 rs
-unfolding part_numbers
-put_behind rs k h p b = sets_drop (held_numbers h p) rs (10 * k) 5130 (omega arith)
 
 module _ (xs rs : List ℕ) (count : ℕ) (p : DeclarationPlaces) where
   abbrev held : List Declared
@@ -314,3 +309,14 @@ module _ (t : List Marked) (at : ℕ) (rs : List ℕ) (count : ℕ) where
 pub gathered_start : (t : List Marked) (rs : List ℕ) → Going t 0 rs 0
 unfolding pieces records_from
 gathered_start t rs = record { within = omega arith; all = refl; hashed = λ k a b. absurd (omega arith) }
+
+-- what the front of a slice holds, the slice holds
+pub held_front : (xs : List ℕ) (ds : List Declared) (rs more : List ℕ) (o : Result ℕ Refusal) → length rs ≡ 5130 → HeldIn xs ds rs o → HeldIn xs ds (rs ++ more) o
+held_front xs ds rs more (Ok r) l h =
+    record {
+      number = h.number;
+      within = h.within;
+      records = from_front xs rs more (omega arith) 1 r (omega (arith, h.within)) ∙ h.records;
+      hashed = λ k a b. hash_front xs rs more (omega arith) k (omega (arith, h.within)) (h.hashed k a b);
+    }
+held_front xs ds rs more (Err e) l h = h

@@ -7,7 +7,7 @@ use native.Mathlib.Nat.{mod-add-mod}
 use native.Mathlib.Omega.{arith}
 use borrow.Author.Tests.{ltb-true, ltb-false}
 use lib.Dec.{ltb}
-use lib.ListN.{length, get_or, take, drop, set}
+use lib.ListN.{length, get_or, take, drop, set, get_or-append}
 use lib.Seq.{sets, sets-eq, get_or-set_other, get_or-drop, length-take-le, drop_at, drop-set-lt}
 use Rattle.spec.proofs.Choice.{by}
 use Rattle.declared_parts.specs.DeclaredParts.{default_by, declared_by, part_numbers}
@@ -135,3 +135,23 @@ module _ (xs rs rs' : List ℕ) (d : Declared) where
   from_added (suc n) s e f =
       let z : s + suc n ≡ suc s + n = omega arith in
       rw (f s (λ q. absurd (omega arith)), from_added n (suc s) (rw z at e) (λ j q. f j (λ r. q (r ∙ z)))) refl
+
+-- ---- records in front of other numbers
+
+module _ (xs rs more : List ℕ) (enough : 5130 ≤ length rs) where
+  front_number : (k i : ℕ) → k ≤ 512 → i < 10 → get_or (rs ++ more) (10 * k + i) 0 ≡ get_or rs (10 * k + i) 0
+  front_number k i a b = get_or-append rs more 0 (10 * k + i) (omega arith)
+
+  record_front : (k : ℕ) → k ≤ 512 → record_in xs (rs ++ more) k ≡ record_in xs rs k
+  record_front k a = record_same xs (rs ++ more) rs k (λ i l b. front_number k i a b)
+
+  pub hash_front : (k : ℕ) → k ≤ 512 → HashIn xs rs k → HashIn xs (rs ++ more) k
+  hash_front k a e =
+      get_or-drop (10 * k) (rs ++ more) 0 0
+      ∙ (front_number k 0 a (omega arith)
+      ∙ (sym (get_or-drop (10 * k) rs 0 0) ∙ (e ∙ ap (λ (d : Declared). name_hash d.name) (sym (record_front k a)))))
+
+  pub from_front : (k n : ℕ) → k + n ≤ 513 → records_from xs (rs ++ more) k n ≡ records_from xs rs k n
+  unfolding records_from
+  from_front k zero h = refl
+  from_front k (suc n) h = rw (record_front k (omega arith), from_front (suc k) n (omega arith)) refl

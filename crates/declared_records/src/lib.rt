@@ -1,8 +1,10 @@
 // The records of a section while they are read: each holds the places of its last declaration in the section's text, and
 // its name's hash.
 // The text, the records and the number of a record are arguments of their own: one section has many records, and a struct of the
-// caller's slice and the count would have to say in each promise that it holds the same slice. The slice may be longer than 5,130:
-// an array would ask more of callers. The bounds 512 and 5,130 are limits of the call.
+// caller's slice and the count would have to say in each promise that it holds the same slice. `number`, `mark_of`, `name_of`,
+// `put_numbers` and `gather` take a slice that may be longer than 5,130, and `place_in` does, which `name_of` calls: an array would
+// ask more of their callers. What else `gather` calls takes the slice's front as an array, so that it asks for no length. The bounds
+// 512 and 5,130 are limits of the call.
 #![tactic(auto)]
 
 ghost use Rattle.std.specs.Prelude.{◌≡◌, ◌+◌, ◌*◌, ◌^◌, ◌≤◌, ◌<◌, length, get_or, drop};
@@ -23,6 +25,9 @@ pub const RECORD_WIDTH: usize = 10;
 pub const RECORD_LIMIT: usize = 512;
 
 pub const RECORD_NUMBERS: usize = RECORD_WIDTH * (RECORD_LIMIT + 1);
+
+// The numbers of the head, which is record 0, and of the records.
+pub type Records = [u32; RECORD_NUMBERS];
 
 // Where the numbers of a record stand: its next, or its name's hash while the records are read; its name, its type and its
 // default, two each; before the default and at the end whether there is one, and the marks.
@@ -95,7 +100,7 @@ pub fn put_numbers(records: &mut [u32], k: usize, numbers: [u32; RECORD_WIDTH])
 }
 
 // A hash of a name, with the multiplier of the FNV hashes; below 2 ^ 32, so that a record's number holds it. Names with
-// different hashes are different.
+// different hashes are different. A usize and no u32, since `number` gives a record's numbers as usize, which it is compared with.
 fn hash_of(name: &[u8]) -> usize
     ensures value { result ≡ name_hash name.now }
     ensures upper_bound { result < 2 ^ 32 }
@@ -106,16 +111,16 @@ fn hash_of(name: &[u8]) -> usize
     hash as usize
 }
 
-// The places of a part as record k, and in front of them its next, or where that will stand a hash.
-pub fn put_part(records: &mut [u32], k: usize, front: usize, p: DeclarationPlaces)
+// The places of a part as record k, and in front of them its next, or where that will stand a hash: a usize below 2 ^ 32, as
+// `number` gives the one and `hash_of` the other.
+pub fn put_part(records: &mut Records, k: usize, front: usize, p: DeclarationPlaces)
     requires k_bound { k ≤ 512 }
-    requires in_bounds { 5130 ≤ length records.old }
     requires front_bound { front < 2 ^ 32 }
     requires within { Within 65536 p }
     ensures { records.new ≡ sets records.old (10 * k) (held_numbers front p) }
 {
     // Numbers have no `None`: without a default its two numbers are 0, as the C interface has them.
-    let value = p.value.unwrap_or(Place { at: 0, len: 0 });
+    let value = p.value.unwrap_or_default();
     let numbers = [
         front as u32,
         p.name.at as u32,
@@ -131,11 +136,11 @@ pub fn put_part(records: &mut [u32], k: usize, front: usize, p: DeclarationPlace
     put_numbers(records, k, numbers);
 }
 
-// Whether record k has this name; the hashes tell most names apart.
+// Whether record k has this name; the hashes tell most names apart. The name and its hash are two arguments: the hash is made once
+// for the walk over the records, and a struct of the two would need an invariant for that one walk.
 #[tactic(auto, using(crate::proofs::GatherLaws::other_hash, declared_parts::proofs::DeclaredNameLaws::same_of_library))]
-fn is_named(text: &[u8], records: &[u32], k: usize, name: &[u8], hash: usize) -> bool
+fn is_named(text: &[u8], records: &Records, k: usize, name: &[u8], hash: usize) -> bool
     requires k_bound { k ≤ 512 }
-    requires in_bounds { 5130 ≤ length records.now }
     requires hash_value { hash ≡ name_hash name.now }
     requires hash_in { HashIn text.now records.now k }
     ensures { result ≡ is_same name.now (record_in text.now records.now k).name }
@@ -143,10 +148,10 @@ fn is_named(text: &[u8], records: &[u32], k: usize, name: &[u8], hash: usize) ->
     number(records, k, NEXT) == hash && name == name_of(text, records, k)
 }
 
-// How many records stand ahead of the first one of this name.
-fn find_name(text: &[u8], records: &[u32], count: usize, name: &[u8], hash: usize) -> usize
+// How many records stand ahead of the first one of this name, all if none has it. No Option: a new record's place is the first free
+// one, so that `add_part` puts both in alike.
+fn find_name(text: &[u8], records: &Records, count: usize, name: &[u8], hash: usize) -> usize
     requires count_bound { count ≤ 512 }
-    requires in_bounds { 5130 ≤ length records.now }
     requires hash_value { hash ≡ name_hash name.now }
     requires hashed { Hashed text.now records.now count }
     ensures value { result ≡ place_of name.now (records_from text.now records.now 1 count) }
@@ -155,7 +160,6 @@ fn find_name(text: &[u8], records: &[u32], count: usize, name: &[u8], hash: usiz
     let place = (0..count).find(
         |k|
             requires k_bound { k.now < 512 }
-            requires in_bounds { 5130 ≤ length records.now }
             requires hash_value { hash ≡ name_hash name.now }
             requires hash_in { HashIn text.now records.now (k.now + 1) }
         { is_named(text, records, *k + 1, name, hash) },
@@ -163,21 +167,22 @@ fn find_name(text: &[u8], records: &[u32], count: usize, name: &[u8], hash: usiz
     place.unwrap_or(count)
 }
 
-// The records with what a part declares: how many there are, unless there would be more than 512.
-#[tactic(auto, using(crate::proofs::GatherLaws::add_none, crate::proofs::GatherLaws::add_full, crate::proofs::GatherLaws::add_one, crate::proofs::GatherLaws::put_behind))]
+// The records with what a part declares: how many there are, unless there would be more than 512. That the array keeps its length
+// is a clause, since nothing tells it of the last call in `gather`, behind which the array isn't read.
+#[tactic(auto, using(crate::proofs::GatherLaws::add_none, crate::proofs::GatherLaws::add_full, crate::proofs::GatherLaws::add_one))]
 fn add_part(
     text: &[u8],
-    records: &mut [u32],
+    records: &mut Records,
     count: usize,
     p: DeclarationPlaces,
 ) -> Result<usize, Refusal>
     requires count_bound { count ≤ 512 }
-    requires in_bounds { 5130 ≤ length records.old }
     requires within { Within 65536 p }
     requires hashed { Hashed text.now records.old count }
     ensures added { Added text.now records.old count p records.new result }
-    ensures records_unchanged { drop 5130 records.new ≡ drop 5130 records.old }
+    ensures records_len { length records.new ≡ 5130 }
 {
+    // A part without a type declares nothing; `DeclarationPlaces` says why it is no Option.
     if p.kind.len == 0 {
         return Ok(count);
     }
@@ -191,7 +196,10 @@ fn add_part(
     Ok(count.max(k + 1))
 }
 
-// The records of a section, as places in its text: how many there are, unless more than 512 names are declared.
+// The records of a section, as places in its text: how many there are, unless more than 512 names are declared. A walk from one
+// live `;` to the next: a turn takes the offsets of its piece in the whole text, and no `;` ends the last piece, so an iterator
+// over the pieces would be a struct with a flag for the last one, and its `next` would branch where that one stands behind the
+// loop here.
 #[tactic(auto, using(crate::proofs::GatherLaws::gathered_start, crate::proofs::GatherLaws::gathered_last, crate::proofs::GatherLaws::within_more))]
 pub fn gather(text: &MappedText<'_>, records: &mut [u32]) -> Result<usize, Refusal>
     requires text_len_bound { length text.now ≤ 65536 }
@@ -199,6 +207,9 @@ pub fn gather(text: &MappedText<'_>, records: &mut [u32]) -> Result<usize, Refus
     ensures gathered { Gathered (bytes text.now) text.now records.new result }
     ensures records_unchanged { drop 5130 records.new ≡ drop 5130 records.old }
 {
+    let Some(records) = records.first_chunk_mut::<RECORD_NUMBERS>() else {
+        unreachable!()
+    };
     let bytes = text.text();
     let mut count: usize = 0;
     let mut at: usize = 0;

@@ -19,6 +19,8 @@ pub fn transform_elsif(text: &MappedText<'_>, out: &mut [u8]) -> usize
     let bytes = text.text();
     let mut written = Writer::new(out);
     let mut from: usize = 0;
+    // No walk in common with `raise::put_raises`, which is told in each turn where the next one begins, and may stop: one function of both
+    // would be handed the turn as a closure, promise all by it, and be longer than the two loops.
     while let Some(at) = text.find_keyword(b"ELSIF", from) {
         written.put_all(&bytes[from..at]);
         written.put_all(b"ELSEIF");

@@ -1,6 +1,6 @@
 // The text as a struct that holds its slice, and the searches as its methods: each takes the struct apart, and calls the
-// search of the same name on the slice. A struct that holds the slice, with methods that only forward, is one of the forms (docs/DECISIONS.md) in which
-// this project states a search.
+// search of the same name on the slice. A struct that holds the slice, with methods that only forward, is one of the forms
+// (docs/DECISIONS.md) in which this project states a search.
 #![tactic(auto)]
 
 ghost use Rattle.std.specs.Prelude.{◌≡◌, []};

@@ -1,6 +1,6 @@
 -- Pass 3 keeps what a reading reads. Assumes nothing.
 use Rattle.std.specs.Prelude.{Option, Some, None}
-use Rattle.std.proofs.lemmas.Bool.{cond_both}
+use Rattle.std.proofs.lemmas.Bool.{cond_both, and_parts, or_left, or_right}
 use mathlib.Core.Path.{◌≡◌, refl, sym, ap, ◌∙◌, subst}
 use mathlib.Core.Bool.{Bool, true, false, cond, not, ◌&&◌, ◌||◌, false≢true}
 use mathlib.Core.List.{List, [], ◌∷◌, ◌++◌, reverse, reverse-cons, reverse-append, reverse-reverse, append_assoc}
@@ -11,7 +11,7 @@ use lib.ListN.{take, drop, take-append-drop}
 use lib.Seq.{drop-drop}
 use Rattle.spec.proofs.RefusalOutcomes.{statement_nil}
 use Rattle.spec.proofs.ByteSets.{sign_not_ident, sign_not_w, ident_not_w}
-use Rattle.spec.proofs.Choice.{by, and_left, and_right, or_first, or_second}
+use Rattle.spec.proofs.Choice.{by}
 use Rattle.spec.proofs.ListLaws.{while_split, while_all, all_append}
 use Rattle.spec.proofs.FirstLaws.{first_least}
 use Rattle.spec.specs.Bytes.{ascii, is_ident, is_quote, is_w}
@@ -32,7 +32,7 @@ unfolding all
 all_reverse f [] h = refl
 all_reverse f (x ∷ t) h =
     subst (λ (l : List Marked). all f l ≡ true) (sym (reverse-cons x t))
-    (all_append f (reverse t) (x ∷ []) ∙ rw (all_reverse f t (and_right (f x) (all f t) h), and_left (f x) (all f t) h) refl)
+    (all_append f (reverse t) (x ∷ []) ∙ rw (all_reverse f t ((and_parts (f x) (all f t) h).1), (and_parts (f x) (all f t) h).0) refl)
 
 -- a live `:=` at the front
 at_assign : (u : List Marked) → (front_live u && starts (ascii ":=") u) ≡ true
@@ -40,12 +40,12 @@ at_assign : (u : List Marked) → (front_live u && starts (ascii ":=") u) ≡ tr
 unfolding front_live starts
 at_assign [] h = absurd (false≢true h)
 at_assign (quoted c ∷ u) h = absurd (false≢true h)
-at_assign (live c ∷ []) h = absurd (false≢true (and_right (eqb c 58) false h))
+at_assign (live c ∷ []) h = absurd (false≢true ((and_parts (eqb c 58) false h).1))
 at_assign (live c ∷ y ∷ a) h = (
   y,
   a,
-  ap (λ (n : ℕ). live n ∷ y ∷ a) (eqb-true c 58 (and_left (eqb c 58) (eqb (byte y) 61 && true) h)),
-  eqb-true (byte y) 61 (and_left (eqb (byte y) 61) true (and_right (eqb c 58) (eqb (byte y) 61 && true) h)),
+  ap (λ (n : ℕ). live n ∷ y ∷ a) (eqb-true c 58 ((and_parts (eqb c 58) (eqb (byte y) 61 && true) h).0)),
+  eqb-true (byte y) 61 ((and_parts (eqb (byte y) 61) true ((and_parts (eqb c 58) (eqb (byte y) 61 && true) h).1)).0),
 )
 
 -- the text before `:=`, read backwards: W, the name, and what stands before it
@@ -89,7 +89,7 @@ module _ (k : Reading) where
       go (y ∷ u) w = by (f (byte x)) (λ e. rw e (r.0, w)) (λ e. rw e (r.0, w))
 
   white_ends : (c : ℕ) → is_w c ≡ true → (is_w c || eqb c 59) ≡ true
-  white_ends c e = or_first (is_w c) (eqb c 59) e
+  white_ends c e = or_left (is_w c) (eqb c 59) e
 
   piece_trim : (t : List Marked) → Piece t → Piece (trim t)
   unfolding trim trim_end
@@ -99,7 +99,7 @@ module _ (k : Reading) where
   unfolding right_side
   piece_right t p =
       piece_trim (drop_end (of_byte (λ c. eqb c 59)) (trim t))
-      (piece_end (λ c. eqb c 59) (λ c e. or_second (is_w c) (eqb c 59) e) (trim t) k.start (piece_trim t p))
+      (piece_end (λ c. eqb c 59) (λ c e. or_right (is_w c) (eqb c 59) e) (trim t) k.start (piece_trim t p))
 
   -- a word leaves a state that may have a space behind it
   before_space_word : (n : List Marked) (s : k.State) → all (of_byte is_ident) n ≡ true → NoQuote n → Read k s n → k.rest (ends k s n) ≡ true → k.before_space s ≡ true
@@ -107,9 +107,9 @@ module _ (k : Reading) where
   unfolding all of_byte
   before_space_word [] s a q r h f = f
   before_space_word (x ∷ n) s a q r h f =
-      let i = and_left (is_ident (byte x)) (all (of_byte is_ident) n) a in
+      let i = (and_parts (is_ident (byte x)) (all (of_byte is_ident) n) a).0 in
       let z = back_over k n (k.after s x) q.1 r.1 h in
-      before_space_word n (k.after s x) (and_right (is_ident (byte x)) (all (of_byte is_ident) n) a) q.1 r.1 h
+      before_space_word n (k.after s x) ((and_parts (is_ident (byte x)) (all (of_byte is_ident) n) a).1) q.1 r.1 h
       (k.settle s x (ident_not_w (byte x) i) r.0 z)
 
   set_parts : (front name w : List Marked) (y : Marked) (a : List Marked)
@@ -134,7 +134,7 @@ module _ (k : Reading) where
       let zw : k.rest W ≡ true = k.alive W 58 g.1.0 in
       let zn : k.rest (ends k F name) ≡ true = back_over k w (ends k F name) nw g.0 zw in
       let zf : k.rest F ≡ true = back_over k name F nn d.0 zn in
-      let f = k.fresh (name ++ (w ++ u)) F (or_first (k.edge F) _ e) zf c.1 in
+      let f = k.fresh (name ++ (w ++ u)) F (or_left (k.edge F) _ e) zf c.1 in
       let d2 = cut ok next name (w ++ u) k.start f.0 in
       let N = ends k k.start name in
       let g2 = cut ok next w u N d2.1 in
@@ -145,7 +145,7 @@ module _ (k : Reading) where
       let qy : is_quote (byte y) ≡ false = rw b refl in
       let iy : is_ident (byte y) ≡ false = ap is_ident b ∙ sign_not_ident 61 refl in
       let ze : k.rest (next C y) ≡ true = k.forth C y qy g.1.1.0 zc in
-      let ra = k.fresh (a ++ (live 59 ∷ [])) (next C y) (or_first (k.edge (next C y)) _ (k.edges C y iy)) ze g.1.1.1 in
+      let ra = k.fresh (a ++ (live 59 ∷ [])) (next C y) (or_left (k.edge (next C y)) _ (k.edges C y iy)) ze g.1.1.1 in
       let S = k.set_word F zf in
       let E = k.equals N fn in
       let right = right_side a ++ (live 59 ∷ []) in

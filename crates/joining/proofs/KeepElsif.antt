@@ -1,19 +1,20 @@
 -- Pass 2 keeps what a reading reads, where letters leave the state in a word as it is. Assumes nothing.
 use mathlib.Core.Path.{◌≡◌, refl, sym, ◌∙◌, subst}
-use mathlib.Core.Bool.{Bool, true, false, cond, not, false≢true}
+use mathlib.Core.Bool.{Bool, true, false, cond, not, false≢true, true≢false}
 use mathlib.Core.List.{List, [], ◌∷◌, ◌++◌, cons≢nil}
 use Prim.Native.Nat.{ℕ, zero, suc}
 use borrow.Author.Tests.{eqb-true, not-true}
 use lib.Dec.{eqb}
 use lib.ListN.{length}
 use Rattle.spec.proofs.ByteSets.{sign_not_ident, letter_ident, capital_ident, not_word, upper_cases}
-use Rattle.spec.proofs.Choice.{by, and_left, and_right}
+use Rattle.std.proofs.lemmas.Bool.{and_parts}
+use Rattle.spec.proofs.Choice.{by}
 use Rattle.spec.specs.Bytes.{ascii, within, is_digit, is_lower, is_upper, is_ident, is_word, is_quote, is_w, upper}
 use Rattle.spec.specs.Map.{Marked, live, quoted, byte, lives, front_live}
 use Rattle.spec.specs.Search.{starts_ignoring_case, word_here}
 use Rattle.spec.specs.Elsif.{elsif_from, elsif}
 use Rattle.spec.specs.Closed.{ends_live}
-use Rattle.joining.proofs.Bools.{clash, other, ident_no_quote}
+use Rattle.joining.proofs.Bools.{other, ident_no_quote}
 use Rattle.joining.proofs.Reading.{Reading}
 use Rattle.joining.proofs.Parts.{Read}
 use Rattle.joining.proofs.Statements.{ends_append, ends_rest, ends_ident, Shut}
@@ -44,8 +45,8 @@ unfolding starts_ignoring_case
 word_idents [] t l h = tt
 word_idents (a ∷ w) [] l h = absurd (false≢true h)
 word_idents (a ∷ w) (x ∷ t) l h = (
-  l.0 (byte x) (and_left (eqb (upper (byte x)) (upper a)) (starts_ignoring_case w t) h),
-  word_idents w t l.1 (and_right (eqb (upper (byte x)) (upper a)) (starts_ignoring_case w t) h),
+  l.0 (byte x) ((and_parts (eqb (upper (byte x)) (upper a)) (starts_ignoring_case w t) h).0),
+  word_idents w t l.1 ((and_parts (eqb (upper (byte x)) (upper a)) (starts_ignoring_case w t) h).1),
 )
 
 letters : Letters (ascii "LSIF")
@@ -73,13 +74,13 @@ at_elsif : (p : ℕ) (x : Marked) (t : List Marked) → word_here is_word (ascii
 unfolding word_here front_live starts_ignoring_case upper is_lower within
 at_elsif p (quoted c) t h = absurd (false≢true h)
 at_elsif p (live c) t h =
-    let m : starts_ignoring_case (ascii "ELSIF") (live c ∷ t) ≡ true = and_left (starts_ignoring_case (ascii "ELSIF") (live c ∷ t)) _ h in
-    let w = not-true (is_word p) (and_left (not (is_word p)) _ (and_right (starts_ignoring_case (ascii "ELSIF") (live c ∷ t)) _ h)) in
+    let m : starts_ignoring_case (ascii "ELSIF") (live c ∷ t) ≡ true = (and_parts (starts_ignoring_case (ascii "ELSIF") (live c ∷ t)) _ h).0 in
+    let w = not-true (is_word p) ((and_parts (not (is_word p)) _ ((and_parts (starts_ignoring_case (ascii "ELSIF") (live c ∷ t)) _ h).1)).0) in
     record {
       code = c;
       is_live_lem = refl;
-      first = (and_left (eqb (upper c) (upper 69)) (starts_ignoring_case (ascii "LSIF") t) m);
-      idents = word_idents (ascii "LSIF") t letters (and_right (eqb (upper c) (upper 69)) (starts_ignoring_case (ascii "LSIF") t) m);
+      first = ((and_parts (eqb (upper c) (upper 69)) (starts_ignoring_case (ascii "LSIF") t) m).0);
+      idents = word_idents (ascii "LSIF") t letters ((and_parts (eqb (upper c) (upper 69)) (starts_ignoring_case (ascii "LSIF") t) m).1);
       left = not_word p w;
     }
 
@@ -142,12 +143,12 @@ module _ (k : Reading) (l : Speller k) where
       let q = l.spell s c (e a.left) a.first r2.0 in
       let s2 = k.after s (live 69) in
       let more = elsif_reads t 4 (byte x) s2 a.idents q.2
-      (λ f. clash (sym (subst (λ (y : Marked). is_ident (byte y) ≡ true) (sym a.is_live_lem) (e_ident c a.first)) ∙ f))
+      (λ f. absurd (true≢false (sym (subst (λ (y : Marked). is_ident (byte y) ≡ true) (sym a.is_live_lem) (e_ident c a.first)) ∙ f)))
       (subst (λ (w : k.State). Read k w t) q.1 r2.1) in
       rw h (q.0, spelled (ascii "LSEIF") (elsif_from 4 (byte x) t) s2 lseif q.2 more))
       (λ h. rw h (r.0, elsif_reads t 0 (byte x) (k.after s x) tt tt (λ f. k.edges s x f) r.1))
   elsif_reads (x ∷ t) (suc n) p s i z e r =
-      elsif_reads t n (byte x) s i.1 (still_down n s z) (λ f. clash (sym i.0 ∙ f))
+      elsif_reads t n (byte x) s i.1 (still_down n s z) (λ f. absurd (true≢false (sym i.0 ∙ f)))
       (subst (λ (w : k.State). Read k w t) (l.keeps s x z i.0 r.0) r.1)
 
   pub elsif_kept : (t : List Marked) → Shut k k.ok t → Shut k k.ok (elsif t)
@@ -189,12 +190,12 @@ well_spell s c e h =
 
 well_keeps : (s : Open) (x : Marked) → well_still s ≡ true → is_ident (byte x) ≡ true → well_ok s x ≡ true → well_next s x ≡ s
 well_keeps clear (live c) h i o = next_ident clear c i
-well_keeps clear (quoted c) h i o = clash (sym o ∙ ident_no_quote c i)
+well_keeps clear (quoted c) h i o = absurd (true≢false (sym o ∙ ident_no_quote c i))
 well_keeps dash x h i o = absurd (false≢true h)
 well_keeps slash x h i o = absurd (false≢true h)
 well_keeps sign x h i o = absurd (false≢true h)
 well_keeps tag (live c) h i o = next_ident tag c i
-well_keeps tag (quoted c) h i o = clash (sym o ∙ ident_no_quote c i)
+well_keeps tag (quoted c) h i o = absurd (true≢false (sym o ∙ ident_no_quote c i))
 well_keeps in_single x h i o = absurd (false≢true h)
 well_keeps in_double x h i o = absurd (false≢true h)
 

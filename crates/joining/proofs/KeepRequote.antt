@@ -1,6 +1,6 @@
 -- Pass 1 makes a well formed text of a closed body, in which RAISE has the same text behind it. Assumes nothing.
 use mathlib.Core.Path.{◌≡◌, refl, sym, ap, ◌∙◌, subst}
-use mathlib.Core.Bool.{Bool, true, false, cond, not, ◌&&◌, ◌||◌, false≢true}
+use mathlib.Core.Bool.{Bool, true, false, cond, not, ◌&&◌, ◌||◌, false≢true, true≢false}
 use mathlib.Core.List.{List, [], ◌∷◌, ◌++◌, map, append_assoc}
 use Prim.Native.Nat.{ℕ, zero, suc, ◌+◌, ◌≤◌, ◌<◌, zero-le, suc-le-suc}
 use native.Mathlib.Omega.{arith}
@@ -11,7 +11,8 @@ use lib.Seq.{take-suc, take-add, drop-drop, length-take-le}
 use Rattle.spec.proofs.WalkLaws.{prefix_take}
 use Rattle.spec.proofs.ByteSets.{sign_not_ident}
 use Rattle.spec.proofs.BytesLaws.{bytes_append}
-use Rattle.spec.proofs.Choice.{by, and_left, and_right, or_left, or_right, or_second}
+use Rattle.std.proofs.lemmas.Bool.{and_parts, or_parts, or_right}
+use Rattle.spec.proofs.Choice.{by}
 use Rattle.spec.proofs.SpanLaws.{by_kind, lexemes_step, opens_in, seen, seek_miss}
 use Rattle.spec.proofs.MapLaws.{mark_byte, text_length}
 use Rattle.spec.specs.Bytes.{within, is_digit, is_lower, is_upper, is_ident, is_quote, is_pair, is_prefix, is_w, upper}
@@ -20,7 +21,7 @@ use Rattle.spec.specs.Spans.{escapes, quote_len, quoted_len, tag_len, seek_len, 
 use Rattle.spec.specs.Map.{Marked, live, quoted, mark, marked, marked_text, bytes, region_of, span_flag}
 use Rattle.spec.specs.Requote.{doubled, single_quoted, requote_span, requote_lexeme, requoted}
 use Rattle.spec.specs.Closed.{ends_live, is_plain_region, is_plain_span, raises_followed, is_closed}
-use Rattle.joining.proofs.Bools.{clash, and_no, at, another}
+use Rattle.joining.proofs.Bools.{and_no, at, another}
 use Rattle.joining.proofs.Reading.{leaves, leaves_append, cut, paste, Takes, takes_cons}
 use Rattle.joining.proofs.Statements.{ends_append, ends_rest}
 use Rattle.joining.proofs.WellFormed.{past, text_step, text_code, text_single, text_double, Open, clear, dash, slash, sign, tag, in_single, in_double, live_ok, quoted_ok, well_ok, tagged, live_next, quoted_next, well_next, is_out, Well, live_out, closes_tag, is_tag, opens_tag, Literal, single_literal, double_literal}
@@ -161,16 +162,16 @@ any_take : (f : ℕ → Bool) (n : ℕ) (xs : List ℕ) → any f xs ≡ false �
 unfolding any
 any_take f zero xs h = refl
 any_take f (suc n) [] h = refl
-any_take f (suc n) (c ∷ cs) h = rw (or_left (f c) (any f cs) h) (any_take f n cs (or_right (f c) (any f cs) h))
+any_take f (suc n) (c ∷ cs) h = rw ((or_parts (f c) (any f cs) h).0) (any_take f n cs ((or_parts (f c) (any f cs) h).1))
 
 any_drop : (f : ℕ → Bool) (n : ℕ) (xs : List ℕ) → any f xs ≡ false → any f (drop n xs) ≡ false
 unfolding any
 any_drop f zero xs h = h
 any_drop f (suc n) [] h = refl
-any_drop f (suc n) (c ∷ cs) h = any_drop f n cs (or_right (f c) (any f cs) h)
+any_drop f (suc n) (c ∷ cs) h = any_drop f n cs ((or_parts (f c) (any f cs) h).1)
 
 flip : (a b : ℕ) → eqb a b ≡ false → eqb b a ≡ false
-flip a b e = by (eqb b a) (λ f. clash (sym (at (λ (n : ℕ). eqb a n ≡ true) a b f (eq-eqb a a refl)) ∙ e)) (λ f. f)
+flip a b e = by (eqb b a) (λ f. absurd (true≢false (sym (at (λ (n : ℕ). eqb a n ≡ true) a b f (eq-eqb a a refl)) ∙ e))) (λ f. f)
 
 -- a literal that is closed is read to its end
 module _ (e : Bool) (q : ℕ) (s : Open) (l : Literal q s) where
@@ -200,15 +201,15 @@ module _ (e : Bool) (q : ℕ) (s : Open) (l : Literal q s) where
   literal_reads [] b = λ h n. absurd (omega arith)
   literal_reads (c ∷ []) b = λ h n. absurd (omega (arith, len_one c))
   literal_reads (c ∷ d ∷ cs) b =
-      let c92 = flip 92 c (or_left (eqb 92 c) _ b) in
+      let c92 = flip 92 c ((or_parts (eqb 92 c) _ b).0) in
       let es : (e && eqb c 92) ≡ false = and_no e (eqb c 92) (λ _. c92) in
-      let bs = or_right (eqb 92 c) (any (eqb 92) (d ∷ cs)) b in
+      let bs = (or_parts (eqb 92 c) (any (eqb 92) (d ∷ cs)) b).1 in
       by (eqb c q)
       (λ f. by (eqb d q)
       (λ g. subst (ReadsFirst (c ∷ d ∷ cs)) (sym (len_pair c d cs es f g))
       (λ h n.
-      let more = literal_reads cs (or_right (eqb 92 d) (any (eqb 92) cs) bs) (omega arith) (or_right (eqb 10 d) _ (or_right (eqb 10 c) _ n)) in
-      let c10 = flip 10 c (or_left (eqb 10 c) _ n) in
+      let more = literal_reads cs ((or_parts (eqb 92 d) (any (eqb 92) cs) bs).1) (omega arith) ((or_parts (eqb 10 d) _ ((or_parts (eqb 10 c) _ n).1)).1) in
+      let c10 = flip 10 c ((or_parts (eqb 10 c) _ n).0) in
       let z : quoted_next s c ≡ clear = l.shuts c ∙ rw f refl in
       let y : cond (eqb d 39) in_single in_double ≡ s = ap (λ (k : ℕ). cond (eqb k 39) in_single in_double) (eqb-true d q g) ∙ l.opens in
       let u = map quoted (take (quote_len e q cs) cs) in
@@ -216,12 +217,12 @@ module _ (e : Bool) (q : ℕ) (s : Open) (l : Literal q s) where
       takes_cons well_ok well_next (quoted c) (quoted d ∷ u) s clear clear (l.allows c c92 c10) z (takes_cons well_ok well_next (quoted d) u clear s clear dq y more)))
       (λ g. subst (ReadsFirst (c ∷ d ∷ cs)) (sym (len_end c d cs es f g))
       (λ h n.
-      let c10 = flip 10 c (or_left (eqb 10 c) _ n) in
+      let c10 = flip 10 c ((or_parts (eqb 10 c) _ n).0) in
       record { reads = (l.allows c c92 c10, tt); end = l.shuts c ∙ rw f refl })))
       (λ f. subst (ReadsFirst (c ∷ d ∷ cs)) (sym (len_more c d cs es f))
       (λ h n.
-      let more = literal_reads (d ∷ cs) bs (omega arith) (or_right (eqb 10 c) _ n) in
-      let c10 = flip 10 c (or_left (eqb 10 c) _ n) in
+      let more = literal_reads (d ∷ cs) bs (omega arith) ((or_parts (eqb 10 c) _ n).1) in
+      let c10 = flip 10 c ((or_parts (eqb 10 c) _ n).0) in
       let z : quoted_next s c ≡ s = l.shuts c ∙ rw f refl in
       let u = map quoted (take (quote_len e q (d ∷ cs)) (d ∷ cs)) in
       takes_cons well_ok well_next (quoted c) u s s clear (l.allows c c92 c10) z more))
@@ -232,10 +233,10 @@ doubled_reads : (xs : List ℕ) → any (eqb 92) xs ≡ false → any (eqb 10) x
 unfolding doubled any is_quote
 doubled_reads [] b n = record { reads = (refl, tt); end = refl }
 doubled_reads (c ∷ cs) b n =
-    let more = doubled_reads cs (or_right (eqb 92 c) (any (eqb 92) cs) b) (or_right (eqb 10 c) (any (eqb 10) cs) n) in
+    let more = doubled_reads cs ((or_parts (eqb 92 c) (any (eqb 92) cs) b).1) ((or_parts (eqb 10 c) (any (eqb 10) cs) n).1) in
     by (eqb c 39)
     (λ e. rw e (record { reads = (refl, (refl, more.reads)); end = more.end }))
-    (λ e. rw e (one e (single_literal.allows c (flip 92 c (or_left (eqb 92 c) _ b)) (flip 10 c (or_left (eqb 10 c) _ n))) more))
+    (λ e. rw e (one e (single_literal.allows c (flip 92 c ((or_parts (eqb 92 c) _ b).0)) (flip 10 c ((or_parts (eqb 10 c) _ n).0))) more))
   where
     one : eqb c 39 ≡ false → quoted_ok in_single c ≡ true → Takes well_ok well_next in_single clear (map quoted (doubled cs ++ (39 ∷ [])))
         → Takes well_ok well_next in_single clear (quoted c ∷ map quoted (doubled cs ++ (39 ∷ [])))
@@ -249,8 +250,8 @@ doubled_reads (c ∷ cs) b n =
 opening : (c : ℕ) (cs : List ℕ) → opens_dollar (c ∷ cs) ≡ true → (w : List ℕ) × (take (2 + tag_len cs) (c ∷ cs) ≡ c ∷ (w ++ (36 ∷ [])))
 unfolding is_tag closes_tag
 opening c cs h =
-    let t = and_right (eqb c 36) (is_tag cs) (sym (opens_tag c cs) ∙ h) in
-    let e = eqb-true (get_or cs (tag_len cs) 0) 36 (and_right (not (is_digit (get_or cs 0 0))) (closes_tag cs) t) in
+    let t = (and_parts (eqb c 36) (is_tag cs) (sym (opens_tag c cs) ∙ h)).1 in
+    let e = eqb-true (get_or cs (tag_len cs) 0) 36 ((and_parts (not (is_digit (get_or cs 0 0))) (closes_tag cs) t).1) in
     let b = seen cs (tag_len cs) 35 e in
     let n : 2 + tag_len cs ≡ suc (suc (tag_len cs)) = omega arith in (
       take (tag_len cs) cs,
@@ -357,7 +358,7 @@ rest_plain c cs f =
     let l = lexeme_at (c ∷ cs) in
     let ls = lexemes (drop (span_len (span_at (c ∷ cs))) (c ∷ cs)) in
     let h : (is_plain_span l && all is_plain_span ls) ≡ true = subst (λ (z : List Lexeme). all is_plain_span z ≡ true) (lexemes_step c cs) f.plain in
-    (and_left (is_plain_span l) (all is_plain_span ls) h, and_right (is_plain_span l) (all is_plain_span ls) h)
+    ((and_parts (is_plain_span l) (all is_plain_span ls) h).0, (and_parts (is_plain_span l) (all is_plain_span ls) h).1)
 
 text_some : (c : ℕ) (cs : List ℕ) → marked_text (c ∷ cs) ≡ [] → ⊥
 text_some c cs e = absurd (omega (arith, text_length (c ∷ cs), ap length e))
@@ -383,7 +384,7 @@ code_case c cs e f ih =
     let en : ends_live (live c ∷ marked_text cs) ≡ true = subst (λ (t : List Marked). ends_live t ≡ true) mt f.ended in
     let r = ih (record {
       plain = rw e at (rest_plain c cs f).1;
-      slashless = or_right (eqb 92 c) (any (eqb 92) cs) f.slashless;
+      slashless = (or_parts (eqb 92 c) (any (eqb 92) cs) f.slashless).1;
       ended = live_later c cs en;
     }) in
     record {
@@ -495,7 +496,7 @@ module _ (c : ℕ) (cs : List ℕ) where
       doubled_reads insides
       (any_take (eqb 92) inner (drop opens (take N xs)) (any_drop (eqb 92) opens (take N xs) (any_take (eqb 92) N xs b)))
       (any_take (eqb 10) inner (drop opens (take N xs)) (any_drop (eqb 10) opens (take N xs) n)) in
-      let c36 : c ≡ 36 = eqb-true c 36 (and_left (eqb c 36) _ o) in
+      let c36 : c ≡ 36 = eqb-true c 36 ((and_parts (eqb c 36) _ o).0) in
       record {
         well =
             λ s h g.
@@ -542,7 +543,7 @@ rest_fine n xs p b e =
     record {
       plain = p;
       slashless = any_drop (eqb 92) n xs b;
-      ended = or_second (is_empty (drop n xs)) (ends_live (marked_text (drop n xs))) e;
+      ended = or_right (is_empty (drop n xs)) (ends_live (marked_text (drop n xs))) e;
     }
 
 -- the front span, with what pass 1 makes of the text behind it
@@ -552,7 +553,7 @@ span_requoted c cs f ih =
     let xs = c ∷ cs in
     let en = f.ended in
     let b = f.slashless in
-    let bs = or_right (eqb 92 c) (any (eqb 92) cs) b in
+    let bs = (or_parts (eqb 92 c) (any (eqb 92) cs) b).1 in
     by_kind xs (λ (k : Kind). kind_at xs ≡ k → Requoted xs)
     (λ t e. absurd (false≢true (front_plain line c cs e f).here))
     (λ t e. absurd (false≢true (front_plain block c cs e f).here))
@@ -560,13 +561,13 @@ span_requoted c cs f ih =
     let p = front_plain single c cs e f in
     let m = quote_len true 39 cs in
     literal_case true 39 in_single single_literal c cs (eqb-true c 39 t) (text_single c cs e) (requoted_single c cs e) bs
-    (or_right (eqb 10 c) (any (eqb 10) (take m cs)) (not-true (any (eqb 10) (c ∷ take m cs)) p.here)) en
+    ((or_parts (eqb 10 c) (any (eqb 10) (take m cs)) (not-true (any (eqb 10) (c ∷ take m cs)) p.here)).1) en
     (λ er. ih (suc m) (suc-le-suc zero-le) (rest_fine m cs p.behind bs er)))
     (λ t e.
     let p = front_plain double c cs e f in
     let m = quote_len false 34 cs in
     literal_case false 34 in_double double_literal c cs (eqb-true c 34 t) (text_double c cs e) (requoted_double c cs e) bs
-    (or_right (eqb 10 c) (any (eqb 10) (take m cs)) (not-true (any (eqb 10) (c ∷ take m cs)) p.here)) en
+    ((or_parts (eqb 10 c) (any (eqb 10) (take m cs)) (not-true (any (eqb 10) (c ∷ take m cs)) p.here)).1) en
     (λ er. ih (suc m) (suc-le-suc zero-le) (rest_fine m cs p.behind bs er)))
     (λ o e.
     let p = front_plain dollar c cs e f in
@@ -596,16 +597,16 @@ requote_kept a h =
     let b = not (any (eqb 92) a) in
     let p = all is_plain_span (lexemes a) in
     let r = raises_followed 0 (marked_text a) in
-    let h1 = and_right e (b && (p && r)) h in
-    let h2 = and_right b (p && r) h1 in
-    let en = and_left e (b && (p && r)) h in
+    let h1 = (and_parts e (b && (p && r)) h).1 in
+    let h2 = (and_parts b (p && r) h1).1 in
+    let en = (and_parts e (b && (p && r)) h).0 in
     let q = requoted_fine (length a) a (omega arith) (record {
-      plain = and_left p r h2;
-      slashless = not-true (any (eqb 92) a) (and_left b (p && r) h1);
-      ended = or_second (is_empty a) e en;
+      plain = (and_parts p r h2).0;
+      slashless = not-true (any (eqb 92) a) ((and_parts b (p && r) h1).0);
+      ended = or_right (is_empty a) e en;
     }) in
     record {
       well = (q.well clear refl tt).0;
-      raise_read = q.raise_read edge (followed_read (marked_text a) edge 0 (sym (ap not (sign_not_ident 0 refl))) (and_right p r h2) tt);
+      raise_read = q.raise_read edge (followed_read (marked_text a) edge 0 (sym (ap not (sign_not_ident 0 refl))) ((and_parts p r h2).1) tt);
       ended = q.ends en;
     }

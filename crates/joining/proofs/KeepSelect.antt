@@ -1,8 +1,8 @@
 -- Pass 4 keeps what a reading reads. Assumes nothing.
 use Rattle.std.specs.Prelude.{Option, Some, None}
-use Rattle.std.proofs.lemmas.Bool.{cond_both}
+use Rattle.std.proofs.lemmas.Bool.{cond_both, and_parts}
 use mathlib.Core.Path.{◌≡◌, refl, sym, ap, ◌∙◌, subst}
-use mathlib.Core.Bool.{Bool, true, false, cond, not, ◌&&◌, false≢true}
+use mathlib.Core.Bool.{Bool, true, false, cond, not, ◌&&◌, false≢true, true≢false}
 use mathlib.Core.List.{List, [], ◌∷◌, ◌++◌, map, reverse, reverse-cons, reverse-append, reverse-reverse, append-nil}
 use Prim.Native.Nat.{ℕ, suc, ◌+◌, ◌-◌}
 use native.Mathlib.Omega.{arith}
@@ -12,7 +12,7 @@ use lib.ListN.{length, take, drop, take-append-drop}
 use lib.Seq.{drop-drop}
 use Rattle.spec.proofs.JoinedPieces.{live_byte}
 use Rattle.spec.proofs.ByteSets.{sign_not_w}
-use Rattle.spec.proofs.Choice.{by, and_left, and_right}
+use Rattle.spec.proofs.Choice.{by}
 use Rattle.spec.proofs.ListLaws.{while_split}
 use Rattle.spec.proofs.FirstLaws.{first_least}
 use Rattle.spec.specs.Bytes.{ascii, within, is_lower, is_ident, is_quote, is_w, upper}
@@ -22,7 +22,6 @@ use Rattle.spec.specs.Search.{first, starts_ignoring_case, word_here, byte_here,
 use Rattle.spec.specs.Parts.{trim_end, trim, part}
 use Rattle.spec.specs.SelectInto.{depth_of, top_word_here, comma_here, listed, indentation, has_limit, subquery, set_line, set_lines, pair_up, place_or, from_part, front_place, select_cut, into_at, select_at, select_statement, join_selects, select_into}
 use Rattle.spec.specs.Closed.{ends_live}
-use Rattle.joining.proofs.Bools.{clash}
 use Rattle.joining.proofs.Reading.{reads_more, leaves_append, cut, paste, Takes, takes_append, Reading}
 use Rattle.joining.proofs.Parts.{PlainWord, Read, ends, StandsAlone, BeforeSpace, nil_part, drop_end_lem, before_space_end, at_word, behind_word, part_between, AllBeforeSpace, comma_parts, trim_parts, keep_before_space}
 use Rattle.joining.proofs.Statements.{ends_append, Shut, shut_leaves, shut_append, Statements, FirstOf, statements}
@@ -59,7 +58,7 @@ from_end f (x ∷ t) h = by (f x && is_empty (drop_end f t)) (λ e. rw e tt) (λ
 from_front : (t : List Marked) → starts_ignoring_case (ascii "FROM") t ≡ true → FromFront t
 unfolding starts_ignoring_case upper is_lower within
 from_front [] h = tt
-from_front (x ∷ t) h = and_left (eqb (upper (byte x)) 70) (starts_ignoring_case (ascii "ROM") t) h
+from_front (x ∷ t) h = (and_parts (eqb (upper (byte x)) 70) (starts_ignoring_case (ascii "ROM") t) h).0
 
 module _ (k : Reading) where
   -- what is read to the state z, in the text that pass 4 makes
@@ -82,7 +81,7 @@ module _ (k : Reading) where
       e ∙ k.newline s x (eqb-true (byte x) 10 (ten h)) w.1.0
     where
       ten : not (eqb (byte x) 10) ≡ false → eqb (byte x) 10 ≡ true
-      ten h = by (eqb (byte x) 10) (λ e. e) (λ e. clash (sym (rw e refl) ∙ h))
+      ten h = by (eqb (byte x) 10) (λ e. e) (λ e. absurd (true≢false (sym (rw e refl) ∙ h)))
 
   indent_part : (t : List Marked) → StandsAlone k t → StandsAlone k (indentation t)
   unfolding indentation
@@ -170,7 +169,7 @@ module _ (k : Reading) where
     lines_go : (cs vs : List (List Marked)) (s : k.State) → length cs ≡ length vs → is_empty cs ≡ false → AllBeforeSpace k cs → AllBeforeSpace k vs → k.rest s ≡ true
         → Goes s k.start (set_lines i (set_line w f) cs vs) × (ends_live (set_lines i (set_line w f) cs vs) ≡ true)
     unfolding set_lines is_empty
-    lines_go [] vs s n e pc pv h = clash e
+    lines_go [] vs s n e pc pv h = absurd (true≢false e)
     lines_go (c ∷ cs) [] s n e pc pv h = absurd (omega arith)
     lines_go (c ∷ []) (v ∷ vs) s n e pc pv h = (line_goes w f c v s pw pf l pc.0 pv.0 h, line_ends w f c v)
     lines_go (c ∷ d ∷ cs) (v ∷ vs) s n e pc pv h =
@@ -201,13 +200,13 @@ module _ (k : Reading) where
   place w j t pl sh e =
       let back = reverse (take j t) in
       let u = drop j t in
-      let a = and_left (word_here is_ident w (front_byte back) u) (eqb (depth_of back) 0) e in
-      let lv = and_left (front_live u) _ a in
-      let b = and_right (front_live u) _ a in
-      let m = and_left (starts_ignoring_case w u) _ b in
-      let c = and_right (starts_ignoring_case w u) _ b in
-      let il = not-true (is_ident (front_byte back)) (and_left (not (is_ident (front_byte back))) _ c) in
-      let ir = not-true (is_ident (front_byte (drop (length w) u))) (and_right (not (is_ident (front_byte back))) _ c) in
+      let a = (and_parts (word_here is_ident w (front_byte back) u) (eqb (depth_of back) 0) e).0 in
+      let lv = (and_parts (front_live u) _ a).0 in
+      let b = (and_parts (front_live u) _ a).1 in
+      let m = (and_parts (starts_ignoring_case w u) _ b).0 in
+      let c = (and_parts (starts_ignoring_case w u) _ b).1 in
+      let il = not-true (is_ident (front_byte back)) ((and_parts (not (is_ident (front_byte back))) _ c).0) in
+      let ir = not-true (is_ident (front_byte (drop (length w) u))) ((and_parts (not (is_ident (front_byte back))) _ c).1) in
       let s : reverse back ++ u ≡ t = ap (λ (z : List Marked). z ++ u) (reverse-reverse (take j t)) ∙ take-append-drop j t in
       let at = at_word k back u il lv (subst (λ (z : List Marked). Read k k.start z) (sym s) sh.reads) in
       let rt : k.rest (ends k k.start t) ≡ true = subst (λ (z : k.State). k.rest z ≡ true) (sym (shut_leaves k t k.start sh.ended)) k.rest_start in
@@ -222,7 +221,7 @@ module _ (k : Reading) where
 
   comma_live : (back u : List Marked) (x : Marked) → comma_here back (x ∷ u) ≡ true → x ≡ live 44
   unfolding comma_here byte_here
-  comma_live back u x h = live_byte 44 x (and_left (is_live_byte 44 x) (eqb (depth_of back) 0) h)
+  comma_live back u x h = live_byte 44 x ((and_parts (is_live_byte 44 x) (eqb (depth_of back) 0) h).0)
 
   listed_before_space : (t : List Marked) → StandsAlone k t → AllBeforeSpace k (listed t)
   unfolding listed
@@ -284,8 +283,8 @@ module _ (k : Reading) where
       let lines = set_lines indent (set_line (part front s t) (from_part from t)) cols vars in
       cond_both (pair_up cols vars) (take front t ++ lines) t (λ (z : List Marked). Shut k k.safe z)
       (λ e.
-      let n = eqb-true (length cols) (length vars) (and_left (eqb (length cols) (length vars)) _ e) in
-      let m = not-true (is_empty cols) (and_left (not (is_empty cols)) _ (and_right (eqb (length cols) (length vars)) _ e)) in
+      let n = eqb-true (length cols) (length vars) ((and_parts (eqb (length cols) (length vars)) _ e).0) in
+      let m = not-true (is_empty cols) ((and_parts (not (is_empty cols)) _ ((and_parts (eqb (length cols) (length vars)) _ e).1)).0) in
       let F = ends k k.start (take front t) in
       let g = lines_go indent (part front s t) (from_part from t) (indent_part (take front t) fp.0) fp.1 fr.0 fr.1 cols vars F n m pc pv fp.0.out in
       record {

@@ -6,7 +6,7 @@ use mathlib.Core.List.{List}
 use Prim.Native.Nat.{ℕ}
 use Rattle.spec.proofs.ByteSets.{sign_not_ident}
 use Rattle.spec.proofs.Apart.{apart}
-use Rattle.spec.proofs.Choice.{and_left}
+use Rattle.std.proofs.lemmas.Bool.{and_parts}
 use Rattle.spec.specs.Map.{Marked, marked_text, bytes}
 use Rattle.spec.specs.Requote.{requoted}
 use Rattle.spec.specs.Elsif.{elsif}
@@ -88,7 +88,7 @@ continuable a h =
     let b2 = second_both t1 b1 in
     let m2 : marked_text (bytes t2) ≡ t2 = scanned t2 (formed t2 b2.well) in
     record {
-      first = and_left (ends_live (marked_text a)) _ h;
+      first = (and_parts (ends_live (marked_text a)) _ h).0;
       second = rw m1 b1.well.ended;
       third = rw (m1, m2) b2.well.ended;
       behind = λ A3 e. after_pass t2 b2 A3 (assignments t2) refl (rw (m1, m2) at e);

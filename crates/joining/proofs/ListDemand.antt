@@ -11,7 +11,8 @@ use borrow.Author.Tests.{eqb-true, eqb-false}
 use lib.Dec.{eqb}
 use lib.ListN.{length, length-append}
 use Rattle.spec.proofs.Apart.{apart}
-use Rattle.spec.proofs.Choice.{by, and_left, and_right}
+use Rattle.std.proofs.lemmas.Bool.{and_parts}
+use Rattle.spec.proofs.Choice.{by}
 use Rattle.spec.proofs.RefusalLaws.{after2, after3, after4, after5, target_in, clause_in, Through2, Through4, Exceeds, in1, in2, in3, in4, in5, assign_done, assign_refused, raise_done, raise_refused, qualified_exactly, using_exactly, too_long_exactly}
 use Rattle.spec.proofs.RefusalCalls.{pass_number, pass_number_lem, told}
 use Rattle.spec.proofs.TableNumbers.{IsTable, given_table}
@@ -270,5 +271,5 @@ unfolding all concat
 joined_list levels l [] b k = λ one six. (((λ h. ((λ a i. absurd (Memᴰ.not-nil i)), h)), (λ z. z.1)), (λ h. refl))
 joined_list levels l (a ∷ bodies) b k =
     rw (append_assoc a (concat bodies) b)
-    (step levels l b a bodies (concat bodies ++ b) (and_left (is_closed a) (all is_closed bodies) k)
-    (joined_list levels l bodies b (and_right (is_closed a) (all is_closed bodies) k)))
+    (step levels l b a bodies (concat bodies ++ b) ((and_parts (is_closed a) (all is_closed bodies) k).0)
+    (joined_list levels l bodies b ((and_parts (is_closed a) (all is_closed bodies) k).1)))

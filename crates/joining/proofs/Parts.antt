@@ -1,8 +1,8 @@
 -- Parts of a text that is read: what is cut out between two words, trimmed or split is read from the start. Assumes
 -- nothing.
-use Rattle.std.proofs.lemmas.Bool.{cond_both, not_from_false}
+use Rattle.std.proofs.lemmas.Bool.{cond_both, not_from_false, and_parts, or_left, or_right}
 use mathlib.Core.Path.{◌≡◌, refl, sym, ap, ◌∙◌, subst}
-use mathlib.Core.Bool.{Bool, true, false, cond, not, ◌&&◌, false≢true}
+use mathlib.Core.Bool.{Bool, true, false, cond, not, ◌&&◌, false≢true, true≢false}
 use mathlib.Core.List.{List, [], ◌∷◌, ◌++◌, map, reverse, reverse-cons}
 use Prim.Native.Nat.{ℕ, ◌+◌, ◌-◌}
 use native.Mathlib.Omega.{arith}
@@ -11,13 +11,13 @@ use lib.Dec.{eqb, leb}
 use lib.ListN.{length, take, drop, take-append-drop}
 use lib.Seq.{drop-drop}
 use Rattle.spec.proofs.ByteSets.{sign_not_w}
-use Rattle.spec.proofs.Choice.{by, and_left, and_right, or_first, or_second}
+use Rattle.spec.proofs.Choice.{by}
 use Rattle.spec.specs.Bytes.{within, is_lower, is_ident, is_quote, is_w, upper}
 use Rattle.spec.specs.Lists.{is_empty, drop_while, drop_end, all, keep}
 use Rattle.spec.specs.Map.{Marked, live, quoted, byte, front_byte, front_live, of_byte}
 use Rattle.spec.specs.Search.{Test, starts_ignoring_case, onto_first, pieces_from, pieces}
 use Rattle.spec.specs.Parts.{trim_end, trim, part}
-use Rattle.joining.proofs.Bools.{clash, quotes, no_quote}
+use Rattle.joining.proofs.Bools.{quotes, no_quote}
 use Rattle.joining.proofs.Reading.{Reads, leaves, leaves_append, cut, Reading}
 
 -- what stands at the front behind a run of such bytes is none of them
@@ -35,7 +35,7 @@ pub no_quotes : (f : ℕ → Bool) → f 39 ≡ false → f 34 ≡ false → (t 
 unfolding all of_byte
 no_quotes f a b [] h = tt
 no_quotes f a b (x ∷ t) h =
-    (no_quote f (byte x) a b (and_left (f (byte x)) (all (of_byte f) t) h), no_quotes f a b t (and_right (f (byte x)) (all (of_byte f) t) h))
+    (no_quote f (byte x) a b ((and_parts (f (byte x)) (all (of_byte f) t) h).0), no_quotes f a b t ((and_parts (f (byte x)) (all (of_byte f) t) h).1))
 
 quote_upper : (c : ℕ) → is_quote c ≡ true → is_quote (upper c) ≡ true
 unfolding is_quote upper is_lower within
@@ -45,7 +45,7 @@ quote_upper c q = quotes (λ (n : ℕ). is_quote (upper n) ≡ true) c q refl re
 pub letter_no_quote : (a c : ℕ) → is_quote (upper a) ≡ false → eqb (upper c) (upper a) ≡ true → is_quote c ≡ false
 letter_no_quote a c n e =
     by (is_quote c)
-    (λ q. clash (sym (quote_upper c q) ∙ (ap is_quote (eqb-true (upper c) (upper a) e) ∙ n)))
+    (λ q. absurd (true≢false (sym (quote_upper c q) ∙ (ap is_quote (eqb-true (upper c) (upper a) e) ∙ n))))
     (λ q. q)
 
 -- w has no quote in it
@@ -149,7 +149,7 @@ module _ (k : Reading) where
           (λ c e r h. k.settle s x (not_white c) r.0 h)
         where
           not_white : (is_w (byte x) && true) ≡ false → is_w (byte x) ≡ false
-          not_white c = by (is_w (byte x)) (λ w. clash (sym (rw w refl) ∙ c)) (λ w. w)
+          not_white c = by (is_w (byte x)) (λ w. absurd (true≢false (sym (rw w refl) ∙ c))) (λ w. w)
       go (y ∷ u) ih =
           cond_both (is_w (byte x) && false) [] (x ∷ y ∷ u) (λ (l : List Marked). (is_empty l ≡ true → k.before_space s ≡ true) → Read s l → k.rest (ends s l) ≡ true → k.before_space (ends s l) ≡ true)
           (λ c e r h. e refl)
@@ -179,7 +179,7 @@ module _ (k : Reading) where
       let t = reverse back in
       let w = cut k.ok k.after t u k.start r in
       let z = live_rest u (ends k.start t) l w.1 in
-      let f = k.fresh u (ends k.start t) (or_first (k.edge (ends k.start t)) (not (is_ident (front_byte u))) (edge_behind back i)) z w.1 in
+      let f = k.fresh u (ends k.start t) (or_left (k.edge (ends k.start t)) (not (is_ident (front_byte u))) (edge_behind back i)) z w.1 in
       record {
         before = record { reads = w.0; out = z };
         reads = f.0;
@@ -193,8 +193,8 @@ module _ (k : Reading) where
   past_word [] u s p m r h = (s, r, h, refl)
   past_word (a ∷ w) [] s p m r h = absurd (false≢true m)
   past_word (a ∷ w) (x ∷ u) s p m r h =
-      let e = and_left (eqb (upper (byte x)) (upper a)) (starts_ignoring_case w u) m in
-      past_word w u (k.after s x) p.1 (and_right (eqb (upper (byte x)) (upper a)) (starts_ignoring_case w u) m) r.1
+      let e = (and_parts (eqb (upper (byte x)) (upper a)) (starts_ignoring_case w u) m).0 in
+      past_word w u (k.after s x) p.1 ((and_parts (eqb (upper (byte x)) (upper a)) (starts_ignoring_case w u) m).1) r.1
       (k.forth s x (letter_no_quote a (byte x) p.0 e) r.0 h)
 
   pub behind_word : (w : List ℕ) (u : List Marked) → PlainWord w → starts_ignoring_case w u ≡ true
@@ -204,7 +204,7 @@ module _ (k : Reading) where
   behind_word w u p m i r =
       let q = past_word w u k.start p m r k.rest_start in
       let v = drop (length w) u in
-      let f = k.fresh v q.0 (or_second (k.edge q.0) (not (is_ident (front_byte v))) (not_from_false (is_ident (front_byte v)) i)) q.2 q.1 in
+      let f = k.fresh v q.0 (or_right (k.edge q.0) (not (is_ident (front_byte v))) (not_from_false (is_ident (front_byte v)) i)) q.2 q.1 in
       (f.0, (λ h. f.1 (subst (λ (s : k.State). k.rest s ≡ true) q.3 h)))
 
   -- the part from one place to another, where a live byte stands

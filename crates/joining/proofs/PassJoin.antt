@@ -10,7 +10,8 @@ use lib.Dec.{eqb}
 use lib.ListN.{length, drop}
 use Rattle.spec.proofs.RefusalOutcomes.{statement_nil}
 use Rattle.spec.proofs.ByteSets.{sign_not_word}
-use Rattle.spec.proofs.Choice.{by, and_left, and_right}
+use Rattle.std.proofs.lemmas.Bool.{and_parts}
+use Rattle.spec.proofs.Choice.{by}
 use Rattle.spec.proofs.ListLaws.{concat_append}
 use Rattle.spec.proofs.LengthLaws.{word_in}
 use Rattle.spec.proofs.JoinedPieces.{pieces_cons}
@@ -60,7 +61,7 @@ none_last [] h = refl
 none_last (a ∷ []) h = refl
 none_last (a ∷ b ∷ w) h =
     let n = not (eqb 59 (upper a)) in
-    rw (and_left n (no_semi (b ∷ w)) h) (none_last (b ∷ w) (and_right n (no_semi (b ∷ w)) h))
+    rw ((and_parts n (no_semi (b ∷ w)) h).0) (none_last (b ∷ w) ((and_parts n (no_semi (b ∷ w)) h).1))
 
 semi_upper : upper 59 ≡ 59
 unfolding upper is_lower within
@@ -88,11 +89,11 @@ module _ (u : List Marked) where
   starts_keep (a ∷ []) [] h = refl
   starts_keep (a ∷ []) (x ∷ s) h = refl
   starts_keep (a ∷ b ∷ w) [] h =
-      let e : eqb 59 (upper a) ≡ false = not-true (eqb 59 (upper a)) (and_left (not (eqb 59 (upper a))) (semi_last (b ∷ w)) h) in
+      let e : eqb 59 (upper a) ≡ false = not-true (eqb 59 (upper a)) ((and_parts (not (eqb 59 (upper a))) (semi_last (b ∷ w)) h).0) in
       rw (semi_upper, e)
   starts_keep (a ∷ b ∷ w) (x ∷ s) h =
       ap (λ (r : Bool). eqb (upper (byte x)) (upper a) && r)
-      (starts_keep (b ∷ w) s (and_right (not (eqb 59 (upper a))) (semi_last (b ∷ w)) h))
+      (starts_keep (b ∷ w) s ((and_parts (not (eqb 59 (upper a))) (semi_last (b ∷ w)) h).1))
 
   -- a word without `;` that stands here ends before it
   pub starts_short : (w : List ℕ) (s : List Marked) → no_semi w ≡ true
@@ -101,11 +102,11 @@ module _ (u : List Marked) where
   unfolding starts_ignoring_case no_semi all
   starts_short [] s n h = zero-le
   starts_short (a ∷ w) [] n h =
-      let e : eqb 59 (upper a) ≡ false = not-true (eqb 59 (upper a)) (and_left (not (eqb 59 (upper a))) (no_semi w) n) in
-      absurd (false≢true (sym e ∙ (rw semi_upper at (and_left (eqb (upper 59) (upper a)) (starts_ignoring_case w u) h))))
+      let e : eqb 59 (upper a) ≡ false = not-true (eqb 59 (upper a)) ((and_parts (not (eqb 59 (upper a))) (no_semi w) n).0) in
+      absurd (false≢true (sym e ∙ (rw semi_upper at ((and_parts (eqb (upper 59) (upper a)) (starts_ignoring_case w u) h).0))))
   starts_short (a ∷ w) (x ∷ s) n h =
-      suc-le-suc (starts_short w s (and_right (not (eqb 59 (upper a))) (no_semi w) n)
-      (and_right (eqb (upper (byte x)) (upper a)) (starts_ignoring_case w (s ++ (live 59 ∷ u))) h))
+      suc-le-suc (starts_short w s ((and_parts (not (eqb 59 (upper a))) (no_semi w) n).1)
+      ((and_parts (eqb (upper (byte x)) (upper a)) (starts_ignoring_case w (s ++ (live 59 ∷ u))) h).1))
 
   module _ (set : ℕ → Bool) (w : List ℕ) (p : ℕ) (s : List Marked) (n : no_semi w ≡ true) where
     pub word_short : word_here set w p (s ++ (live 59 ∷ u)) ≡ true → length w ≤ length s
@@ -236,7 +237,7 @@ walk_last : (q c : ℕ) → is_live_byte 59 (cond (eqb q 0 && not (is_quote c)) 
 unfolding quote_after
 walk_last q c h =
     by (eqb q 0 && not (is_quote c))
-    (λ e. rw (and_left (eqb q 0) (not (is_quote c)) e, not-true (is_quote c) (and_right (eqb q 0) (not (is_quote c)) e)))
+    (λ e. rw ((and_parts (eqb q 0) (not (is_quote c)) e).0, not-true (is_quote c) ((and_parts (eqb q 0) (not (is_quote c)) e).1)))
     (λ e. absurd (false≢true (rw e at h)))
 
 walk_from : (q : ℕ) (a b : List ℕ) → ends_live (quote_walk q a) ≡ true → quote_walk q (a ++ b) ≡ quote_walk q a ++ quote_walk 0 b

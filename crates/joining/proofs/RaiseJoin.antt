@@ -1,7 +1,7 @@
 -- Pass 5 over two texts joined, the first with a live `;` at its end and each of its RAISE followed safely: the two outcomes
 -- joined. Assumes nothing.
 use Rattle.std.specs.Prelude.{Option, Some, None}
-use Rattle.std.proofs.lemmas.Bool.{cond_both}
+use Rattle.std.proofs.lemmas.Bool.{cond_both, and_parts, or_parts}
 use mathlib.Core.Path.{◌≡◌, refl, sym, ap, ◌∙◌}
 use mathlib.Core.Bool.{Bool, true, false, not, ◌&&◌, ◌||◌, false≢true}
 use mathlib.Core.List.{List, [], ◌∷◌, ◌++◌, append_assoc}
@@ -16,7 +16,7 @@ use Rattle.spec.proofs.RefusalOutcomes.{outcome_none}
 use Rattle.spec.proofs.ByteSets.{sign_not_ident, sign_not_w, gap_w, ident_not_w}
 use Rattle.spec.proofs.BytesLaws.{bytes_append}
 use Rattle.spec.proofs.Apart.{apart}
-use Rattle.spec.proofs.Choice.{by, and_left, and_right, or_left, or_right}
+use Rattle.spec.proofs.Choice.{by}
 use Rattle.spec.proofs.MapLaws.{mark_byte, text_length}
 use Rattle.spec.proofs.LengthLaws.{word_in}
 use Rattle.spec.specs.Bytes.{ascii, within, is_lower, is_ident, is_word, is_w, is_pair, upper}
@@ -32,7 +32,7 @@ use Rattle.spec.specs.declared.Level.TheVariants.{Exception, Notice, Warning, De
 use Rattle.spec.specs.Closed.{ends_live}
 use Rattle.spec.specs.declared.Span.TheVariants.{Code}
 use Rattle.joining.specs.Safe.{ends_level_safely, level_safe, safe_behind, raises_safe}
-use Rattle.joining.proofs.Bools.{other, another}
+use Rattle.joining.proofs.Bools.{other, another, rest_says}
 use Rattle.joining.proofs.SpanJoin.{marks_from, marks_length, marks_text, marks_join, ends_behind, ends_short}
 use Rattle.joining.proofs.PassJoin.{at_end, no_semi, semi_last, starts_keep, starts_short, word_keep, word_fresh, outcome_assoc}
 
@@ -49,14 +49,14 @@ none_span c cs h =
     let d = not (eqb c 39) in
     let e = not (eqb c 34) in
     let f = not (eqb c 36) in
-    let h2 = and_right a (b && (d && (e && f))) h in
-    let h3 = and_right b (d && (e && f)) h2 in
-    let h4 = and_right d (e && f) h3 in
-    let n1 : eqb c 45 ≡ false = not-true (eqb c 45) (and_left a (b && (d && (e && f))) h) in
-    let n2 : eqb c 47 ≡ false = not-true (eqb c 47) (and_left b (d && (e && f)) h2) in
-    let n3 : eqb c 39 ≡ false = not-true (eqb c 39) (and_left d (e && f) h3) in
-    let n4 : eqb c 34 ≡ false = not-true (eqb c 34) (and_left e f h4) in
-    let n5 : eqb c 36 ≡ false = not-true (eqb c 36) (and_right e f h4) in
+    let h2 = (and_parts a (b && (d && (e && f))) h).1 in
+    let h3 = (and_parts b (d && (e && f)) h2).1 in
+    let h4 = (and_parts d (e && f) h3).1 in
+    let n1 : eqb c 45 ≡ false = not-true (eqb c 45) ((and_parts a (b && (d && (e && f))) h).0) in
+    let n2 : eqb c 47 ≡ false = not-true (eqb c 47) ((and_parts b (d && (e && f)) h2).0) in
+    let n3 : eqb c 39 ≡ false = not-true (eqb c 39) ((and_parts d (e && f) h3).0) in
+    let n4 : eqb c 34 ≡ false = not-true (eqb c 34) ((and_parts e f h4).0) in
+    let n5 : eqb c 36 ≡ false = not-true (eqb c 36) ((and_parts e f h4).1) in
     simp (n1, n2, n3, n4, n5)
 
 -- such a byte is live, and the walk goes on right behind it
@@ -103,11 +103,11 @@ front_marks c cs =
 
 starts_head : (a : ℕ) (w : List ℕ) (x : Marked) (t : List Marked) → starts_ignoring_case (a ∷ w) (x ∷ t) ≡ true → upper (byte x) ≡ upper a
 unfolding starts_ignoring_case
-starts_head a w x t h = eqb-true _ _ (and_left (eqb (upper (byte x)) (upper a)) (starts_ignoring_case w t) h)
+starts_head a w x t h = eqb-true _ _ ((and_parts (eqb (upper (byte x)) (upper a)) (starts_ignoring_case w t) h).0)
 
 starts_tail : (a : ℕ) (w : List ℕ) (x : Marked) (t : List Marked) → starts_ignoring_case (a ∷ w) (x ∷ t) ≡ true → starts_ignoring_case w t ≡ true
 unfolding starts_ignoring_case
-starts_tail a w x t h = and_right (eqb (upper (byte x)) (upper a)) (starts_ignoring_case w t) h
+starts_tail a w x t h = (and_parts (eqb (upper (byte x)) (upper a)) (starts_ignoring_case w t) h).1
 
 starts_nil : (a : ℕ) (w : List ℕ) → starts_ignoring_case (a ∷ w) [] ≡ false
 unfolding starts_ignoring_case
@@ -125,9 +125,9 @@ starts_visits (a ∷ w) (c ∷ cs) n h =
     let up : upper (byte m.0) ≡ upper a = starts_head a w m.0 (marks_from m.1 cs) (rw m.2 at h) in
     let up2 : upper c ≡ upper a = ap upper (sym m.3) ∙ up in
     let more = all (λ (a : ℕ). opens_none (upper a)) w in
-    let k : opens_none c ≡ true = none_upper c (ap opens_none up2 ∙ and_left (opens_none (upper a)) more n) in
+    let k : opens_none c ≡ true = none_upper c (ap opens_none up2 ∙ (and_parts (opens_none (upper a)) more n).0) in
     let h2 : starts_ignoring_case (a ∷ w) (live c ∷ marks_from 0 cs) ≡ true = rw (none_marks c cs k) at h in
-    rw (none_marks c cs k) (starts_visits w cs (and_right (opens_none (upper a)) more n) (starts_tail a w (live c) (marks_from 0 cs) h2))
+    rw (none_marks c cs k) (starts_visits w cs ((and_parts (opens_none (upper a)) more n).1) (starts_tail a w (live c) (marks_from 0 cs) h2))
 
 -- ---- up to the first element that stops
 
@@ -199,8 +199,8 @@ safe_paren : (x : Marked) (t : List Marked) → is_ident (byte x) ≡ false → 
 unfolding ends_level_safely drop_while of_byte front_byte ends_level
 safe_paren x t i e h =
     let c = byte x in
-    let a : eqb c 59 ≡ false = or_right (is_w c) (eqb c 59) e in
-    let b : eqb c 32 ≡ false = another is_w 32 c (gap_w 32 refl) (or_left (is_w c) (eqb c 59) e) in
+    let a : eqb c 59 ≡ false = (or_parts (is_w c) (eqb c 59) e).1 in
+    let b : eqb c 32 ≡ false = another is_w 32 c (gap_w 32 refl) ((or_parts (is_w c) (eqb c 59) e).0) in
     rw (i, a, b) at h
 
 -- a level that ends safely runs over bytes that open nothing
@@ -220,10 +220,10 @@ run_visits (c ∷ cs) h =
     let x = f.0 in
     let t = marks_from f.1 cs in
     let p : (eqb (byte x) 41 && eqb (front_byte t) 59) ≡ true = safe_paren x t (ap is_ident f.3 ∙ i) (ap ends_level f.3 ∙ e) (rw f.2 at h) in
-    let c41 : c ≡ 41 = sym f.3 ∙ eqb-true (byte x) 41 (and_left (eqb (byte x) 41) (eqb (front_byte t) 59) p) in
+    let c41 : c ≡ 41 = sym f.3 ∙ eqb-true (byte x) 41 ((and_parts (eqb (byte x) 41) (eqb (front_byte t) 59) p).0) in
     let m : marks_from 0 (c ∷ cs) ≡ live c ∷ marks_from 0 cs = none_marks c cs (ap opens_none c41 ∙ paren_none) in
     let q : (eqb c 41 && eqb (front_byte (marks_from 0 cs)) 59) ≡ true = safe_paren (live c) (marks_from 0 cs) i e (rw m at h) in
-    let z : front_byte (marks_from 0 cs) ≡ 59 = eqb-true _ 59 (and_right (eqb c 41) (eqb (front_byte (marks_from 0 cs)) 59) q) in
+    let z : front_byte (marks_from 0 cs) ≡ 59 = eqb-true _ 59 ((and_parts (eqb c 41) (eqb (front_byte (marks_from 0 cs)) 59) q).1) in
     rw (m, run_on (live c) (marks_from 0 cs) e, run_stop (marks_from 0 cs) (ap ends_level z ∙ semi_ends))))
 
 -- whether a level stands before the `;` is decided before it
@@ -233,7 +233,7 @@ unfolding level_in all
 level_snoc [] s u h = refl
 level_snoc (w ∷ ws) s u h =
     let more = all (λ (w : LevelWord). semi_last w.word) ws in
-    rw (starts_keep u w.word s (and_left (semi_last w.word) more h), level_snoc ws s u (and_right (semi_last w.word) more h))
+    rw (starts_keep u w.word s ((and_parts (semi_last w.word) more h).0), level_snoc ws s u ((and_parts (semi_last w.word) more h).1))
 
 level_keep : (t u : List Marked) → ends_live t ≡ true → level_in level_words (t ++ u) ≡ level_in level_words t
 unfolding level_words all semi_last upper is_lower within
@@ -253,8 +253,8 @@ never_exception (w ∷ ws) t n h =
     (λ e.
     let f : Some w.level ≡ Some Exception = rw e at h in
     let g : w.level ≡ Exception = cc in
-    false≢true (rw g at (and_left (not (is_exception w.level)) more n)))
-    (λ e. never_exception ws t (and_right (not (is_exception w.level)) more n) (rw e at h))
+    false≢true (rw g at ((and_parts (not (is_exception w.level)) more n).0)))
+    (λ e. never_exception ws t ((and_parts (not (is_exception w.level)) more n).1) (rw e at h))
 
 found_exception : (t : List Marked) → level_in level_words t ≡ Some Exception → starts_ignoring_case (ascii "EXCEPTION") t ≡ true
 unfolding level_words level_in all
@@ -334,7 +334,7 @@ sep_visits (c ∷ cs) h =
     let a = eqb (front_byte t) 32 in
     let b = eqb (front_byte t) 41 in
     let more = leb 2 (length t) && level_safe (level_in level_words (drop 1 t)) (drop 1 t) in
-    let o : (a || b) ≡ true = and_left (a || b) more h in
+    let o : (a || b) ≡ true = (and_parts (a || b) more h).0 in
     let k : opens_none c ≡ true =
     by a
     (λ e. ap opens_none (sym (front_marks c cs) ∙ eqb-true (front_byte t) 32 e) ∙ space_none)
@@ -346,14 +346,14 @@ unfolding safe_behind
 sep_room t h =
     let more = level_safe (level_in level_words (drop 1 t)) (drop 1 t) in
     let o = eqb (front_byte t) 32 || eqb (front_byte t) 41 in
-    leb-true 2 (length t) (and_left (leb 2 (length t)) more (and_right o (leb 2 (length t) && more) h))
+    leb-true 2 (length t) ((and_parts (leb 2 (length t)) more ((and_parts o (leb 2 (length t) && more) h).1)).0)
 
 sep_level : (t : List Marked) → safe_behind t ≡ true → level_safe (level_in level_words (drop 1 t)) (drop 1 t) ≡ true
 unfolding safe_behind
 sep_level t h =
     let more = level_safe (level_in level_words (drop 1 t)) (drop 1 t) in
     let o = eqb (front_byte t) 32 || eqb (front_byte t) 41 in
-    and_right (leb 2 (length t)) more (and_right o (leb 2 (length t) && more) h)
+    (and_parts (leb 2 (length t)) more ((and_parts o (leb 2 (length t) && more) h).1)).1
 
 -- what becomes of the RAISE at the front of t is the same with u behind, and it ends within t
 record Kept (act : Level → Action) (t u : List Marked) : Type 0 where
@@ -417,15 +417,12 @@ found_kept act xs u p ends w s =
 
 safe_more : (p : ℕ) (x : Marked) (t : List Marked) → raises_safe p (x ∷ t) ≡ true → raises_safe (byte x) t ≡ true
 unfolding raises_safe
-safe_more p x t h =
-    by (word_here is_word (ascii "RAISE") p (x ∷ t))
-    (λ e. and_right (safe_behind (drop 4 t)) (raises_safe (byte x) t) (rw e at h))
-    (λ e. rw e at h)
+safe_more p x t h = rest_says (word_here is_word (ascii "RAISE") p (x ∷ t)) (safe_behind (drop 4 t)) (raises_safe (byte x) t) h
 
 safe_here : (p : ℕ) (x : Marked) (t : List Marked) → raises_safe p (x ∷ t) ≡ true → word_here is_word (ascii "RAISE") p (x ∷ t) ≡ true
     → safe_behind (drop 4 t) ≡ true
 unfolding raises_safe
-safe_here p x t h e = and_left (safe_behind (drop 4 t)) (raises_safe (byte x) t) (rw e at h)
+safe_here p x t h e = (and_parts (safe_behind (drop 4 t)) (raises_safe (byte x) t) (rw e at h)).0
 
 raise_keep : (p : ℕ) (t u : List Marked) → ends_live t ≡ true → word_here is_word (ascii "RAISE") p (t ++ u) ≡ word_here is_word (ascii "RAISE") p t
 unfolding no_semi all upper is_lower within

@@ -1,18 +1,18 @@
 -- What stands behind RAISE, read from the left. A RAISE that no identifier byte touches has a space behind it and then
 -- neither W nor `;`, and a word there that a level may begin ends in a space or `;`. Behind pass 4 a `)` may stand behind
 -- RAISE, and `);` behind the word. Passes 3 and 4 may cut and glue such text as they do. Assumes nothing.
-use Rattle.std.proofs.lemmas.Bool.{cond_both}
+use Rattle.std.proofs.lemmas.Bool.{cond_both, and_parts}
 use mathlib.Core.Path.{◌≡◌, refl, sym, ap, ◌∙◌, subst}
-use mathlib.Core.Bool.{Bool, true, false, cond, not, ◌&&◌, ◌||◌, false≢true}
+use mathlib.Core.Bool.{Bool, true, false, cond, not, ◌&&◌, ◌||◌, false≢true, true≢false}
 use mathlib.Core.List.{List, [], ◌∷◌}
 use Prim.Native.Nat.{ℕ}
 use borrow.Author.Tests.{eqb-true, not-true}
 use lib.Dec.{eqb}
 use Rattle.spec.proofs.ByteSets.{sign_not_ident, sign_not_w, gap_w, letter_ident, letter_not_w, w_not_ident, upper_cases}
-use Rattle.spec.proofs.Choice.{by, or_cases, and_left, and_right}
+use Rattle.spec.proofs.Choice.{by, or_cases}
 use Rattle.spec.specs.Bytes.{ascii, within, is_digit, is_lower, is_upper, is_ident, is_w, upper}
 use Rattle.spec.specs.Map.{Marked, live, byte, is_live, lives, front_byte}
-use Rattle.joining.proofs.Bools.{clash, and_no, at, another}
+use Rattle.joining.proofs.Bools.{and_no, at, another}
 use Rattle.joining.proofs.Reading.{Reads, leaves, Takes, Reading, reads_all, put_in}
 
 -- where the reading stands: behind no identifier byte, in a word, behind so many letters of RAISE, behind RAISE and a
@@ -118,7 +118,7 @@ level_letter_lem c h =
     P n = (is_ident n ≡ true) × (eqb (upper n) 82 ≡ false)
 
 pub no_level_letter : (c : ℕ) → is_ident c ≡ false → level_letter c ≡ false
-no_level_letter c h = by (level_letter c) (λ e. clash (sym (level_letter_lem c e).0 ∙ h)) (λ e. e)
+no_level_letter c h = by (level_letter c) (λ e. absurd (true≢false (sym (level_letter_lem c e).0 ∙ h))) (λ e. e)
 
 -- ---- one byte
 
@@ -140,14 +140,14 @@ seen_safer r2 x h = refl
 seen_safer r3 x h = refl
 seen_safer r4 x h = refl
 seen_safer r5 x h =
-    by (is_ident (byte x)) (λ e. rw e refl) (λ e. rw e (by (eqb (byte x) 32) (λ f. rw f refl) (λ f. clash (sym (rw (e, f) at h)))))
+    by (is_ident (byte x)) (λ e. rw e refl) (λ e. rw e (by (eqb (byte x) 32) (λ f. rw f refl) (λ f. absurd (true≢false (sym (rw (e, f) at h))))))
 seen_safer gap x h = h
 seen_safer paren x h = absurd (false≢true h)
 seen_safer in_level x h =
     by (is_ident (byte x)) (λ e. rw e refl)
     (λ e. rw e
     (by (eqb (byte x) 32) (λ f. rw f refl)
-    (λ f. rw f (by (eqb (byte x) 59) (λ g. rw g refl) (λ g. clash (sym (rw (e, f, g) at h)))))))
+    (λ f. rw f (by (eqb (byte x) 59) (λ g. rw g refl) (λ g. absurd (true≢false (sym (rw (e, f, g) at h))))))))
 seen_safer closed x h = absurd (false≢true h)
 
 -- ---- what a reading asks
@@ -174,7 +174,7 @@ seen_forth r2 x h = letter_cases (λ (z : Seen). seen_rest z ≡ true) 73 r3 x r
 seen_forth r3 x h = letter_cases (λ (z : Seen). seen_rest z ≡ true) 83 r4 x refl refl refl
 seen_forth r4 x h = letter_cases (λ (z : Seen). seen_rest z ≡ true) 69 r5 x refl refl refl
 seen_forth r5 x h =
-    by (is_ident (byte x)) (λ e. rw e refl) (λ e. rw e (by (eqb (byte x) 32) (λ f. rw f refl) (λ f. clash (sym (rw (e, f) at h)))))
+    by (is_ident (byte x)) (λ e. rw e refl) (λ e. rw e (by (eqb (byte x) 32) (λ f. rw f refl) (λ f. absurd (true≢false (sym (rw (e, f) at h))))))
 seen_forth gap x h =
     cond_both (level_letter (byte x)) in_level (word_start x) (λ (z : Seen). seen_rest z ≡ true) (λ _. refl)
     (λ _. start_cases (λ (z : Seen). seen_rest z ≡ true) x refl refl refl)
@@ -183,7 +183,7 @@ seen_forth in_level x h =
     by (is_ident (byte x)) (λ e. rw e refl)
     (λ e. rw e
     (by (eqb (byte x) 41)
-    (λ f. let g = eqb-true (byte x) 41 f in clash (sym (rw (e, g) at h)))
+    (λ f. let g = eqb-true (byte x) 41 f in absurd (true≢false (sym (rw (e, g) at h))))
     (λ f. rw f refl)))
 seen_forth closed x h = absurd (false≢true h)
 
@@ -198,8 +198,8 @@ seen_settle r4 x w h = letter_cases (λ (z : Seen). seen_before_space z ≡ true
 seen_settle r5 x w h =
     by (is_ident (byte x)) (λ e. rw e refl)
     (λ e. or_cases (eqb (byte x) 32) false (rw e at h)
-    (λ f. let n : eqb (byte x) 32 ≡ false = another is_w 32 (byte x) (gap_w 32 refl) w in clash (sym f ∙ n))
-    (λ f. clash (sym f)))
+    (λ f. let n : eqb (byte x) 32 ≡ false = another is_w 32 (byte x) (gap_w 32 refl) w in absurd (true≢false (sym f ∙ n)))
+    (λ f. absurd (true≢false (sym f))))
 seen_settle gap x w h =
     cond_both (level_letter (byte x)) in_level (word_start x) (λ (z : Seen). seen_before_space z ≡ true) (λ _. refl)
     (λ _. start_cases (λ (z : Seen). seen_before_space z ≡ true) x refl refl refl)
@@ -208,7 +208,7 @@ seen_settle in_level x w h =
     by (is_ident (byte x)) (λ e. rw e refl)
     (λ e. rw e
     (by (eqb (byte x) 41)
-    (λ f. let g = eqb-true (byte x) 41 f in clash (sym (rw (e, g) at h)))
+    (λ f. let g = eqb-true (byte x) 41 f in absurd (true≢false (sym (rw (e, g) at h))))
     (λ f. rw f refl)))
 seen_settle closed x w h = absurd (false≢true h)
 
@@ -265,7 +265,7 @@ lower (x ∷ u) =
     }
   where
     level_end_lem : is_ident (byte x) ≡ false → seen_ok false in_level x ≡ true → eqb (byte x) 41 ≡ false
-    level_end_lem e h = by (eqb (byte x) 41) (λ f. let g = eqb-true (byte x) 41 f in clash (sym (rw (e, g) at h))) (λ f. f)
+    level_end_lem e h = by (eqb (byte x) 41) (λ f. let g = eqb-true (byte x) 41 f in absurd (true≢false (sym (rw (e, g) at h)))) (λ f. f)
 
 pub raise_read_rest : (u : List Marked) (s : Seen) → seen_rest s ≡ true → RaiseRead s u → seen_rest (leaves seen_next s u) ≡ true
 raise_read_rest [] s h r = h
@@ -283,7 +283,7 @@ behind_word x u r4 i h r = rw i at r.1
 behind_word x u r5 i h r =
     by (eqb (byte x) 32)
     (λ f. (lower u).from_gap (rw (i, f) at r.1))
-    (λ f. clash (sym (rw (i, f) at r.0)))
+    (λ f. absurd (true≢false (sym (rw (i, f) at r.0))))
 behind_word x u gap i h r = rw (no_level_letter (byte x) i, i) at r.1
 behind_word x u paren i h r = absurd (false≢true h)
 behind_word x u in_level i h r = rw i at ((lower (x ∷ u)).from_level r).1
@@ -403,16 +403,16 @@ each_seen : (f : Seen → Bool) → every_seen f ≡ true → (s : Seen) → f s
 unfolding every_seen
 each_seen f h s =
     let h0 = h in
-    let h1 = and_right (f edge) _ h0 in
-    let h2 = and_right (f in_word) _ h1 in
-    let h3 = and_right (f r1) _ h2 in
-    let h4 = and_right (f r2) _ h3 in
-    let h5 = and_right (f r3) _ h4 in
-    let h6 = and_right (f r4) _ h5 in
-    let h7 = and_right (f r5) _ h6 in
-    let h8 = and_right (f gap) _ h7 in
-    let h9 = and_right (f paren) _ h8 in
-    at s (and_left (f edge) _ h0) (and_left (f in_word) _ h1) (and_left (f r1) _ h2) (and_left (f r2) _ h3) (and_left (f r3) _ h4) (and_left (f r4) _ h5) (and_left (f r5) _ h6) (and_left (f gap) _ h7) (and_left (f paren) _ h8) (and_left (f in_level) _ h9) (and_right (f in_level) _ h9)
+    let h1 = (and_parts (f edge) _ h0).1 in
+    let h2 = (and_parts (f in_word) _ h1).1 in
+    let h3 = (and_parts (f r1) _ h2).1 in
+    let h4 = (and_parts (f r2) _ h3).1 in
+    let h5 = (and_parts (f r3) _ h4).1 in
+    let h6 = (and_parts (f r4) _ h5).1 in
+    let h7 = (and_parts (f r5) _ h6).1 in
+    let h8 = (and_parts (f gap) _ h7).1 in
+    let h9 = (and_parts (f paren) _ h8).1 in
+    at s ((and_parts (f edge) _ h0).0) ((and_parts (f in_word) _ h1).0) ((and_parts (f r1) _ h2).0) ((and_parts (f r2) _ h3).0) ((and_parts (f r3) _ h4).0) ((and_parts (f r4) _ h5).0) ((and_parts (f r5) _ h6).0) ((and_parts (f gap) _ h7).0) ((and_parts (f paren) _ h8).0) ((and_parts (f in_level) _ h9).0) ((and_parts (f in_level) _ h9).1)
   where
     at : (s : Seen) → f edge ≡ true → f in_word ≡ true → f r1 ≡ true → f r2 ≡ true → f r3 ≡ true → f r4 ≡ true → f r5 ≡ true → f gap ≡ true → f paren ≡ true → f in_level ≡ true → f closed ≡ true → f s ≡ true
     at edge a b c d e g i j k l m = a

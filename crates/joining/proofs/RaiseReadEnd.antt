@@ -1,9 +1,9 @@
 -- A text that is read from the left with `)` allowed behind RAISE, and that ends in a live `;`, has what pass 5 needs.
 -- Assumes nothing.
 use Rattle.std.specs.Prelude.{Option, Some, None}
-use Rattle.std.proofs.lemmas.Bool.{not_from_false}
+use Rattle.std.proofs.lemmas.Bool.{not_from_false, and_parts, or_parts}
 use mathlib.Core.Path.{◌≡◌, refl, sym, ap, ◌∙◌, subst}
-use mathlib.Core.Bool.{true, false, not, ◌&&◌, ◌||◌, false≢true}
+use mathlib.Core.Bool.{true, false, not, ◌&&◌, ◌||◌, false≢true, true≢false}
 use mathlib.Core.List.{List, [], ◌∷◌, cons≢nil}
 use Prim.Native.Nat.{ℕ, suc}
 use native.Mathlib.Omega.{arith}
@@ -13,7 +13,7 @@ use lib.ListN.{length, drop}
 use lib.Seq.{drop-drop}
 use Rattle.spec.proofs.JoinedPieces.{live_byte}
 use Rattle.spec.proofs.ByteSets.{is_capital, capital_ident, not_word}
-use Rattle.spec.proofs.Choice.{by, and_left, and_right, or_left, or_right}
+use Rattle.spec.proofs.Choice.{by}
 use Rattle.spec.specs.Bytes.{ascii, within, is_lower, is_ident, is_word, upper}
 use Rattle.spec.specs.Lists.{drop_while}
 use Rattle.spec.specs.Map.{Marked, byte, is_live, front_byte, front_live, of_byte}
@@ -22,7 +22,7 @@ use Rattle.spec.specs.Raise.{level_words, level_in}
 use Rattle.spec.specs.declared.Level.{Level}
 use Rattle.spec.specs.Closed.{ends_live}
 use Rattle.joining.specs.Safe.{ends_level_safely, level_safe, safe_behind, raises_safe}
-use Rattle.joining.proofs.Bools.{clash, at}
+use Rattle.joining.proofs.Bools.{at}
 use Rattle.joining.proofs.Reading.{Reads}
 use Rattle.joining.proofs.Statements.{ends_rest, ends_ident}
 use Rattle.joining.proofs.RaiseRead.{Seen, edge, in_word, r1, r2, r3, r4, r5, gap, paren, in_level, closed, level_letter, level_letter_lem, word_start, letter_next, seen_next, seen_ok, seen_edge}
@@ -34,7 +34,7 @@ Guarded s t = Reads (seen_ok true) seen_next s t
 -- behind a byte that is no `;` a text goes on
 ends_more : (x : Marked) (t : List Marked) → eqb (byte x) 59 ≡ false → ends_live (x ∷ t) ≡ true → ends_live t ≡ true
 unfolding ends_live
-ends_more x [] n h = clash (sym (ap (λ (y : Marked). eqb (byte y) 59) (live_byte 59 x h)) ∙ n)
+ends_more x [] n h = absurd (true≢false (sym (ap (λ (y : Marked). eqb (byte y) 59) (live_byte 59 x h)) ∙ n))
 ends_more x (y ∷ t) n h = h
 
 -- ---- the level
@@ -75,25 +75,20 @@ no_level : (x : Marked) (t : List Marked) → level_letter (byte x) ≡ false �
 unfolding level_in level_words level_letter
 no_level x t h =
     let c = upper (byte x) in
-    let e = or_left (eqb c 69) _ h in
-    let h1 = or_right (eqb c 69) _ h in
-    let n = or_left (eqb c 78) _ h1 in
-    let h2 = or_right (eqb c 78) _ h1 in
-    let w = or_left (eqb c 87) _ h2 in
-    let h3 = or_right (eqb c 87) _ h2 in
-    let d = or_left (eqb c 68) _ h3 in
-    let h4 = or_right (eqb c 68) _ h3 in
-    let l = or_left (eqb c 76) (eqb c 73) h4 in
-    let i = or_right (eqb c 76) (eqb c 73) h4 in
+    let e = or_parts (eqb c 69) _ h in
+    let n = or_parts (eqb c 78) _ e.1 in
+    let w = or_parts (eqb c 87) _ n.1 in
+    let d = or_parts (eqb c 68) _ w.1 in
+    let l = or_parts (eqb c 76) (eqb c 73) d.1 in
     rw (
-      starts_other 69 69 (ascii "XCEPTION") x t capitals.0 e,
-      starts_other 78 78 (ascii "OTICE") x t capitals.1 n,
-      starts_other 87 87 (ascii "ARNING") x t capitals.2 w,
-      starts_other 68 68 (ascii "EBUG") x t capitals.3 d,
-      starts_other 76 76 (ascii "OG") x t capitals.4 l,
-      starts_other 73 73 (ascii "NFO ") x t capitals.5 i,
-      starts_other 73 73 (ascii "NFO\n") x t capitals.5 i,
-      starts_other 73 73 (ascii "NFO;") x t capitals.5 i,
+      starts_other 69 69 (ascii "XCEPTION") x t capitals.0 e.0,
+      starts_other 78 78 (ascii "OTICE") x t capitals.1 n.0,
+      starts_other 87 87 (ascii "ARNING") x t capitals.2 w.0,
+      starts_other 68 68 (ascii "EBUG") x t capitals.3 d.0,
+      starts_other 76 76 (ascii "OG") x t capitals.4 l.0,
+      starts_other 73 73 (ascii "NFO ") x t capitals.5 l.1,
+      starts_other 73 73 (ascii "NFO\n") x t capitals.5 l.1,
+      starts_other 73 73 (ascii "NFO;") x t capitals.5 l.1,
     ) refl
 
 level_safe_lem : (o : Option Level) (t : List Marked) → ends_level_safely t ≡ true → level_safe o t ≡ true
@@ -163,11 +158,11 @@ one_letter : (a : ℕ) (w : List ℕ) (s z : Seen) (t : List Marked) → Capital
 unfolding starts_ignoring_case ends_live
 one_letter a w s z [] c n b = absurd (false≢true b.ended)
 one_letter a w s z (x ∷ t) c n b =
-    let e = and_left (eqb (upper (byte x)) (upper a)) (starts_ignoring_case w t) b.more in
+    let e = (and_parts (eqb (upper (byte x)) (upper a)) (starts_ignoring_case w t) b.more).0 in
     let l = c (byte x) e in
     record {
       reads = subst (λ (y : Seen). Guarded y t) (n x ∙ letter_next_lem a z x l.1 l.0) b.reads.1;
-      more = and_right (eqb (upper (byte x)) (upper a)) (starts_ignoring_case w t) b.more;
+      more = (and_parts (eqb (upper (byte x)) (upper a)) (starts_ignoring_case w t) b.more).1;
       ended = ends_ident x t l.1 b.ended;
     }
 
@@ -197,7 +192,7 @@ r_next r3 x e l u i = absurd (false≢true e)
 r_next r4 x e l u i = absurd (false≢true e)
 r_next r5 x e l u i = absurd (false≢true e)
 r_next gap x e l u i =
-    by (level_letter (byte x)) (λ f. clash (sym u ∙ (level_letter_lem (byte x) f).1)) (λ f. rw f (r_start x l u i))
+    by (level_letter (byte x)) (λ f. absurd (true≢false (sym u ∙ (level_letter_lem (byte x) f).1))) (λ f. rw f (r_start x l u i))
 r_next paren x e l u i = r_start x l u i
 r_next in_level x e l u i = absurd (false≢true e)
 r_next closed x e l u i = r_start x l u i
@@ -207,19 +202,19 @@ raise_safe : (s : Seen) (p : ℕ) (x : Marked) (t : List Marked) → seen_edge s
     → safe_behind (drop 4 t) ≡ true
 unfolding word_here front_live starts_ignoring_case upper is_lower within
 raise_safe s p x t e h r w =
-    let l = and_left (is_live x) _ w in
-    let w1 = and_right (is_live x) _ w in
-    let m = and_left (starts_ignoring_case (ascii "RAISE") (x ∷ t)) _ w1 in
-    let w2 = and_right (starts_ignoring_case (ascii "RAISE") (x ∷ t)) _ w1 in
-    let left = not_word p (not-true (is_word p) (and_left (not (is_word p)) _ w2)) in
-    let right = not_word (front_byte (drop 4 t)) (not-true (is_word (front_byte (drop 4 t))) (and_right (not (is_word p)) _ w2)) in
-    let u = capital 82 refl refl (byte x) (and_left (eqb (upper (byte x)) (upper 82)) (starts_ignoring_case (ascii "AISE") t) m) in
+    let l = (and_parts (is_live x) _ w).0 in
+    let w1 = (and_parts (is_live x) _ w).1 in
+    let m = (and_parts (starts_ignoring_case (ascii "RAISE") (x ∷ t)) _ w1).0 in
+    let w2 = (and_parts (starts_ignoring_case (ascii "RAISE") (x ∷ t)) _ w1).1 in
+    let left = not_word p (not-true (is_word p) ((and_parts (not (is_word p)) _ w2).0)) in
+    let right = not_word (front_byte (drop 4 t)) (not-true (is_word (front_byte (drop 4 t))) ((and_parts (not (is_word p)) _ w2).1)) in
+    let u = capital 82 refl refl (byte x) ((and_parts (eqb (upper (byte x)) (upper 82)) (starts_ignoring_case (ascii "AISE") t) m).0) in
     let n = r_next s x (e ∙ not_from_false (is_ident p) left) l u.0 u.1 in
     let b =
     aise t
     (record {
       reads = subst (λ (y : Seen). Guarded y t) n r.1;
-      more = and_right (eqb (upper (byte x)) (upper 82)) (starts_ignoring_case (ascii "AISE") t) m;
+      more = (and_parts (eqb (upper (byte x)) (upper 82)) (starts_ignoring_case (ascii "AISE") t) m).1;
       ended = ends_ident x t u.1 h;
     }) in
     five_safe (drop 4 t) b.ended right b.reads

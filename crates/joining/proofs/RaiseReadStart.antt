@@ -1,5 +1,5 @@
 -- A text each of whose RAISE is followed as *closed* says is read from the left. Assumes nothing.
-use Rattle.std.proofs.lemmas.Bool.{cond_both, and_from}
+use Rattle.std.proofs.lemmas.Bool.{cond_both, and_from, and_parts}
 use mathlib.Core.Path.{◌≡◌, refl, sym, subst}
 use mathlib.Core.Bool.{true, false, not, ◌&&◌, ◌||◌}
 use mathlib.Core.List.{List, [], ◌∷◌}
@@ -8,13 +8,13 @@ use lib.Dec.{eqb}
 use lib.ListN.{length, drop}
 use borrow.Author.Tests.{not-true}
 use Rattle.spec.proofs.ByteSets.{sign_not_ident, ident_not_w}
-use Rattle.spec.proofs.Choice.{by, and_left, and_right, or_cases}
+use Rattle.spec.proofs.Choice.{by, or_cases}
 use Rattle.spec.specs.Bytes.{ascii, within, is_lower, is_ident, upper}
 use Rattle.spec.specs.Lists.{drop_while}
 use Rattle.spec.specs.Map.{Marked, byte, is_live, front_byte, front_live, of_byte}
 use Rattle.spec.specs.Search.{starts_ignoring_case, word_here}
 use Rattle.spec.specs.Closed.{ends_word, is_followed, raises_followed}
-use Rattle.joining.proofs.Bools.{at, other}
+use Rattle.joining.proofs.Bools.{at, other, rest_says}
 use Rattle.joining.proofs.RaiseRead.{Seen, edge, in_word, r1, r2, r3, r4, r5, gap, paren, in_level, closed, level_letter, level_letter_lem, word_start, letter_next, seen_next, seen_ok, seen_edge, RaiseRead}
 
 -- where w stands in front and no identifier byte behind it, what follows is as *closed* says
@@ -85,19 +85,16 @@ start_known p x t n h =
     cond_both (is_ident (byte x)) _ edge (λ (z : Seen). Known z t)
     (λ _. cond_both (is_live x && eqb (upper (byte x)) 82) r1 in_word (λ (z : Seen). Known z t)
     (λ e m i.
-    let l = and_left (is_live x) (eqb (upper (byte x)) 82) e in
-    let u = and_right (is_live x) (eqb (upper (byte x)) 82) e in
-    and_left (is_followed (drop 4 t)) (raises_followed (byte x) t) (rw (l, u, m, n, i) at h))
+    let l = (and_parts (is_live x) (eqb (upper (byte x)) 82) e).0 in
+    let u = (and_parts (is_live x) (eqb (upper (byte x)) 82) e).1 in
+    (and_parts (is_followed (drop 4 t)) (raises_followed (byte x) t) (rw (l, u, m, n, i) at h)).0)
     (λ _. tt))
     (λ _. tt)
 
 -- what follows a byte is followed as well
 followed_rest : (p : ℕ) (x : Marked) (t : List Marked) → raises_followed p (x ∷ t) ≡ true → raises_followed (byte x) t ≡ true
 unfolding raises_followed
-followed_rest p x t h =
-    by (word_here is_ident (ascii "RAISE") p (x ∷ t))
-    (λ e. and_right (is_followed (drop 4 t)) (raises_followed (byte x) t) (rw e at h))
-    (λ e. rw e at h)
+followed_rest p x t h = rest_says (word_here is_ident (ascii "RAISE") p (x ∷ t)) (is_followed (drop 4 t)) (raises_followed (byte x) t) h
 
 -- a space or `;` is no identifier byte and no `)`
 word_end : (c : ℕ) → ends_word c ≡ true → ((eqb c 32 || (eqb c 59 || false)) ≡ true) × (eqb c 41 ≡ false)
@@ -115,8 +112,8 @@ five_known x t k =
     (λ i. rw i (refl, tt))
     (λ i.
     let f = k refl i in
-    let c = and_left (eqb (byte x) 32) (is_ident (front_byte t) && ends_word (front_byte (drop_while (of_byte is_ident) t))) f in
-    let d = and_right (eqb (byte x) 32) (is_ident (front_byte t) && ends_word (front_byte (drop_while (of_byte is_ident) t))) f in
+    let c = (and_parts (eqb (byte x) 32) (is_ident (front_byte t) && ends_word (front_byte (drop_while (of_byte is_ident) t))) f).0 in
+    let d = (and_parts (eqb (byte x) 32) (is_ident (front_byte t) && ends_word (front_byte (drop_while (of_byte is_ident) t))) f).1 in
     rw (i, c) (refl, d))
 
 -- in the word behind it
@@ -132,8 +129,8 @@ gap_known : (p : ℕ) (x : Marked) (t : List Marked) → is_ident p ≡ false �
     → (seen_ok false gap x ≡ true) × Known (seen_next gap x) t
 unfolding seen_next front_byte drop_while of_byte
 gap_known p x t n h k =
-    let i = and_left (is_ident (byte x)) _ k in
-    let d = and_right (is_ident (byte x)) _ k in (
+    let i = (and_parts (is_ident (byte x)) _ k).0 in
+    let d = (and_parts (is_ident (byte x)) _ k).1 in (
       rw (ident_not_w (byte x) i, other is_ident 59 (byte x) (sign_not_ident 59 refl) i) refl,
       cond_both (level_letter (byte x)) in_level (word_start x) (λ (z : Seen). Known z t) (λ _. rw i at d) (λ _. start_known p x t n h),
     )

@@ -4,7 +4,7 @@ use mathlib.Core.Bool.{Bool, true, false, not, ◌&&◌, ◌||◌}
 use mathlib.Core.List.{List, [], ◌∷◌, ◌++◌}
 use Prim.Native.Nat.{ℕ}
 use lib.Dec.{eqb}
-use Rattle.spec.proofs.Choice.{and_left, and_right}
+use Rattle.std.proofs.lemmas.Bool.{and_parts}
 use Rattle.spec.specs.Bytes.{ascii, is_ident, is_quote, is_w, upper}
 use Rattle.spec.specs.Map.{Marked, live, byte, lives, front_byte}
 
@@ -61,7 +61,7 @@ module _ {S : Type 0} (ok : S → Marked → Bool) (after : S → Marked → S) 
   all_reads [] s h = tt
   all_reads (x ∷ t) s h =
       let more = reads_all (after s x) t in
-      (and_left (ok s x) more h, all_reads t (after s x) (and_right (ok s x) more h))
+      ((and_parts (ok s x) more h).0, all_reads t (after s x) ((and_parts (ok s x) more h).1))
 
   -- a text that a pass puts in is read from each state of a set and leaves z: `every` tries all states
   pub put_in : (every : (S → Bool) → Bool) → ((f : S → Bool) → every f ≡ true → (s : S) → f s ≡ true)
@@ -72,8 +72,8 @@ module _ {S : Type 0} (ok : S → Marked → Bool) (after : S → Marked → S) 
   put_in every each z is_z only set t h s m =
       let g : (reads_all s t && is_z (leaves after s t)) ≡ true = rw m at (each _ h s) in
       record {
-        reads = all_reads t s (and_left (reads_all s t) (is_z (leaves after s t)) g);
-        end = only (leaves after s t) (and_right (reads_all s t) (is_z (leaves after s t)) g);
+        reads = all_reads t s ((and_parts (reads_all s t) (is_z (leaves after s t)) g).0);
+        end = only (leaves after s t) ((and_parts (reads_all s t) (is_z (leaves after s t)) g).1);
       }
 
 -- a reading that allows more

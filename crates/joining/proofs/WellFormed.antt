@@ -1,7 +1,7 @@
 -- Marked text with no comment, no dollar literal, no backslash and no newline in a literal, whose marks are those of its
 -- quotes. The scanner gives each byte its mark back, and so does pass 4's walk. Assumes nothing.
 use mathlib.Core.Path.{◌≡◌, refl, sym, ap, ◌∙◌, subst}
-use mathlib.Core.Bool.{Bool, true, false, cond, not, ◌&&◌, false≢true}
+use mathlib.Core.Bool.{Bool, true, false, cond, not, ◌&&◌, false≢true, true≢false}
 use mathlib.Core.List.{List, [], ◌∷◌, ◌++◌, map}
 use Prim.Native.Nat.{ℕ, zero, suc, ◌+◌, ◌≤◌, zero-le, suc-le-suc}
 use native.Mathlib.Nat.{le_of_suc-le-suc}
@@ -10,14 +10,15 @@ use borrow.Author.Tests.{eqb-true, not-true}
 use lib.Dec.{eqb}
 use lib.ListN.{length, take, drop, get_or, replicate}
 use Rattle.spec.proofs.ByteSets.{sign_not_ident}
-use Rattle.spec.proofs.Choice.{by, and_left, and_right, or_left, or_right}
+use Rattle.std.proofs.lemmas.Bool.{and_parts, or_parts}
+use Rattle.spec.proofs.Choice.{by}
 use Rattle.spec.proofs.SpanLaws.{span_le}
 use Rattle.spec.proofs.MapLaws.{map_step}
 use Rattle.spec.specs.Bytes.{within, is_digit, is_ident, is_quote, is_pair}
 use Rattle.spec.specs.Spans.{escapes, quote_len, quoted_len, tag_len, opens_dollar, single, double, code, kind_at, span_of, span_at, span_len}
 use Rattle.spec.specs.Map.{Marked, live, quoted, byte, mark, marked, marked_text, map_of, bytes, span_flag}
 use Rattle.spec.specs.SelectInto.{quote_after, quote_walk}
-use Rattle.joining.proofs.Bools.{clash, and_no, other, another, quotes}
+use Rattle.joining.proofs.Bools.{and_no, other, another, quotes}
 use Rattle.joining.proofs.Reading.{Reads, leaves}
 
 -- ---- a marked text, span by span
@@ -134,10 +135,10 @@ next_ident s c h = rw (other is_ident 45 c (sign_not_ident 45 refl) h, other is_
 
 pub live_quote : (s : Open) (c : ℕ) → live_ok s c ≡ true → is_quote c ≡ false
 live_quote clear c h = not-true (is_quote c) h
-live_quote dash c h = not-true (is_quote c) (and_left (not (is_quote c)) (not (eqb c 45)) h)
-live_quote slash c h = not-true (is_quote c) (and_left (not (is_quote c)) (not (eqb c 42)) h)
-live_quote sign c h = not-true (is_quote c) (and_left (not (is_quote c)) (not (eqb c 36)) h)
-live_quote tag c h = not-true (is_quote c) (and_left (not (is_quote c)) (not (eqb c 36)) h)
+live_quote dash c h = not-true (is_quote c) ((and_parts (not (is_quote c)) (not (eqb c 45)) h).0)
+live_quote slash c h = not-true (is_quote c) ((and_parts (not (is_quote c)) (not (eqb c 42)) h).0)
+live_quote sign c h = not-true (is_quote c) ((and_parts (not (is_quote c)) (not (eqb c 36)) h).0)
+live_quote tag c h = not-true (is_quote c) ((and_parts (not (is_quote c)) (not (eqb c 36)) h).0)
 live_quote in_single c h = absurd (false≢true h)
 live_quote in_double c h = absurd (false≢true h)
 
@@ -146,13 +147,13 @@ live_quote in_double c h = absurd (false≢true h)
 front_dash : (t : List Marked) → Well dash t → eqb (get_or (bytes t) 0 0) 45 ≡ false
 unfolding bytes
 front_dash [] o = refl
-front_dash (live c ∷ t) o = not-true (eqb c 45) (and_right (not (is_quote c)) (not (eqb c 45)) o.0)
+front_dash (live c ∷ t) o = not-true (eqb c 45) ((and_parts (not (is_quote c)) (not (eqb c 45)) o.0).1)
 front_dash (quoted c ∷ t) o = quotes (λ (n : ℕ). eqb n 45 ≡ false) c o.0 refl refl
 
 front_slash : (t : List Marked) → Well slash t → eqb (get_or (bytes t) 0 0) 42 ≡ false
 unfolding bytes
 front_slash [] o = refl
-front_slash (live c ∷ t) o = not-true (eqb c 42) (and_right (not (is_quote c)) (not (eqb c 42)) o.0)
+front_slash (live c ∷ t) o = not-true (eqb c 42) ((and_parts (not (is_quote c)) (not (eqb c 42)) o.0).1)
 front_slash (quoted c ∷ t) o = quotes (λ (n : ℕ). eqb n 42 ≡ false) c o.0 refl refl
 
 -- identifier bytes, then `$`
@@ -175,7 +176,7 @@ front_tag [] o = refl
 front_tag (live c ∷ t) o =
     by (is_ident c)
     (λ e. rw e (front_tag t (rw (next_ident tag c e) at o.1)))
-    (λ e. rw e (not-true (eqb c 36) (and_right (not (is_quote c)) (not (eqb c 36)) o.0)))
+    (λ e. rw e (not-true (eqb c 36) ((and_parts (not (is_quote c)) (not (eqb c 36)) o.0).1)))
 front_tag (quoted c ∷ t) o = quotes (λ (n : ℕ). eqb (get_or (n ∷ bytes t) (tag_len (n ∷ bytes t)) 0) 36 ≡ false) c o.0 (rw (sign_not_ident 39 refl) refl) (rw (sign_not_ident 34 refl) refl)
 
 quote_tag : (c : ℕ) (cs : List ℕ) → is_quote c ≡ true → is_tag (c ∷ cs) ≡ false
@@ -191,7 +192,7 @@ front_sign (live c ∷ t) o =
     (λ d. rw d
     (by (is_ident c)
     (λ e. rw e (front_tag t (subst (λ (s : Open). Well s t) (next_ident sign c e ∙ rw d refl) o.1)))
-    (λ e. rw e (not-true (eqb c 36) (and_right (not (is_quote c)) (not (eqb c 36)) o.0)))))
+    (λ e. rw e (not-true (eqb c 36) ((and_parts (not (is_quote c)) (not (eqb c 36)) o.0).1)))))
 front_sign (quoted c ∷ t) o = quote_tag c (bytes t) o.0
 
 -- a live byte of a well formed text opens nothing
@@ -206,7 +207,7 @@ well_code s c t a o =
     opens_tag c (bytes t)
     ∙ and_no (eqb c 36) _
     (λ e. front_sign t (rw (other (λ n. eqb n 36) 45 c refl e, other (λ n. eqb n 36) 47 c refl e, e) at o)) in
-    rw (l, b, or_left (eqb c 39) (eqb c 34) q, or_right (eqb c 39) (eqb c 34) q, d) refl
+    rw (l, b, (or_parts (eqb c 39) (eqb c 34) q).0, (or_parts (eqb c 39) (eqb c 34) q).1, d) refl
 
 -- ---- the scanner gives the marks back
 
@@ -290,7 +291,7 @@ pub record Literal (q : ℕ) (s : Open) : Type 0 where
   pub in_literal_lem : is_out s ≡ false
 
 plain_byte : (c : ℕ) → (not (eqb c 92) && not (eqb c 10)) ≡ true → eqb c 92 ≡ false
-plain_byte c h = not-true (eqb c 92) (and_left (not (eqb c 92)) (not (eqb c 10)) h)
+plain_byte c h = not-true (eqb c 92) ((and_parts (not (eqb c 92)) (not (eqb c 10)) h).0)
 
 byte_plain : (c : ℕ) → eqb c 92 ≡ false → eqb c 10 ≡ false → (not (eqb c 92) && not (eqb c 10)) ≡ true
 byte_plain c h k = rw (h, k) refl
@@ -323,16 +324,16 @@ module _ (e : Bool) (q : ℕ) (s : Open) (l : Literal q s) where
 
   inside_nil : Inside e q s []
   unfolding Inside
-  inside_nil o z = clash (sym z ∙ l.in_literal_lem)
+  inside_nil o z = absurd (true≢false (sym z ∙ l.in_literal_lem))
 
   inside_one : (x : Marked) → Inside e q s (x ∷ [])
   unfolding Inside bytes quote_len marked_text marked
-  inside_one (live c) o z = clash (sym o.0 ∙ l.no_live c)
+  inside_one (live c) o z = absurd (true≢false (sym o.0 ∙ l.no_live c))
   inside_one (quoted c) o z = refl
 
   inside_more : (x y : Marked) (t : List Marked) → AtSpan clear (y ∷ t) → Inside e q s (y ∷ t) → Inside e q s t → Inside e q s (x ∷ y ∷ t)
   unfolding Inside bytes quote_len escapes
-  inside_more (live c) y t start more pair o z = clash (sym o.0 ∙ l.no_live c)
+  inside_more (live c) y t start more pair o z = absurd (true≢false (sym o.0 ∙ l.no_live c))
   inside_more (quoted c) y t start more pair o z =
       let n : (e && eqb c 92) ≡ false = and_no e (eqb c 92) (λ _. l.plain c o.0) in
       by (eqb c q)

@@ -1,14 +1,15 @@
 -- Passes 3 and 4 may cut and glue well formed text as they do. Assumes nothing.
 use mathlib.Core.Path.{◌≡◌, refl, sym, ◌∙◌, subst}
-use mathlib.Core.Bool.{Bool, true, false, cond, not, ◌&&◌, ◌||◌, false≢true}
+use mathlib.Core.Bool.{Bool, true, false, cond, not, ◌&&◌, ◌||◌, false≢true, true≢false}
 use mathlib.Core.List.{List, [], ◌∷◌}
 use Prim.Native.Nat.{ℕ}
 use lib.Dec.{eqb}
 use Rattle.spec.proofs.ByteSets.{sign_not_w, gap_w, w_not_ident}
-use Rattle.spec.proofs.Choice.{by, or_left, or_right, and_left, and_right}
+use Rattle.std.proofs.lemmas.Bool.{and_parts, or_parts}
+use Rattle.spec.proofs.Choice.{by}
 use Rattle.spec.specs.Bytes.{ascii, within, is_digit, is_lower, is_upper, is_ident, is_quote, is_w}
 use Rattle.spec.specs.Map.{Marked, live, quoted, byte, lives}
-use Rattle.joining.proofs.Bools.{clash, other, no_quote, white_no_quote}
+use Rattle.joining.proofs.Bools.{other, no_quote, white_no_quote}
 use Rattle.joining.proofs.Reading.{leaves, Takes, Reading, reads_all, put_in}
 use Rattle.joining.proofs.WellFormed.{Open, clear, dash, slash, sign, tag, in_single, in_double, live_ok, quoted_ok, well_ok, live_next, quoted_next, well_next, is_out, Well, next_ident, live_quote, live_in, live_out}
 
@@ -20,16 +21,16 @@ well_back dash (quoted c) n o r = refl
 well_back slash (quoted c) n o r = refl
 well_back sign (quoted c) n o r = refl
 well_back tag (quoted c) n o r = refl
-well_back in_single (quoted c) n o r = rw (or_left (eqb c 39) (eqb c 34) n) at r
-well_back in_double (quoted c) n o r = rw (or_right (eqb c 39) (eqb c 34) n) at r
+well_back in_single (quoted c) n o r = rw ((or_parts (eqb c 39) (eqb c 34) n).0) at r
+well_back in_double (quoted c) n o r = rw ((or_parts (eqb c 39) (eqb c 34) n).1) at r
 
 pub well_forth : (s : Open) (x : Marked) → is_quote (byte x) ≡ false → well_ok s x ≡ true → is_out s ≡ true → is_out (well_next s x) ≡ true
 well_forth s (live c) n o r = live_out s c r
-well_forth clear (quoted c) n o r = clash (sym o ∙ n)
-well_forth dash (quoted c) n o r = clash (sym o ∙ n)
-well_forth slash (quoted c) n o r = clash (sym o ∙ n)
-well_forth sign (quoted c) n o r = clash (sym o ∙ n)
-well_forth tag (quoted c) n o r = clash (sym o ∙ n)
+well_forth clear (quoted c) n o r = absurd (true≢false (sym o ∙ n))
+well_forth dash (quoted c) n o r = absurd (true≢false (sym o ∙ n))
+well_forth slash (quoted c) n o r = absurd (true≢false (sym o ∙ n))
+well_forth sign (quoted c) n o r = absurd (true≢false (sym o ∙ n))
+well_forth tag (quoted c) n o r = absurd (true≢false (sym o ∙ n))
 well_forth in_single (quoted c) n o r = absurd (false≢true r)
 well_forth in_double (quoted c) n o r = absurd (false≢true r)
 
@@ -81,7 +82,7 @@ unfolding live_next
 well_white (live c) w o =
     rw (other is_w 45 c (sign_not_w 45 refl) w, other is_w 47 c (sign_not_w 47 refl) w, other is_w 36 c (sign_not_w 36 refl) w)
     (by (is_ident c) (λ i. rw i refl) (λ i. rw i refl))
-well_white (quoted c) w o = clash (sym o ∙ white_no_quote c w)
+well_white (quoted c) w o = absurd (true≢false (sym o ∙ white_no_quote c w))
 
 semi_ok : (s : Open) → is_out s ≡ true → live_ok s 59 ≡ true
 unfolding is_quote
@@ -108,13 +109,13 @@ every_open f = f clear && (f dash && (f slash && (f sign && (f tag && (f in_sing
 each_open : (f : Open → Bool) → every_open f ≡ true → (s : Open) → f s ≡ true
 unfolding every_open
 each_open f h s =
-    let h1 = and_right (f clear) _ h in
-    let h2 = and_right (f dash) _ h1 in
-    let h3 = and_right (f slash) _ h2 in
-    let h4 = and_right (f sign) _ h3 in
-    let h5 = and_right (f tag) _ h4 in
-    at s (and_left (f clear) _ h) (and_left (f dash) _ h1) (and_left (f slash) _ h2) (and_left (f sign) _ h3)
-    (and_left (f tag) _ h4) (and_left (f in_single) _ h5) (and_right (f in_single) _ h5)
+    let h1 = (and_parts (f clear) _ h).1 in
+    let h2 = (and_parts (f dash) _ h1).1 in
+    let h3 = (and_parts (f slash) _ h2).1 in
+    let h4 = (and_parts (f sign) _ h3).1 in
+    let h5 = (and_parts (f tag) _ h4).1 in
+    at s ((and_parts (f clear) _ h).0) ((and_parts (f dash) _ h1).0) ((and_parts (f slash) _ h2).0) ((and_parts (f sign) _ h3).0)
+    ((and_parts (f tag) _ h4).0) ((and_parts (f in_single) _ h5).0) ((and_parts (f in_single) _ h5).1)
   where
     at : (s : Open) → f clear ≡ true → f dash ≡ true → f slash ≡ true → f sign ≡ true → f tag ≡ true → f in_single ≡ true
         → f in_double ≡ true

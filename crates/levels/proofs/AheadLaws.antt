@@ -5,7 +5,7 @@ use Rattle.std.specs.Borrow.{Bor}
 use Rattle.std.specs.List.{find}
 use Rattle.std.specs.Option.{unwrap_or}
 use Rattle.std.proofs.lemmas.Option.{none-some}
-use Rattle.std.proofs.lemmas.Bool.{and_from}
+use Rattle.std.proofs.lemmas.Bool.{and_from, and_parts}
 use Rattle.levels.specs.declared.Line.{Line}
 use mathlib.Core.Path.{◌≡◌, refl, sym, ap, ap₂, ◌∙◌}
 use mathlib.Core.Bool.{Bool, true, false, not, ◌&&◌, false≢true}
@@ -15,7 +15,7 @@ use native.Mathlib.Omega.{arith}
 use borrow.Author.Tests.{not-true}
 use lib.ListN.{length, drop, length-append}
 use Rattle.spec.proofs.Apart.{apart}
-use Rattle.spec.proofs.Choice.{by, and_left, and_right}
+use Rattle.spec.proofs.Choice.{by}
 use Rattle.spec.proofs.LineLaws.{entry, text_injective, every_entry, only_last, through, first_line, through_only, first_text}
 use Rattle.spec.proofs.PrefixLaws.{prefix_split, prefix_append}
 use Rattle.spec.specs.Bytes.{is_prefix}
@@ -84,8 +84,8 @@ module _ {A : Type 0} (xs : List ℕ) where
 
 all_at : {A : Type 0} (p : A → Bool) (x : A) (l : List A) → Memᴰ x l → all p l ≡ true → p x ≡ true
 unfolding all
-all_at p x l (Memᴰ.head {x = y} {xs = t} e) h = ap p e ∙ and_left (p y) (all p t) h
-all_at p x l (Memᴰ.tail {x = y} {xs = t} m) h = all_at p x t m (and_right (p y) (all p t) h)
+all_at p x l (Memᴰ.head {x = y} {xs = t} e) h = ap p e ∙ (and_parts (p y) (all p t) h).0
+all_at p x l (Memᴰ.tail {x = y} {xs = t} m) h = all_at p x t m ((and_parts (p y) (all p t) h).1)
 
 level_in_lem : (l : Level) → Memᴰ l all_levels
 unfolding all_levels
@@ -184,7 +184,7 @@ module _ (xs : List ℕ) where
   line_no_level h =
       all_absent (λ e i.
       let level = is_prefix (level_text e.level) xs in
-      let there = and_left level _ (sym (line_parts e.level e.action) ∙ i) in
+      let there = (and_parts level _ (sym (line_parts e.level e.action) ∙ i)).0 in
       let missing = not-true level (all_at (λ l. not (is_prefix (level_text l) xs)) e.level all_levels (level_in_lem e.level) (ahead_none level_text xs all_levels h)) in
       false≢true (sym missing ∙ there))
 
@@ -203,8 +203,8 @@ module _ (xs : List ℕ) where
         let level = is_prefix (level_text e.level) xs in
         let test : Level → Bool = λ k. is_prefix (action_text e.action) (drop (length (level_text k)) xs) in
         let both = sym (line_parts e.level e.action) ∙ i in
-        let same : e.level ≡ l = one_level e.level l (and_left level (test e.level) both) level_stands in
-        let there : test l ≡ true = ap test (sym same) ∙ and_right level (test e.level) both in
+        let same : e.level ≡ l = one_level e.level l ((and_parts level (test e.level) both).0) level_stands in
+        let there : test l ≡ true = ap test (sym same) ∙ (and_parts level (test e.level) both).1 in
         let missing = not-true (test l) (all_at (λ a. not (is_prefix (action_text a) (drop (length (level_text l)) xs))) e.action all_actions (action_in e.action) (ahead_none action_text (drop (length (level_text l)) xs) all_actions m)) in
         false≢true (sym missing ∙ there))
 

@@ -71,6 +71,7 @@ fn complete(given: ByLevel<Option<Action>>, n: usize) -> Result<Actions, Refusal
 }
 
 // What a table says. The first bad line decides, and nothing behind it is read.
+#[tactic(auto, using(std::proofs::lemmas::List::take_rest, spec::proofs::LineLaws::text_size, crate::proofs::AheadLaws::line_found_lem, crate::proofs::AheadLaws::found_none, crate::proofs::GivenLaws::given_by_lem, crate::proofs::TurnLaws::says_malformed, crate::proofs::TurnLaws::line_fits, crate::proofs::TurnLaws::says_repeated))]
 pub fn read_table(table: &[u8]) -> Result<Actions, Refusal>
     ensures { result ≡ table_of table.now }
 {

@@ -11,7 +11,7 @@ use lib.ListN.{length, take, drop, get_or, replicate, length-append, length-repl
 use lib.Seq.{length-take-le}
 use Rattle.spec.proofs.AheadLaws.{drop_front}
 use Rattle.spec.proofs.BytesLaws.{bytes_take}
-use Rattle.spec.proofs.Choice.{and_left, and_right}
+use Rattle.std.proofs.lemmas.Bool.{and_parts}
 use Rattle.spec.proofs.SpanLaws.{by_kind, span_le}
 use Rattle.spec.proofs.MapLaws.{map_step, marked_length, text_bytes, text_length}
 use Rattle.spec.proofs.WalkLaws.{while_take, while_length}
@@ -39,7 +39,7 @@ while_over : (f : Marked → Bool) (s t : List Marked) → all f s ≡ true → 
 unfolding take_while all
 while_over f [] t h = refl
 while_over f (x ∷ s) t h =
-    rw (and_left (f x) (all f s) h) (ap (λ (l : List Marked). x ∷ l) (while_over f s t (and_right (f x) (all f s) h)))
+    rw ((and_parts (f x) (all f s) h).0) (ap (λ (l : List Marked). x ∷ l) (while_over f s t ((and_parts (f x) (all f s) h).1)))
 
 -- quoted bytes all pass
 quoted_pass : (n : ℕ) (xs : List ℕ) → all goes_on (marked (take n xs) (replicate n 1)) ≡ true

@@ -9,7 +9,8 @@ use Prim.Native.Nat.{ℕ, ◌≤◌, zero-le}
 use native.Mathlib.Omega.{arith}
 use borrow.Author.Tests.{not-true}
 use lib.ListN.{length, drop}
-use Rattle.spec.proofs.Choice.{by, and_left, and_right}
+use Rattle.std.proofs.lemmas.Bool.{and_parts}
+use Rattle.spec.proofs.Choice.{by}
 use Rattle.spec.proofs.MapLaws.{text_bytes}
 use Rattle.spec.proofs.RefusalBounds.{bytes_length}
 use Rattle.spec.proofs.WalkLaws.{starts_case, starts_length}
@@ -47,10 +48,10 @@ others_reach : (t : List Marked) (ws : List LevelWord) → all (λ w. not (is_ex
 unfolding level_in all
 others_reach t [] h = refl
 others_reach t (w ∷ ws) h =
-    let other = not-true (is_exception w.level) (and_left (not (is_exception w.level)) (all (λ v. not (is_exception v.level)) ws) h) in
+    let other = not-true (is_exception w.level) ((and_parts (not (is_exception w.level)) (all (λ v. not (is_exception v.level)) ws) h).0) in
     by (starts_ignoring_case w.word t)
     (λ q. rw (q, other) refl)
-    (λ q. rw q (others_reach t ws (and_right (not (is_exception w.level)) _ h)))
+    (λ q. rw q (others_reach t ws ((and_parts (not (is_exception w.level)) _ h).1)))
 
 level_within : (t : List Marked) → level_reach (level_in level_words t) ≤ length t
 unfolding level_in level_words all

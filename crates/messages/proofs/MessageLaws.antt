@@ -1,6 +1,6 @@
 -- The message in a content: where a `'` literal closes, and the words up to a comma. Assumes nothing.
 use Rattle.std.specs.Prelude.{Some, None}
-use Rattle.std.proofs.lemmas.Bool.{cond_both}
+use Rattle.std.proofs.lemmas.Bool.{cond_both, and_parts}
 use Rattle.std.proofs.lemmas.List.{drop_more}
 use mathlib.Core.Path.{◌≡◌, refl, sym, ap, ◌∙◌}
 use mathlib.Core.Bool.{false, cond, not, ◌&&◌}
@@ -14,7 +14,7 @@ use lib.Seq.{length-take-le}
 use Rattle.spec.proofs.BytesLaws.{bytes_lives, front_bytes, bytes_while, bytes_take, bytes_drop}
 use Rattle.spec.proofs.RefusalBounds.{bytes_length}
 use Rattle.spec.proofs.AheadLaws.{drop_two, tail_one}
-use Rattle.spec.proofs.Choice.{by, cond_le, and_left, made_some, made_none}
+use Rattle.spec.proofs.Choice.{by, cond_le, made_some, made_none}
 use Rattle.spec.proofs.MessagePlaces.{no_comma}
 use Rattle.spec.proofs.SpanLaws.{seen}
 use Rattle.spec.proofs.WalkLaws.{while_length, while_take}
@@ -144,7 +144,7 @@ literal_le xs =
     let n = close_len (lives (drop 1 xs)) in
     cond_both (eqb (get_or xs 0 0) 39 && not (eqb n 0)) (1 + n) 0 (λ (k : ℕ). k ≤ length xs)
     (λ e.
-    let q = seen xs 0 38 (eqb-true (get_or xs 0 0) 39 (and_left (eqb (get_or xs 0 0) 39) (not (eqb n 0)) e)) in
+    let q = seen xs 0 38 (eqb-true (get_or xs 0 0) 39 ((and_parts (eqb (get_or xs 0 0) 39) (not (eqb n 0)) e).0)) in
     omega (arith, close_within (drop 1 xs), length-drop 1 xs))
     (λ _. zero-le)
 

@@ -4,7 +4,7 @@ use Rattle.std.proofs.lemmas.List.{take_rest}
 use mathlib.Core.Path.{◌≡◌, refl, sym, ap, ◌∙◌}
 use mathlib.Core.Bool.{Bool, false, cond, not}
 use mathlib.Core.List.{List, []}
-use Prim.Native.Nat.{ℕ, ◌+◌, ◌-◌, ◌≤◌, ◌<◌, min}
+use Prim.Native.Nat.{ℕ, ◌+◌, ◌-◌, ◌≤◌, min}
 use native.Mathlib.Omega.{arith}
 use borrow.Author.Tests.{leb-true, leb-false}
 use lib.Dec.{leb}
@@ -58,7 +58,7 @@ fate_within Drop p lo hi q r = tt
 fate_within (Raise w) p lo hi q r = (q, r)
 
 -- the level behind the separator, where a text reaches behind it, and where not
-pub level_none : (t : List Marked) (xs : List ℕ) → bytes t ≡ xs → length xs < 6 → level_in level_words (drop 6 t) ≡ None
+pub level_none : (t : List Marked) (xs : List ℕ) → bytes t ≡ xs → length xs ≤ 6 → level_in level_words (drop 6 t) ≡ None
 unfolding level_in level_words starts_ignoring_case
 level_none t xs e h =
     let z : length t ≤ 6 = omega (arith, bytes_length t, ap length e) in

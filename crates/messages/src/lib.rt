@@ -64,7 +64,8 @@ fn ends_statement(s: Span, b: u8) -> bool
     matches!(s, Span::Code(_)) && b == b';'
 }
 
-// How long the content is of a statement that has `rest` behind its level.
+// How long the content is of a statement that has `rest` behind its level: a walk by `spans::Cursor`, for the reason at
+// `scanner::has_unterminated`.
 #[tactic(auto, using(crate::proofs::ContentLaws::content_over, crate::proofs::ContentLaws::content_on, crate::proofs::ContentLaws::content_stops, spans::proofs::StepLaws::step_taken, spans::proofs::StepLaws::step_done))]
 fn content_len(rest: &[u8]) -> usize
     ensures { result ≡ length (content_in rest.now) }
@@ -79,8 +80,8 @@ fn content_len(rest: &[u8]) -> usize
     cursor.at
 }
 
-// From behind an opening `'`, the length through the quote that closes the literal, if one does. By an index: a turn takes one
-// byte or two.
+// From behind an opening `'`, the length through the quote that closes the literal, if one does. By an index for the reason in
+// `spans::quoted_len`.
 #[tactic(auto, using(crate::proofs::MessageLaws::close_pair, crate::proofs::MessageLaws::close_here, crate::proofs::MessageLaws::close_on, crate::proofs::MessageLaws::close_none, crate::proofs::MessageLaws::later_none, crate::proofs::MessageLaws::quote_within))]
 fn close_len(rest: &[u8]) -> Option<usize>
     ensures { result ≡ nonzero (close_len (lives rest.now)) }

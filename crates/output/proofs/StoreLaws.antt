@@ -31,19 +31,19 @@ pub sets_out : {A : Type 0} (vs d : List A) (i : ℕ) → length d ≤ i → set
 sets_out [] d i h = refl
 sets_out (v ∷ vs) d i h = rw (set_out d i v h) (sets_out vs d (suc i) (omega arith))
 
--- a list stored from index n on, as far as there is room for it: fits items
-pub store_part : {A : Type 0} (d vs : List A) (n fits : ℕ) → n ≤ length d → fits ≡ min (length vs) (length d - n)
-    → take n d ++ (take fits vs ++ drop fits (drop n d)) ≡ sets d n vs
-store_part d vs n fits h e =
-    let u = take fits vs in
-    let long : length u ≡ fits = length-take-le fits vs (omega arith) in
-    let behind : drop (n + length u) d ≡ drop fits (drop n d) = ap (λ (k : ℕ). drop (n + k) d) long ∙ sym (drop-drop fits n d ∙ ap (λ (k : ℕ). drop k d) (omega arith)) in
-    let stored : sets d n u ≡ take n d ++ (u ++ drop fits (drop n d)) = rw behind at (sets-eq u d n (omega (arith, long))) ∙ append_assoc (take n d) u (drop fits (drop n d)) in
+-- a list stored from index n on, as far as there is room for it: u is its first m items
+pub store_part : {A : Type 0} (d vs u : List A) (n m fits : ℕ) → n < length d → fits ≡ min (length vs) (length d - n) → m ≡ fits → u ≡ take fits vs
+    → sets d n vs ≡ take n d ++ (u ++ drop m (drop n d))
+store_part d vs u n m fits h e k f =
+    let long : length u ≡ fits = ap length f ∙ length-take-le fits vs (omega arith) in
+    let behind : drop (n + length u) d ≡ drop m (drop n d) = ap (λ (k : ℕ). drop (n + k) d) (long ∙ sym k) ∙ sym (drop-drop m n d ∙ ap (λ (k : ℕ). drop k d) (omega arith)) in
+    let stored : sets d n u ≡ take n d ++ (u ++ drop m (drop n d)) = rw behind at (sets-eq u d n (omega (arith, long))) ∙ append_assoc (take n d) u (drop m (drop n d)) in
     let rest : sets (sets d n u) (n + length u) (drop fits vs) ≡ sets d n u =
     by (leb (length vs) fits)
     (λ q. rw (drop_of_length-le vs (leb-true (length vs) fits q)) refl)
     (λ q. sets_out (drop fits vs) (sets d n u) (n + length u) (omega (arith, long, leb-false (length vs) fits q, length-sets d n u))) in
-    sym (ap (sets d n) (sym (take-append-drop fits vs)) ∙ (sets_append u (drop fits vs) d n ∙ (rest ∙ stored)))
+    let whole : vs ≡ u ++ drop fits vs = rw f (sym (take-append-drop fits vs)) in
+    ap (sets d n) whole ∙ (sets_append u (drop fits vs) d n ∙ (rest ∙ stored))
 
 -- what calls that give x and change nothing have given
 pub all_same : {F A : Type 0} (step : F → A → F → Type 0) (x : A) (f : F)

@@ -14,7 +14,7 @@ use Rattle.spec.proofs.Choice.{by}
 use Rattle.spec.specs.declared.Refusal.TheVariants.{ResultTooLong}
 use Rattle.spec.specs.declared.Refusal.{Refusal}
 use Rattle.output.proofs.StoreLaws.{sets_append}
-use Rattle.output.specs.Written.{counted, checked, Starts, Wrote, WroteWithin}
+use Rattle.output.specs.Written.{counted, uncounted, checked, Starts, Wrote, WroteWithin}
 use Rattle.output.specs.declared.Writer.{Writer}
 
 -- ---- counts that stop
@@ -30,28 +30,19 @@ module _ (k : ℕ) where
 
   pub checked_within : k ≤ 65536 → checked k ≡ Ok tt
   unfolding checked
-  checked_within h = rw (le-leb k 65536 h)
+  checked_within h = ap uncounted (counted_within h)
 
   pub checked_beyond : 65536 < k → checked k ≡ Err ResultTooLong
   unfolding checked
-  checked_beyond h = by (leb k 65536) (λ e. absurd (omega (arith, leb-true k 65536 e))) (λ e. rw e)
-
-  -- a writer's count passes where the count does, and is refused as it is
-  pub check_passes : (n : ℕ) → Ok n ≡ counted k → Ok tt ≡ checked k
-  unfolding counted checked
-  check_passes n e = by (leb k 65536) (λ q. rw q refl) (λ q. let f = rw q at e in absurd (apart (cc)))
-
-  pub check_refuses : (r : Refusal) → Err r ≡ counted k → Err r ≡ checked k
-  unfolding counted checked
-  check_refuses r e = by (leb k 65536) (λ q. let f = rw q at e in absurd (apart (cc))) (λ q. let f = rw q at e in rw q (cc))
+  checked_beyond h = ap uncounted (counted_beyond h)
 
   -- a count that passes is within the buffer, and a refused one is past it
   pub checked_ok : Ok tt ≡ checked k → k ≤ 65536
-  unfolding checked
+  unfolding checked counted
   checked_ok e = by (leb k 65536) (λ q. leb-true k 65536 q) (λ q. let f = rw q at e in absurd (apart (cc)))
 
   pub checked_err : (r : Refusal) → Err r ≡ checked k → (r ≡ ResultTooLong) × (65536 < k)
-  unfolding checked
+  unfolding checked counted
   checked_err r e =
       by (leb k 65536)
       (λ q. let f = rw q at e in absurd (apart (cc)))

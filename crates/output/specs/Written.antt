@@ -10,9 +10,14 @@ use Rattle.output.specs.declared.Writer.{Writer}
 unfoldable pub counted : ℕ → Result ℕ Refusal
 counted k = cond (leb k 65536) (Ok k) (Err ResultTooLong)
 
+-- whether there is one, without it
+abbrev pub uncounted : Result ℕ Refusal → Result ⊤ Refusal
+uncounted (Ok k) = Ok tt
+uncounted (Err r) = Err r
+
 -- the same of a writer, which has the count
 unfoldable pub checked : ℕ → Result ⊤ Refusal
-checked k = cond (leb k 65536) (Ok tt) (Err ResultTooLong)
+checked k = uncounted (counted k)
 
 -- a writer at the front of a buffer
 pub record Starts (out : MutBor (List ℕ)) (new : Writer) : Type 0 where

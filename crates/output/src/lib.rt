@@ -46,6 +46,7 @@ impl<'a> Writer<'a> {
         requires { self.old.len < 2 ^ 63 }
         ensures { Wrote self.old (b ∷ []) self.new }
     {
+        // No `get_mut`: tried, and the proof did not close, since the library's contract says nothing of what the slice holds afterwards.
         if self.len < self.out.len() {
             self.out[self.len] = b;
         }
@@ -101,7 +102,7 @@ impl<'a> Writer<'a> {
     }
 
     // Refusal 6 if the result is past the buffer size.
-    #[tactic(auto, using(crate::proofs::WriterLaws::check_passes, crate::proofs::WriterLaws::check_refuses))]
+    #[tactic(auto, unfolding(crate::specs::Written::checked))]
     pub fn check(&self) -> Result<(), Refusal>
         ensures { result ≡ checked self.now.len }
     {
@@ -119,6 +120,7 @@ impl<'a> Writer<'a> {
 
 // src at offset n, as far as the buffer reaches. By a buffer and an offset: the count, which is what a writer adds to them,
 // moves by the length of src whether it fits or not.
+#[tactic(auto, using(crate::proofs::StoreLaws::store_part, crate::proofs::StoreLaws::sets_out))]
 fn store(out: &mut [u8], n: usize, src: &[u8])
     ensures { out.new ≡ sets out.old n src.now }
 {
@@ -129,6 +131,7 @@ fn store(out: &mut [u8], n: usize, src: &[u8])
 }
 
 // The item x from offset `from` up to offset `to`, as far as the buffer reaches.
+#[tactic(auto, using(crate::proofs::StoreLaws::fill_end))]
 pub fn fill<T: Copy>(out: &mut [T], from: usize, to: usize, x: T)
     ensures { out.new ≡ sets out.old from (replicate (to - from) x) }
 {

@@ -78,6 +78,12 @@ given_fits w r d g h =
 pub given_as : (w : Rewriting) (p q : Result ℕ Refusal) (d : List ℕ) → Gives (result_of [] w) (finished p) d → p ≡ q → Gives (result_of [] w) (finished q) d
 given_as w p q d g e = rw e at g
 
+-- so has the text of a pass that is done
+pub done_fits : (w : Rewriting) (p : Result ℕ Refusal) (k : ℕ) (d : List ℕ) → Gives (result_of [] w) (finished p) d → p ≡ Ok k
+    → length d ≡ 65536
+    → k ≤ 65536
+done_fits w p k d g e h = given_fits w (finished (Ok k)) d (given_as w p (Ok k) d g e) h
+
 -- a pass that is done was accepted, and its text stands in front
 pub done_accepted : (w : Rewriting) (k : ℕ) (d : List ℕ) → Gives (result_of [] w) (finished (Ok k)) d → w ≡ accepted (take k d)
 unfolding result_of
@@ -119,20 +125,21 @@ too_long_gives ys q d out r g a =
 
 -- ---- the first two passes, which never exceed the buffer size
 
-pub requoted_front : (xs d e : List ℕ) (k : ℕ) → length xs ≤ 16384 → k ≡ length (requoted xs) → length d ≡ 65536
-    → e ≡ sets d 0 (requoted xs)
-    → (k ≤ 65536) × (take k e ≡ requoted xs)
-requoted_front xs d e k h a l s =
-    let m = requoted_length_lem xs in
-    (omega (arith, m, a), front_stored d e (requoted xs) k (sym a) (omega (arith, m, a)) s)
+-- what is stored in front of a buffer stands there
+pub front_of : (d ys : List ℕ) (n : ℕ) → n ≡ length ys → length ys ≤ length d → take n (sets d 0 ys) ≡ ys
+front_of d ys n e h = front_stored d (sets d 0 ys) ys n (sym e) (omega (arith, h, e)) refl
 
-pub spelled_front : (xs ys d e : List ℕ) (n : ℕ) → length xs ≤ 16384 → ys ≡ requoted xs → n ≡ length (bytes (elsif (marked_text ys)))
+-- what pass 2 leaves of what pass 1 left
+pub spelled_front : (xs d e d' e' : List ℕ) (k n : ℕ) → length xs ≤ 16384 → k ≡ length (requoted xs) → e ≡ sets d 0 (requoted xs)
     → length d ≡ 65536
-    → e ≡ sets d 0 (bytes (elsif (marked_text ys)))
-    → (n ≤ 65536) × (take n e ≡ bytes (elsif (marked_text (requoted xs))))
-spelled_front xs ys d e n h y a l s =
-    let m : length (bytes (elsif (marked_text ys))) ≤ 65536 = rw y (omega (arith, two_length xs)) in
-    (omega (arith, m, a), rw (← y) (front_stored d e (bytes (elsif (marked_text ys))) n (sym a) (omega (arith, m, a)) s))
+    → n ≡ length (bytes (elsif (marked_text (take k e))))
+    → e' ≡ sets d' 0 (bytes (elsif (marked_text (take k e))))
+    → length d' ≡ 65536
+    → take n e' ≡ bytes (elsif (marked_text (requoted xs)))
+spelled_front xs d e d' e' k n h a s l b s' l' =
+    let t : take k e ≡ requoted xs = front_stored d e (requoted xs) k (sym a) (omega (arith, requoted_length_lem xs, a)) s in
+    let m : n ≡ length (bytes (elsif (marked_text (requoted xs)))) = rw t at b in
+    front_stored d' e' (bytes (elsif (marked_text (requoted xs)))) n (sym m) (omega (arith, two_length xs, m)) (rw t at s')
 
 -- ---- all five
 
@@ -145,19 +152,20 @@ from_third act xs zs h e = rw (accepted_same (requoted xs) (one_fits xs h), acce
 module _ (act : Level → Action) (xs zs : List ℕ) (h : length xs ≤ 16384) (e : zs ≡ bytes (elsif (marked_text (requoted xs))))
     (d : List ℕ) where
   -- pass 3 refuses
-  pub third_stops : (q : Refusal) → Gives (result_of [] (limited (assign_pass zs))) (finished (Err q)) d
+  pub third_stops : (p : Result ℕ Refusal) (q : Refusal) → Gives (result_of [] (limited (assign_pass zs))) (finished p) d → p ≡ Err q
       → rewriting act xs ≡ limited (assign_pass zs)
-  third_stops q g =
+  third_stops p q g a =
       let w = limited (assign_pass zs) in
-      let s = stopped w q d g in
+      let s = stopped w q d (given_as w p (Err q) d g a) in
       from_third act xs zs h e ∙ (ap (λ (v : Rewriting). and_then v (raise_pass act)) (s select_pass) ∙ s (raise_pass act))
 
-  module _ (n : ℕ) (g : Gives (result_of [] (limited (assign_pass zs))) (finished (Ok n)) d) where
+  module _ (p : Result ℕ Refusal) (n : ℕ) (g : Gives (result_of [] (limited (assign_pass zs))) (finished p) d) (a : p ≡ Ok n) where
     from_fourth : rewriting act xs ≡ and_then (limited (select_pass (take n d))) (raise_pass act)
     unfolding and_then
     from_fourth =
+        let w = limited (assign_pass zs) in
         from_third act xs zs h e
-        ∙ ap (λ (v : Rewriting). and_then (and_then v select_pass) (raise_pass act)) (done_accepted (limited (assign_pass zs)) n d g)
+        ∙ ap (λ (v : Rewriting). and_then (and_then v select_pass) (raise_pass act)) (done_accepted w n d (given_as w p (Ok n) d g a))
 
     -- pass 4 gives too much
     pub fourth_stops : (d' : List ℕ) (q : Refusal) → Gives (result_of [] (limited (select_pass (take n d)))) (finished (Err q)) d'
@@ -165,8 +173,11 @@ module _ (act : Level → Action) (xs zs : List ℕ) (h : length xs ≤ 16384) (
     fourth_stops d' q f = from_fourth ∙ stopped (limited (select_pass (take n d))) q d' f (raise_pass act)
 
     -- pass 5 is reached
-    pub fifth_gives : (d' : List ℕ) (k : ℕ) → Gives (result_of [] (limited (select_pass (take n d)))) (finished (Ok k)) d'
+    pub fifth_gives : (d' : List ℕ) (p' : Result ℕ Refusal) (k : ℕ)
+        → Gives (result_of [] (limited (select_pass (take n d)))) (finished p') d'
+        → p' ≡ Ok k
         → rewriting act xs ≡ limited (raise_pass act (take k d'))
     unfolding and_then
-    fifth_gives d' k f =
-        from_fourth ∙ ap (λ (v : Rewriting). and_then v (raise_pass act)) (done_accepted (limited (select_pass (take n d))) k d' f)
+    fifth_gives d' p' k f b =
+        let w = limited (select_pass (take n d)) in
+        from_fourth ∙ ap (λ (v : Rewriting). and_then v (raise_pass act)) (done_accepted w k d' (given_as w p' (Ok k) d' f b))

@@ -67,6 +67,10 @@ fn finish(out: &mut Buffer, from: &Buffer, p: Result<usize, Refusal>) -> Result<
     r
 }
 
+// Passes 2 to 5 are not one function that is handed the pass: each is one line, and what they share (`MappedText::mapped`, `limit`)
+// are functions. Tried for pass 3: of a pass that captures `out`, what `out` holds then could be stated with Rattle's own names only.
+// Handed `out` too, a call would have the pass's definition in clauses of its own.
+
 // Pass 2 of a text; `map` takes its map.
 #[tactic(auto, using(spec::proofs::MapLaws::text_length))]
 fn elsif_pass(text: &[u8], map: &mut Buffer, out: &mut Buffer) -> usize
@@ -78,7 +82,7 @@ fn elsif_pass(text: &[u8], map: &mut Buffer, out: &mut Buffer) -> usize
 }
 
 // Pass 3 of a text; `map` takes its map.
-#[tactic(auto, using(spec::proofs::MapLaws::text_length, crate::proofs::StageLaws::limited_gives), unfolding(spec::specs::Body::assign_pass))]
+#[tactic(auto, using(spec::proofs::MapLaws::text_length))]
 fn assign_pass(text: &[u8], map: &mut Buffer, out: &mut Buffer) -> Result<usize, Refusal>
     requires { length text.now ≤ 65536 }
     ensures { Gives (result_of [] (limited (assign_pass text.now))) (finished result) out.new }
@@ -87,7 +91,7 @@ fn assign_pass(text: &[u8], map: &mut Buffer, out: &mut Buffer) -> Result<usize,
 }
 
 // Pass 4 of a text; `map` takes its map of quotes.
-#[tactic(auto, using(crate::proofs::StageLaws::quotes_length, crate::proofs::StageLaws::counted_gives), unfolding(spec::specs::Body::select_pass))]
+#[tactic(auto, using(crate::proofs::StageLaws::quotes_length))]
 fn select_pass(text: &[u8], map: &mut Buffer, out: &mut Buffer) -> Result<usize, Refusal>
     requires { length text.now ≤ 65536 }
     ensures { Gives (result_of [] (limited (select_pass text.now))) (finished result) out.new }
@@ -96,7 +100,7 @@ fn select_pass(text: &[u8], map: &mut Buffer, out: &mut Buffer) -> Result<usize,
 }
 
 // Pass 5 of a text; `map` takes its map.
-#[tactic(auto, using(spec::proofs::MapLaws::text_length, crate::proofs::StageLaws::limited_gives), unfolding(spec::specs::Body::raise_pass))]
+#[tactic(auto, using(spec::proofs::MapLaws::text_length))]
 fn raise_pass(
     text: &[u8],
     actions: Actions,
@@ -111,6 +115,7 @@ fn raise_pass(
 
 // All five passes over the text (the three buffers are parameters of their own, as those of each pass: a pass reads one and writes
 // another, so that a struct would be taken apart at once): each reads the result of the one before, in the buffer where that one left it.
+#[tactic(auto, using(spec::proofs::LengthLaws::requoted_length_lem, spec::proofs::LengthLaws::two_length, crate::proofs::StageLaws::front_of, crate::proofs::StageLaws::given_fits, crate::proofs::StageLaws::done_fits))]
 fn run_passes(
     text: &[u8],
     actions: Actions,

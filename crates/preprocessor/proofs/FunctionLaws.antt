@@ -175,15 +175,23 @@ module _ (xs work work' : List ℕ) (m : work' ≡ kept_behind (map_of xs) work)
       texts_same : d' ≡ d
       texts_same = held_records.refused many.0
 
+    -- the declarations' sizes are within their buffers, whose other bytes stay
+    pub record Sized (q : Result DeclaredSizes Refusal) : Type 0 where
+      pub count : (sizes_of q).records ≤ 512
+      pub small : (sizes_of q).bytes ≤ 65536
+      pub kept : drop 65536 d' ≡ drop 65536 d
+
+    sized : length xs ≤ 16384 → (q : Result DeclaredSizes Refusal) → parsed_of (records_in (marked xs work')) ≡ q → Sized q
+    sized h (Ok p) e = record { count = count_small p e; small = texts_small p e h; kept = texts_kept p e h }
+    sized h (Err f) e = record { count = omega arith; small = omega arith; kept = ap (drop 65536) (texts_same f e) }
+
     -- what the call comes to: with what a table says, what the declarations are read as, and the answer of the passes
     pub record Called (start : ℕ) (t : Result Actions Refusal) (q : Result DeclaredSizes Refusal) (r : Result Accepted Refusal) : Type 0 where
+      pub sizes : Sized q
       pub answer : with_records (sizes_of q).records r ≡ (by_table t (function_result xs)).answer
       pub output : (by_table (passed t q) (body_result (drop start xs))).output ≡ (by_table t (function_result xs)).output
       pub texts : take (if_accepted r (sizes_of q).bytes) d' ≡ (by_table t (function_result xs)).declared
       pub numbers : take (if_accepted r (10 * (sizes_of q).records + 10)) rs' ≡ (by_table t (function_result xs)).records
-      pub count : (sizes_of q).records ≤ 512
-      pub small : (sizes_of q).bytes ≤ 65536
-      pub kept : drop 65536 d' ≡ drop 65536 d
 
     pub called : length xs ≤ 16384 → (start : ℕ) → drop start xs ≡ body_from (first (keyword_here (ascii "BEGIN")) 0 (marked xs work')) xs
         → (t : Result Actions Refusal) (q : Result DeclaredSizes Refusal) (r : Result Accepted Refusal)
@@ -192,42 +200,14 @@ module _ (xs work work' : List ℕ) (m : work' ≡ kept_behind (map_of xs) work)
         → Called start t q r
     called h start b (Ok k) (Ok p) r e a =
         record {
+          sizes = sized h (Ok p) e;
           answer = answer_is p e k start b r a;
           output = output_is p e k start b;
           texts = texts_are p e k start b r a;
           numbers = numbers_are p e k start b r a;
-          count = count_small p e;
-          small = texts_small p e h;
-          kept = texts_kept p e h;
         }
     called h start b (Ok k) (Err f) r e a =
-        let q = refused_is f e k in
-        record {
-          answer = rw (q, a) refl;
-          output = rw q refl;
-          texts = rw (q, a) refl;
-          numbers = rw (q, a) refl;
-          count = omega arith;
-          small = omega arith;
-          kept = ap (drop 65536) (texts_same f e);
-        }
-    called h start b (Err f) (Ok p) r e a =
-        rw a record {
-          answer = refl;
-          output = refl;
-          texts = refl;
-          numbers = refl;
-          count = count_small p e;
-          small = texts_small p e h;
-          kept = texts_kept p e h;
-        }
-    called h start b (Err f) (Err g) r e a =
-        rw a record {
-          answer = refl;
-          output = refl;
-          texts = refl;
-          numbers = refl;
-          count = omega arith;
-          small = omega arith;
-          kept = ap (drop 65536) (texts_same g e);
-        }
+        let g = refused_is f e k in
+        record { sizes = sized h (Err f) e; answer = rw (g, a) refl; output = rw g refl; texts = rw (g, a) refl; numbers = rw (g, a) refl }
+    -- the table is refused: its refusal stands whatever the declarations are
+    called h start b (Err f) q r e a = rw a record { sizes = sized h q e; answer = refl; output = refl; texts = refl; numbers = refl }

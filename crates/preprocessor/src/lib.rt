@@ -117,13 +117,12 @@ fn passed(
 fn sizes_of(parsed: Result<DeclaredSizes, Refusal>) -> DeclaredSizes
     ensures { result ≡ sizes_of parsed }
 {
-    parsed.unwrap_or(DeclaredSizes {
-        records: 0,
-        bytes: 0,
-    })
+    parsed.unwrap_or_default()
 }
 
-// The records, then the passes over the body, and zeros behind what the buffers hold; `work` takes the text's map first.
+// The records, then the passes over the body, and zeros behind what the buffers hold; `work` takes the text's map first. The buffers are
+// parameters of their own, here and in `preprocess_by_table`: each goes to a function of its own, so that a struct would be taken apart
+// at once, and made by each of the calls.
 #[tactic(auto, using(spec::proofs::MapLaws::marked_length))]
 fn run_function(
     text: &[u8],

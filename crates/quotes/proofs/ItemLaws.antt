@@ -14,7 +14,8 @@ use lib.Seq.{take-length, take-take, drop-drop, length-take-le}
 use Rattle.spec.proofs.EndLaws.{drop_end_take}
 use Rattle.spec.proofs.BytesLaws.{bytes_take, bytes_drop, while_length_bytes}
 use Rattle.spec.proofs.AheadLaws.{drop_take}
-use Rattle.spec.proofs.Choice.{by, and_left, and_right}
+use Rattle.std.proofs.lemmas.Bool.{and_parts}
+use Rattle.spec.proofs.Choice.{by}
 use Rattle.spec.proofs.FirstLaws.{first_least}
 use Rattle.spec.proofs.LengthLaws.{pieces_length}
 use Rattle.spec.proofs.RefusalBounds.{bytes_length}
@@ -46,8 +47,8 @@ unfolding comma_here byte_here depth_of
 comma_depth t j h e =
     let d = drop_more t j (live 0) h in
     let p : (is_live_byte 44 (get_or t j (live 0)) && eqb (depth_of (reverse (take j t))) 0) ≡ true = rw d at e in
-    let a = and_left (is_live_byte 44 (get_or t j (live 0))) (eqb (depth_of (reverse (take j t))) 0) p in
-    let z = and_right (is_live_byte 44 (get_or t j (live 0))) (eqb (depth_of (reverse (take j t))) 0) p in
+    let a = (and_parts (is_live_byte 44 (get_or t j (live 0))) (eqb (depth_of (reverse (take j t))) 0) p).0 in
+    let z = (and_parts (is_live_byte 44 (get_or t j (live 0))) (eqb (depth_of (reverse (take j t))) 0) p).1 in
     rw (back_step t j (live 0) h) (after (get_or t j (live 0)) a ∙ eqb-true (depth_of (reverse (take j t))) 0 z)
   where
     after : (x : Marked) → is_live_byte 44 x ≡ true → depth_after x (depth_of (reverse (take j t))) ≡ depth_of (reverse (take j t))
@@ -213,9 +214,9 @@ module _ (t : List Marked) (at j : ℕ) (h : at < length t) (e : j ≡ comma_at 
 
 -- its text, and the parts that are left behind it
 pub item_part : (t : List Marked) (i : ℕ) (p : Item) → FirstItem t i (Some p)
-    → listed (drop i t) ≡ take (p.start + p.len - p.start) (drop p.start t) ∷ listed (drop p.next t)
+    → listed (drop i t) ≡ take (p.place.at + p.place.len - p.place.at) (drop p.place.at t) ∷ listed (drop p.next t)
 item_part t i p h =
-    let n : p.start + p.len - p.start ≡ p.len = omega arith in
+    let n : p.place.at + p.place.len - p.place.at ≡ p.place.len = omega arith in
     rw n h.front
 
 -- ---- the length of all parts, a comma behind each

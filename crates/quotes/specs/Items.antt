@@ -16,5 +16,5 @@ pub record Listed (t : List Marked) (i a k n : ℕ) : Type 0 where
 
 -- the first of those parts, or none
 abbrev pub FirstItem : List Marked → ℕ → Option Item → Type 0
-FirstItem t i (Some p) = Listed t i p.start p.len p.next
+FirstItem t i (Some p) = Listed t i p.place.at p.place.len p.next
 FirstItem t i None = listed (drop i t) ≡ []

@@ -2,19 +2,19 @@
 // A text, a word, a place in the text and the depth there are arguments of their own: one text has many places.
 #![tactic(auto)]
 
-ghost use Rattle.std.specs.Prelude.{◌≡◌, cond, ◌&&◌, reverse, ◌+◌, ◌^◌, ◌≤◌, ◌<◌, eqb, length, get_or, take, drop, None};
+ghost use Rattle.std.specs.Prelude.{◌≡◌, ℕ, Bool, cond, ◌&&◌, reverse, ◌+◌, ◌^◌, ◌≤◌, ◌<◌, eqb, length, get_or, take, drop, None};
 ghost use Rattle.spec.specs.Bytes.{is_ident, is_quote};
 ghost use Rattle.spec.specs.Lists.{is_empty};
 ghost use Rattle.spec.specs.Map.{live, is_live_byte, front_byte};
-ghost use Rattle.spec.specs.Search.{first, word_here};
+ghost use Rattle.spec.specs.Search.{Test, first, word_here};
 ghost use Rattle.spec.specs.SelectInto.{quote_after, quote_walk, depth_after, depth_of, top_word_here, comma_here, listed, place_or};
 ghost use Rattle.spec.specs.Answers.{kept_behind};
 ghost use Rattle.quotes.specs.QuoteMap.{quote_flag, quote_map};
 ghost use Rattle.quotes.specs.Items.{FirstItem};
 ghost use Rattle.quotes.specs.Limits.{limit_next, limit_from};
 
-use classes::{byte_before, upper_of};
-use runs::{Set, run_end, trim};
+use classes::upper_of;
+use runs::{Place, Set, run_end, trim};
 use scanner::MappedText;
 use std::marker::Model;
 
@@ -89,39 +89,34 @@ fn depth_after(text: &MappedText<'_>, i: usize, d: usize) -> usize
 }
 
 // How many parentheses are open before offset `to`.
-#[tactic(auto, using(crate::proofs::DepthLaws::depth_bound, crate::proofs::DepthLaws::depth_front, crate::proofs::DepthLaws::depth_past, crate::proofs::DepthLaws::depth_step), unfolding(spec::specs::SelectInto::depth_of))]
 fn depth_before(text: &MappedText<'_>, to: usize) -> usize
     ensures { result ≡ depth_of (reverse (take to text.now)) }
 {
-    let mut depth: usize = 0;
-    // A loop: the closure of a `fold` would have to ask for a bound of the depth, which holds only by how many bytes are read.
-    for i in 0..to.min(text.len()) {
-        depth = depth_after(text, i, depth);
-    }
-    depth
+    (0..to.min(text.len())).fold(0, |d, i| depth_after(text, i, d))
 }
 
 // Whether `word` stands live at i as a whole word, in any letter case, outside parentheses; d are open before it.
-#[tactic(auto, using(classes::proofs::BackLaws::byte_back))]
 fn top_word_at(text: &MappedText<'_>, word: &[u8], d: usize, i: usize) -> bool
     requires { i < length text.now }
     ensures { result ≡ (word_here is_ident word.now (front_byte (reverse (take i text.now))) (drop i text.now) && eqb d 0) }
 {
-    d == 0 && text.word_at(word, byte_before(text.text(), i), i)
+    d == 0 && text.word_at(word, i)
 }
 
-// The least place at or after `from` where `word` stands so.
-#[tactic(auto, using(spec::proofs::FirstLaws::empty_word, spec::proofs::FirstLaws::nonempty_word, crate::proofs::DepthLaws::depth_bound, crate::proofs::DepthLaws::depth_step, crate::proofs::DepthLaws::top_end, crate::proofs::DepthLaws::top_miss, crate::proofs::DepthLaws::top_hit))]
-pub fn find_top_keyword(text: &MappedText<'_>, word: &[u8], from: usize) -> Option<usize>
-    ensures { result ≡ cond (is_empty word.now) None (first (top_word_here word.now) from text.now) }
+// The least place at or after `from` that passes the test, which is asked of the place and of how many parentheses are open before it.
+#[tactic(auto, using(spec::proofs::WalkLaws::first_end, spec::proofs::WalkLaws::first_hit, spec::proofs::WalkLaws::first_miss, crate::proofs::DepthLaws::depth_bound, crate::proofs::DepthLaws::depth_step))]
+fn find_by_depth<F: Fn(usize, usize) -> bool>(
+    text: &MappedText<'_>,
+    from: usize,
+    test: F,
+) -> Option<usize>
+    requires callable { (i d : ℕ) → i < length text.now → F.pre test i d }
+    ensures { (p : Test) → ((i : ℕ) (r : Bool) → i < length text.now → F.post test i (depth_of (reverse (take i text.now))) r → r ≡ p (reverse (take i text.now)) (drop i text.now)) → result ≡ first p from text.now }
 {
-    if word.is_empty() {
-        return None;
-    }
     let mut depth = depth_before(text, from);
     // A loop, since the depth goes along with the search: a `find` would keep it in a variable that its closure changes.
     for i in from..text.len() {
-        if top_word_at(text, word, depth, i) {
+        if test(i, depth) {
             return Some(i);
         }
         depth = depth_after(text, i, depth);
@@ -129,37 +124,37 @@ pub fn find_top_keyword(text: &MappedText<'_>, word: &[u8], from: usize) -> Opti
     None
 }
 
+// The least place at or after `from` where `word` stands so.
+#[tactic(auto, using(spec::proofs::FirstLaws::empty_word, spec::proofs::FirstLaws::nonempty_word, crate::proofs::DepthLaws::top_at))]
+pub fn find_top_keyword(text: &MappedText<'_>, word: &[u8], from: usize) -> Option<usize>
+    ensures { result ≡ cond (is_empty word.now) None (first (top_word_here word.now) from text.now) }
+{
+    if word.is_empty() {
+        return None;
+    }
+    find_by_depth(text, from, |i, d| top_word_at(text, word, d, i))
+}
+
 // Whether a live comma outside parentheses stands at i, d being open before it.
-#[tactic(auto, using(scanner::proofs::ByteLaws::live_byte))]
 fn is_comma(text: &MappedText<'_>, i: usize, d: usize) -> bool
     requires { i < length text.now }
     ensures { result ≡ (is_live_byte 44 (get_or text.now i (live 0)) && eqb d 0) }
 {
-    text.is_live(i) && text.byte(i) == b',' && d == 0
+    text.is_live_byte(i, b',') && d == 0
 }
 
 // How many bytes stand before the first comma outside parentheses and quotes; all of them if there is none.
-#[tactic(auto, using(crate::proofs::DepthLaws::depth_bound, crate::proofs::DepthLaws::depth_front, crate::proofs::DepthLaws::depth_step, crate::proofs::DepthLaws::comma_end, crate::proofs::DepthLaws::comma_hit, crate::proofs::DepthLaws::comma_miss), unfolding(spec::specs::SelectInto::depth_of))]
+#[tactic(auto, using(crate::proofs::DepthLaws::comma_passes))]
 fn comma_at(text: &MappedText<'_>) -> usize
     ensures { result ≡ place_or (first comma_here 0 text.now) (length text.now) }
 {
-    let mut depth: usize = 0;
-    // A loop for the same reason as in `find_top_keyword`.
-    for i in 0..text.len() {
-        if is_comma(text, i, depth) {
-            return i;
-        }
-        depth = depth_after(text, i, depth);
-    }
-    text.len()
+    find_by_depth(text, 0, |i, d| is_comma(text, i, d)).unwrap_or(text.len())
 }
 
 // The first part of a list.
 #[derive(Clone, Copy)]
 pub struct Item {
-    // Where it starts, and how long it is.
-    pub start: usize,
-    pub len: usize,
+    pub place: Place,
     // Where the search for the one behind it starts.
     pub next: usize,
 }
@@ -180,8 +175,7 @@ pub fn next_item(text: &MappedText<'_>, from: usize) -> Option<Item>
         if len != 0 {
             let start = at + run_end(piece, Set::W, 0);
             return Some(Item {
-                start,
-                len,
+                place: Place { at: start, len },
                 next: end + 1,
             });
         }
@@ -232,9 +226,9 @@ impl<'a> Iterator for Items<'a> {
 
     #[tactic(auto, using(crate::proofs::ItemLaws::item_part))]
     fn next(&mut self) -> Option<MappedText<'a>> {
-        let item = next_item(&self.list, self.from)?;
-        self.from = item.next;
-        Some(self.list.part(item.start, item.start + item.len))
+        let Item { place, next } = next_item(&self.list, self.from)?;
+        self.from = next;
+        Some(self.list.part(place.at, place.at + place.len))
     }
 }
 

@@ -18,7 +18,7 @@ pub struct Counts {
     pub starts: usize,
 }
 
-// Where a word stands, and its length.
+// Where a word stands, and its length. No `From`: neither type is this crate's.
 fn found_word(word: Word<'_>) -> Found {
     Found {
         place: word.place,

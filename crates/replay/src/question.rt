@@ -49,7 +49,8 @@ fn are_starts(starts: &[u32], line: &[u8]) -> bool {
         && fields.next().unwrap_or(&[]).is_empty()
 }
 
-// How much a search writes that is not refused: an output, or the map of n bytes, and the starts of a split.
+// How much a search writes that is not refused: an output, or the map of n bytes, and the starts of a split. Refused is what has a
+// number: searches answer with three types of Result, and what is one type are the numbers that they become.
 fn written(kind: Option<Kind>, got: Numbers, n: usize) -> Counts {
     if got.number != 0 {
         return Counts::default();

@@ -19,8 +19,8 @@ pub const NAMES: [&str; 13] = [
 // How many rows there are.
 pub const COUNT: usize = NAMES.len();
 
-// The row of the lines that ask for no search: a row of the report, and no code for none. A row is counted by its number, as a line
-// of the other list names it; a search's is that of its kind.
+// The rows behind those of the searches: of the lines that ask for no search, of those with lengths of their own, and of the wrong
+// answers. They are places in the report and no codes: an enum of the kinds and these three would only be turned into them.
 pub const UNKNOWN: usize = 10;
 
 pub const LIMITS: usize = 11;

@@ -1,7 +1,8 @@
 // A line `b` or `f` with NUMBER PLACE LENGTH RECORDS: the body call or the function call is made, with a table of levels if the
 // letter is a capital, and its numbers and all lent buffers are compared with what they must be.
-use crate::call::{Buffers, Call, Lent};
-use stored_list::{Fault, Mark, expected, inject, is_filled, is_marked};
+use crate::call::{Buffers, Call, Given, Lent};
+use spec::{Accepted, Refusal};
+use stored_list::{Fault, Mark, Numbers, expected, inject, is_filled, is_marked};
 
 // The fields that hold NUMBER, PLACE, LENGTH and RECORDS.
 const NUMBERS: [usize; 4] = [1, 2, 3, 4];
@@ -23,32 +24,41 @@ const DECLARED: usize = 3;
 
 const RECORDS: usize = 4;
 
-// What a call is given, and what it must leave.
+// What stands for a call that is lent more than there is. It has numbers, since a line of the list can name them: then that is the
+// answer that it expects.
+const NO_CALL: Numbers = Numbers {
+    number: 99,
+    place: 0,
+    length: 0,
+    count: 0,
+};
+
+// What an accepted call must leave in the output, in the declaration text and in the records.
 #[derive(Clone, Copy)]
-pub struct Given<'a> {
-    pub text: &'a [u8],
-    pub table: Option<&'a [u8]>,
+pub struct Results<'a> {
     pub output: &'a [u8],
     pub declared: &'a [u8],
     pub records: &'a [u32],
-    pub lent: Lent,
 }
 
-// Whether a call with this number writes nothing.
-fn writes_nothing(number: usize) -> bool {
-    matches!(number, 1..=3)
+// Whether a call with this answer writes nothing.
+fn writes_nothing(answer: Option<Result<Accepted, Refusal>>) -> bool {
+    matches!(
+        answer,
+        Some(Err(Refusal::TextTooLong | Refusal::NotAscii(_) | Refusal::BufferTooShort))
+    )
 }
 
-// Whether the first `lent` elements are what a call with this number leaves: the result, then zeros, and the mark from `size`
-// on; or the mark alone.
+// Whether the first `lent` elements are what a call leaves: the result, then zeros, and the mark from `size` on; or the mark
+// alone, if it writes nothing.
 fn is_left<T: Mark + Default>(
     buffer: &[T],
     lent: usize,
-    number: usize,
+    untouched: bool,
     res: &[T],
     size: usize,
 ) -> bool {
-    if writes_nothing(number) {
+    if untouched {
         is_marked(buffer, 0, lent)
     } else {
         buffer.starts_with(res)
@@ -58,27 +68,30 @@ fn is_left<T: Mark + Default>(
 }
 
 // Whether the buffers that both calls take are as they must be.
-fn are_left(number: usize, buffers: &Buffers, given: Given<'_>) -> bool {
-    let lent = given.lent;
-    is_left(&buffers.output, lent.output, number, given.output, SIZE)
-        && is_left(&buffers.work, lent.work, number, &[], SIZE)
-        && is_left(&buffers.spare, lent.spare, number, &[], SIZE)
+fn are_left(untouched: bool, buffers: &Buffers, lent: Lent, results: Results<'_>) -> bool {
+    is_left(
+        &buffers.output,
+        lent.output,
+        untouched,
+        results.output,
+        SIZE,
+    ) && is_left(&buffers.work, lent.work, untouched, &[], SIZE)
+        && is_left(&buffers.spare, lent.spare, untouched, &[], SIZE)
 }
 
 // Whether those that the function call takes besides are as they must be.
-fn are_more_left(number: usize, buffers: &Buffers, given: Given<'_>) -> bool {
-    let lent = given.lent;
+fn are_more_left(untouched: bool, buffers: &Buffers, lent: Lent, results: Results<'_>) -> bool {
     is_left(
         &buffers.declared,
         lent.declared,
-        number,
-        given.declared,
+        untouched,
+        results.declared,
         SIZE,
     ) && is_left(
         &buffers.records,
         lent.records,
-        number,
-        given.records,
+        untouched,
+        results.records,
         RECORD_NUMBERS,
     )
 }
@@ -93,14 +106,21 @@ fn inject_all(buffers: &mut Buffers, fault: Option<Fault>) {
 }
 
 // The call of a line, and whether its answer is the line's and its buffers are as they must be, after a place was changed.
-pub fn agrees(call: Call, line: &[u8], given: Given<'_>, fault: Option<Fault>) -> bool {
+pub fn agrees(
+    call: Call,
+    line: &[u8],
+    given: Given<'_>,
+    results: Results<'_>,
+    fault: Option<Fault>,
+) -> bool {
     let mut buffers = Buffers::marked();
-    let got = buffers.make_call(call, given.text, given.table, given.lent);
+    let answer = buffers.rewrite(call, given);
     inject_all(&mut buffers, fault);
-    expected(line, NUMBERS) == Some(got)
-        && are_left(got.number, &buffers, given)
+    let untouched = writes_nothing(answer);
+    expected(line, NUMBERS) == Some(answer.map_or(NO_CALL, |answer| answer.into()))
+        && are_left(untouched, &buffers, given.lent, results)
         && match call {
             Call::Body => true,
-            Call::Function => are_more_left(got.number, &buffers, given),
+            Call::Function => are_more_left(untouched, &buffers, given.lent, results),
         }
 }

@@ -1,23 +1,13 @@
-// The two rewriting calls, with a table of levels or without one, on the front of buffers that hold marks before, and the
-// numbers of their answers.
+// The two rewriting calls, with a table of levels or without one, on the front of buffers that hold marks before.
 use preprocessor::{preprocess, preprocess_by_levels, transform_body, transform_body_by_levels};
 use spec::{Accepted, Refusal};
-use stored_list::{Numbers, START_NUMBERS, TEXT_BYTES, marked};
+use stored_list::{START_NUMBERS, TEXT_BYTES, marked};
 
 #[derive(Clone, Copy)]
 pub enum Call {
     Body,
     Function,
 }
-
-// What stands for a call that is lent more than there is. It has numbers, since a line of the list can name them: then that is the
-// answer that it expects.
-const NO_CALL: Numbers = Numbers {
-    number: 99,
-    place: 0,
-    length: 0,
-    count: 0,
-};
 
 // How many bytes and numbers of the buffers are lent.
 #[derive(Clone, Copy, Default)]
@@ -27,6 +17,14 @@ pub struct Lent {
     pub spare: usize,
     pub declared: usize,
     pub records: usize,
+}
+
+// What a call is given: the text, the table if it has one, and how much of the buffers.
+#[derive(Clone, Copy)]
+pub struct Given<'a> {
+    pub text: &'a [u8],
+    pub table: Option<&'a [u8]>,
+    pub lent: Lent,
 }
 
 // The buffers that the body call is lent, and two more for the function call.
@@ -51,13 +49,8 @@ impl Buffers {
     }
 
     // The call, with the table if there is one; none if more is lent than there is.
-    fn rewrite(
-        &mut self,
-        call: Call,
-        text: &[u8],
-        table: Option<&[u8]>,
-        lent: Lent,
-    ) -> Option<Result<Accepted, Refusal>> {
+    pub fn rewrite(&mut self, call: Call, given: Given<'_>) -> Option<Result<Accepted, Refusal>> {
+        let Given { text, table, lent } = given;
         let output = self.output.get_mut(..lent.output)?;
         let work = self.work.get_mut(..lent.work)?;
         let spare = self.spare.get_mut(..lent.spare)?;
@@ -75,17 +68,5 @@ impl Buffers {
             }
             None => preprocess(text, output, work, spare, declared, records),
         })
-    }
-
-    // The numbers of the call's answer.
-    pub fn make_call(
-        &mut self,
-        call: Call,
-        text: &[u8],
-        table: Option<&[u8]>,
-        lent: Lent,
-    ) -> Numbers {
-        self.rewrite(call, text, table, lent)
-            .map_or(NO_CALL, |answer| answer.into())
     }
 }

@@ -2,8 +2,8 @@
 // table of levels, `e RUNS` the output that the call must leave, `d RUNS` the declaration text and `n NUMBER ..` the record
 // numbers, `l` with five numbers lends buffers of these lengths, `s ROW` names the report's row, and `z BUFFER PLACE` changes a
 // place behind the next call.
-use crate::answer::{Given, agrees};
-use crate::call::{Call, Lent};
+use crate::answer::{Results, agrees};
+use crate::call::{Call, Given, Lent};
 use crate::rows;
 use stored_list::{Fault, NumberList, Replay, Row, Text, count, fault_of, field, note};
 
@@ -64,12 +64,14 @@ impl CallReplay {
         let given = Given {
             text: self.text.as_slice(),
             table: by_levels.then_some(self.table.as_slice()),
+            lent: self.lent,
+        };
+        let results = Results {
             output: self.output.as_slice(),
             declared: self.declared.as_slice(),
             records: self.records.as_slice(),
-            lent: self.lent,
         };
-        let same = agrees(call, line, given, self.fault);
+        let same = agrees(call, line, given, results, self.fault);
         note(&mut self.tally, self.row, same);
         self.fault = None;
     }

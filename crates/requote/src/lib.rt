@@ -33,7 +33,7 @@ fn put_span(written: &mut Writer<'_>, span: &[u8], s: Span)
 }
 
 // The requoted text, as far as `out` reaches; the result is how many bytes it has.
-#[tactic(auto, using(spans::proofs::StepLaws::step_taken, spans::proofs::StepLaws::step_done, crate::proofs::RequoteLaws::requote_turn, crate::proofs::RequoteLaws::inside_within, crate::proofs::RequoteLaws::requoted_over, output::proofs::WriterLaws::left_start, output::proofs::WriterLaws::left_done, output::proofs::WriterLaws::wrote_front))]
+#[tactic(auto, using(spans::proofs::StepLaws::step_taken, spans::proofs::StepLaws::step_done, crate::proofs::RequoteLaws::requote_turn, crate::proofs::RequoteLaws::inside_within, crate::proofs::RequoteLaws::requoted_over, output::proofs::WriterLaws::left_start, output::proofs::WriterLaws::left_done, output::proofs::WriterLaws::wrote_front, spec::proofs::LengthLaws::requoted_length_lem))]
 pub fn requote(text: &[u8], out: &mut [u8]) -> usize
     requires { length text.now ≤ 65536 }
     ensures value { result ≡ length (requoted text.now) }
@@ -78,12 +78,14 @@ fn requoted_span_len(span: &[u8], s: Span) -> usize
 }
 
 // The length of the requoted text.
+#[tactic(auto, using(std::proofs::lemmas::List::take_rest, spec::proofs::RequotedLength::requoted_twice, crate::proofs::RequoteLaws::length_turn, crate::proofs::RequoteLaws::length_plain, crate::proofs::RequoteLaws::length_over, crate::proofs::RequoteLaws::inside_within, spans::proofs::StepLaws::stepped))]
 pub fn requoted_len(text: &[u8]) -> usize
     requires { length text.now ≤ 65536 }
     ensures { result ≡ requoted_length text.now }
 {
     let mut n: usize = 0;
-    // By an index and no `Cursor`: a turn takes a byte that opens nothing, as most do, or a whole span.
+    // By an index: by a `Cursor`, as in `requote`, tried and proved; but each byte then costs a call, and requoting misses its bar in
+    // oracle/speed-run, 1.7 times what it took before it told its length (docs/DECISIONS.md, "Where the requoted length is counted").
     let mut at: usize = 0;
     while at < text.len() {
         // Most bytes open nothing, and such a byte stays as it is.

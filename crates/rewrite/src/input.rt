@@ -13,6 +13,8 @@ pub fn read_text<'a>(file: &mut impl Read, text: &'a mut [u8]) -> io::Result<&'a
     ensures { IfOk result (λ read. length read.now ≤ length text.old) }
 {
     let mut chunk = [0u8; 4096];
+    // Counted beside the buffer: the position of an `io::Cursor` is a u64 that may lie past the end, which would be cast and cut before the
+    // text is handed out.
     let mut n = 0;
     for _turn in 0..u64::MAX {
         let more = file.read(&mut chunk)?;

@@ -11,7 +11,7 @@ ghost use Rattle.runs.specs.Sets.{in_set, trimmed};
 use classes::{is_ident_byte, is_n, is_w};
 
 // Where a piece of a text begins, and how many bytes it has.
-#[derive(Clone, Copy)]
+#[derive(Clone, Copy, Default)]
 pub struct Place {
     pub at: usize,
     pub len: usize,
@@ -36,8 +36,9 @@ impl Place {
     }
 }
 
-// A set of bytes. An enum, and no test as a closure: with it a contract gives a run by the set's name, and what was tried to put each
-// set's loop into the callers took as many instructions (docs/DECISIONS.md, "What the runs cost").
+// A set of bytes. An enum, and no test as a closure, which would be no plainer: with it a contract gives a run by the set's name
+// (`in_set set`), and callers and laws use that. With a closure each contract would speak of all predicates that the closure decides, as
+// that of `MappedText::run_end` in scanner does, which has two callers.
 #[derive(Clone, Copy)]
 pub enum Set {
     W,
@@ -51,9 +52,12 @@ pub enum Set {
     Only(u8),
     // All but this byte.
     Except(u8),
+    // Bytes up to 127.
+    Ascii,
 }
 
 // Whether b is in the set.
+#[tactic(auto, unfolding(spec::specs::Bytes::is_high))]
 fn is_in(set: Set, b: u8) -> bool
     ensures { result ≡ in_set set b }
 {
@@ -65,10 +69,12 @@ fn is_in(set: Set, b: u8) -> bool
         Set::NotWNor(c) => !is_w(b) && b != c,
         Set::Only(c) => b == c,
         Set::Except(c) => b != c,
+        Set::Ascii => b.is_ascii(),
     }
 }
 
 // Where the bytes of the set from `from` on end.
+#[tactic(auto, using(crate::proofs::RunLaws::end_past))]
 pub fn run_end(text: &[u8], set: Set, from: usize) -> usize
     ensures value { result ≡ from + length (take_while (in_set set) (drop from text.now)) }
     ensures upper_bound { from ≤ length text.now → result ≤ length text.now }
@@ -100,6 +106,7 @@ pub fn has(text: &[u8], set: Set) -> bool
 }
 
 // The text without W at both ends.
+#[tactic(auto, using(std::proofs::lemmas::List::take_rest, crate::proofs::RunLaws::trimmed_at))]
 pub fn trim<'a>(text: &'a [u8]) -> &'a [u8]
     ensures { result.now ≡ trimmed text.now }
 {

@@ -1,6 +1,6 @@
 -- The search for a handler goes from keyword to keyword. Assumes nothing.
 use Rattle.std.specs.Prelude.{Some, None}
-use mathlib.Core.Path.{◌≡◌, refl, sym, ap, ◌∙◌}
+use mathlib.Core.Path.{◌≡◌, refl, ◌∙◌}
 use mathlib.Core.Bool.{Bool, true, false, ◌&&◌}
 use mathlib.Core.List.{List}
 use Prim.Native.Nat.{ℕ, ◌+◌, ◌≤◌, ◌<◌}
@@ -9,9 +9,8 @@ use lib.Seq.{drop-drop}
 use Rattle.spec.specs.Bytes.{ascii}
 use Rattle.spec.specs.Map.{Marked}
 use Rattle.spec.specs.Search.{Test, first, keyword_here, next_word, is_word_text, handler_here}
-use Rattle.spec.proofs.Choice.{by}
-use Rattle.spec.proofs.FirstLaws.{apart, first_least, first_none, none_first}
-use Rattle.spec.proofs.WalkLaws.{climb, passes_at, first_end, first_hit, first_miss}
+use Rattle.spec.proofs.FirstLaws.{first_least, first_none, none_first}
+use Rattle.spec.proofs.WalkLaws.{passes_at, first_hit, first_miss, up_to_first}
 
 -- where q passes only if p does, the search for q may go on from the first place that passes p
 module _ (p q : Test) (t : List Marked) (only : (k : ℕ) → passes_at p t k ≡ false → passes_at q t k ≡ false) where
@@ -20,13 +19,7 @@ module _ (p q : Test) (t : List Marked) (only : (k : ℕ) → passes_at p t k �
 
   pub first_from_lem : (i j : ℕ) → first p i t ≡ Some j → first q i t ≡ first q j t
   first_from_lem i j =
-      climb (λ (k : ℕ). first p k t ≡ Some j → first q k t ≡ first q j t) (length t)
-      (λ k h e. apart (first p k t) j e (first_end p t k h))
-      (λ k h more e.
-      by (passes_at p t k)
-      (λ s. let f = first_hit p t k h s in let same : k ≡ j = cc in ap (λ (n : ℕ). first q n t) same)
-      (λ s. first_miss q t k h (only k s) ∙ more (sym (first_miss p t k h s) ∙ e)))
-      i
+      up_to_first p t (λ (k : ℕ). first q k t ≡ first q j t) j (λ h s. refl) (λ k h s e more. first_miss q t k h (only k s) ∙ more) i
 
 abbrev pub keyword : Test
 keyword = keyword_here (ascii "EXCEPTION")

@@ -38,7 +38,7 @@ word_here_lem set w xs ms p i h =
     rw (drop-drop (length w) i (marked xs ms), front_live_lem xs ms i h, starts_case_at w xs ms i, front_byte_lem xs ms (i + length w)) refl
 
 -- the byte before offset i
-byte_behind : (xs ms : List ℕ) (i : ℕ) → i ≤ length xs
+pub byte_behind : (xs ms : List ℕ) (i : ℕ) → i ≤ length xs
     → front_byte (reverse (take i (marked xs ms))) ≡ cond (eqb i 0) 0 (get_or xs (i - 1) 0)
 byte_behind xs ms i h = byte_back (marked xs ms) xs i (sym (marked_bytes xs ms)) (rw marked_length h)
 

@@ -118,6 +118,7 @@ pub fn next_word_in_code<'a>(
     let mapped = MappedText::new(text, map);
     let start = mapped.word_start(from);
     let end = mapped.word_end(start);
+    // By `if`: the closure of a `then` would have to say once more that the ends are in order and within the text.
     if start < end {
         let bytes = &text[start..end];
         Ok(Some(Word {

@@ -11,7 +11,8 @@ use lib.Dec.{eqb, ltb}
 use lib.ListN.{length, take, drop, length-drop}
 use lib.Seq.{drop-length}
 use Rattle.spec.proofs.BytesLaws.{bytes_append, bytes_take, bytes_drop, bytes_end}
-use Rattle.spec.proofs.Choice.{by, and_left}
+use Rattle.std.proofs.lemmas.Bool.{and_parts}
+use Rattle.spec.proofs.Choice.{by}
 use Rattle.spec.proofs.FirstLaws.{first_least}
 use Rattle.spec.proofs.LengthLaws.{word_in}
 use Rattle.spec.proofs.RefusalBounds.{bytes_length}
@@ -35,7 +36,7 @@ unfolding top_word_here
 word_within w t i j e =
     let r = first_least (top_word_here w) t i j e in
     let p = front_byte (reverse (take j t)) in
-    let h = and_left (word_here is_ident w p (drop j t)) (eqb (depth_of (reverse (take j t))) 0) r.passes in
+    let h = (and_parts (word_here is_ident w p (drop j t)) (eqb (depth_of (reverse (take j t))) 0) r.passes).0 in
     let m = starts_length w (drop j t) (word_in is_ident w p (drop j t) h) in
     omega (arith, length-drop j t, r.inside)
 

@@ -141,7 +141,7 @@ fn put_statements(out: &mut Writer<'_>, text: &MappedText<'_>) -> Result<(), Ref
     ensures { WroteWithin out.old (bytes (select_into text.now)) out.new result }
 {
     let mut from: usize = 0;
-    // A `while`, since a turn takes a statement and no iterator gives these.
+    // By hand from one live `;` to the next, for the reason in `assignments`.
     while let Some(at) = text.find_byte(b';', from) {
         let end = at + 1;
         put_statement(out, &text.part(from, end))?;

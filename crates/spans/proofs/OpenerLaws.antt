@@ -7,7 +7,7 @@ use native.Mathlib.Omega.{arith}
 use borrow.Author.Tests.{eqb-false}
 use lib.Dec.{eqb}
 use lib.ListN.{drop, get_or}
-use Rattle.spec.proofs.Choice.{or_left, or_right}
+use Rattle.std.proofs.lemmas.Bool.{or_parts}
 use Rattle.spec.proofs.SpanLaws.{line_le, pair_two, at_line, at_block, at_single, at_double, at_opened, at_code}
 use Rattle.spec.specs.Bytes.{is_pair}
 use Rattle.spec.specs.Spans.{tag_len, opens_dollar, dollar_of, span_at}
@@ -22,14 +22,12 @@ pair_off x y c d e = rw e refl
 pub at_plain : (xs : List ℕ) (c : ℕ) → c ≡ get_or xs 0 0 → opens_span c ≡ false → span_at xs ≡ Code 1
 unfolding opens_span
 at_plain xs c h e =
-    let dash = or_left (eqb c 45) _ e in
-    let behind_dash = or_right (eqb c 45) _ e in
-    let slash = or_left (eqb c 47) _ behind_dash in
-    let behind_slash = or_right (eqb c 47) _ behind_dash in
-    let single = or_left (eqb c 39) _ behind_slash in
-    let quotes = or_right (eqb c 39) _ behind_slash in
-    at_code xs c (get_or xs 1 0) h refl (pair_off 45 45 c _ dash) (pair_off 47 42 c _ slash) (eqb-false c 39 single)
-    (eqb-false c 34 (or_left (eqb c 34) (eqb c 36) quotes)) (eqb-false c 36 (or_right (eqb c 34) (eqb c 36) quotes))
+    let dash = or_parts (eqb c 45) _ e in
+    let slash = or_parts (eqb c 47) _ dash.1 in
+    let single = or_parts (eqb c 39) _ slash.1 in
+    let quotes = or_parts (eqb c 34) (eqb c 36) single.1 in
+    at_code xs c (get_or xs 1 0) h refl (pair_off 45 45 c _ dash.0) (pair_off 47 42 c _ slash.0) (eqb-false c 39 single.0)
+    (eqb-false c 34 quotes.0) (eqb-false c 36 quotes.1)
 
 pub at_sign : (xs : List ℕ) (c : ℕ) → c ≡ get_or xs 0 0 → c ≡ 36
     → span_at xs ≡ cond (opens_dollar xs) (Dollar (dollar_of (2 + tag_len (drop 1 xs)) xs)) (Code 1)

@@ -3,14 +3,13 @@
 #![tactic(auto)]
 
 ghost use Rattle.std.specs.Prelude.{◌≡◌, cond, ◌+◌, ◌≤◌, ◌<◌, length, drop};
-ghost use Rattle.spec.specs.Bytes.{is_prefix};
 ghost use Rattle.spec.specs.Spans.{escapes, quoted_len, block_len, line_len, tag_len, opens_dollar, dollar_of, span_at, span_len};
 ghost use Rattle.spec.specs.declared.Span.TheVariants.{Dollar, Code};
 ghost use Rattle.spans.specs.Openers.{opens_span};
 ghost use Rattle.spans.specs.Places.{seek_place};
 ghost use Rattle.spans.specs.Steps.{step_at};
 
-use classes::{byte_at, is_pair, starts_with};
+use classes::{byte_at, is_pair};
 use runs::{Set, run_end};
 use spec::{DollarQuoted, Span};
 
@@ -31,7 +30,8 @@ fn quoted_len(rest: &[u8], q: u8, escape: bool) -> usize
     if n < 2 {
         return n;
     }
-    // By an index: a turn takes one byte or two.
+    // By an index: a turn takes one byte or two. By slice patterns (`[b, rest @ ..]`) the same branches would stand, each with its rest,
+    // and each length would be the difference of two: no plainer.
     let mut i: usize = 1;
     while i + 1 < n {
         let b = rest[i];
@@ -57,7 +57,7 @@ fn block_comment_len(rest: &[u8]) -> usize
     if n < 2 {
         return n;
     }
-    // By an index: a turn takes one byte or two.
+    // By an index for the reason in `quoted_len`.
     let mut depth: usize = 1;
     let mut i: usize = 2;
     while i + 1 < n {
@@ -88,27 +88,12 @@ fn line_len(rest: &[u8]) -> usize
     (n + 1).min(rest.len())
 }
 
-// Whether `pat`, which is not empty, stands at i. Most places fail at the first byte.
-#[tactic(auto, using(std::proofs::lemmas::List::take_rest, crate::proofs::PlaceLaws::first_differs))]
-fn stands_at(text: &[u8], pat: &[u8], i: usize) -> bool
-    requires pat_nonempty { 0 < length pat.now }
-    requires i_in_bounds { i < length text.now }
-    ensures { result ≡ is_prefix pat.now (drop i text.now) }
-{
-    text[i] == pat[0] && starts_with(&text[i..], pat)
-}
-
 // Where `pat`, which is not empty, stands first in `text`.
 fn seek(text: &[u8], pat: &[u8]) -> Option<usize>
     requires { 0 < length pat.now }
     ensures { result ≡ seek_place pat.now text.now }
 {
-    (0..text.len()).find(
-        |i|
-            requires i_in_bounds { i.now < length text.now }
-            requires pat_nonempty { 0 < length pat.now }
-        { stands_at(text, pat, *i) },
-    )
+    text.windows(pat.len()).position(|w| w == pat)
 }
 
 // Whether a dollar literal opens, its tag being t bytes long.
@@ -122,6 +107,7 @@ fn opens_here(rest: &[u8], t: usize) -> bool
 }
 
 // The literal at the front of `rest` whose opening delimiter has n bytes.
+#[tactic(auto, using(spec::proofs::SpanLaws::seek_stands, crate::proofs::PlaceLaws::found_at), unfolding(spec::specs::Spans::dollar_of))]
 fn dollar_of(rest: &[u8], n: usize) -> DollarQuoted
     requires n_nonzero { 0 < n }
     requires n_in_bounds { n ≤ length rest.now }
@@ -200,8 +186,8 @@ pub fn span_len(s: Span) -> usize
     }
 }
 
-// A place in a text, for a walk from span to span. The project's list of forms (docs/DECISIONS.md) names this one: a cursor by value, whose step takes it
-// and gives the span and the next cursor. The walks move it in a `while let`.
+// A place in a text, for a walk from span to span. The project's list of forms (docs/DECISIONS.md) names this one: a cursor by value,
+// whose step takes it and gives the span and the next cursor. The walks move it in a `while let`.
 #[derive(Clone, Copy)]
 pub struct Cursor {
     pub at: usize,

@@ -1,7 +1,7 @@
 -- The first kind of qualified target: the walk for a live `:=` with `q.n` before it finds the leftmost such place, and none
 -- exactly if there is none. Assumes nothing.
 use Rattle.std.specs.Prelude.{Option, Some, None}
-use Rattle.std.proofs.lemmas.Bool.{cond_both, and_from}
+use Rattle.std.proofs.lemmas.Bool.{cond_both, and_from, and_parts}
 use Rattle.std.proofs.lemmas.List.{drop_more}
 use mathlib.Core.Path.{◌≡◌, refl, sym, ap, ◌∙◌}
 use mathlib.Core.Bool.{Bool, true, false, cond, not, ◌&&◌, false≢true}
@@ -13,7 +13,7 @@ use borrow.Author.Tests.{eqb-true, eqb-false, eq-eqb, ne_eqb, not-true}
 use lib.Dec.{eqb}
 use lib.ListN.{length, take, drop, get_or, drop_of_length-le}
 use Rattle.spec.proofs.Apart.{apart}
-use Rattle.spec.proofs.Choice.{by, and_left, and_right}
+use Rattle.spec.proofs.Choice.{by}
 use Rattle.spec.proofs.FirstTarget.{Exactly, choice_exactly, walk_exactly, walk_none}
 use Rattle.spec.proofs.ListLaws.{empty_length}
 use Rattle.spec.proofs.RefusalBounds.{bytes_length}
@@ -50,9 +50,9 @@ assign_says t i = (sound, complete)
     sound : needle_here (ascii ":=") (reverse (take i t)) (drop i t) ≡ true → IsAssignAt t i
     sound h =
         let e = sym here ∙ h in
-        let q = eqb-true (get_or (flags t) i 1) 0 (and_left l m e) in
+        let q = eqb-true (get_or (flags t) i 1) 0 ((and_parts l m e).0) in
         let h : i ≤ length (bytes t) = omega (arith, live_inside (flags t) i q, flags_length t) in
-        let s = prefix_at (λ (b : ℕ). b) (ascii ":=") (bytes t) i h (and_right l m e) in
+        let s = prefix_at (λ (b : ℕ). b) (ascii ":=") (bytes t) i h ((and_parts l m e).1) in
         let z : i ≡ i + 0 = omega arith in
         let colon = ap (λ (k : ℕ). byte_at t k) z ∙ s.same 0 (omega arith) in
         record { is_live_lem = q; colon = colon; equals = s.same 1 (omega arith) }
@@ -135,11 +135,11 @@ module _ (t : List Marked) (i m s a : ℕ) (h : i ≤ length t) (w : Behind is_w
         let one = not (eqb (m - s) 0) in
         let two = eqb (front_byte (reverse (take s t))) 46 in
         let three = not (eqb (s - 1 - a) 0) in
-        let rest = and_right one (two && three) e in
-        let some_name : s < m = omega (arith, eqb-false (m - s) 0 (not-true (eqb (m - s) 0) (and_left one (two && three) e))) in
-        let some_qualifier : a < s - 1 = omega (arith, eqb-false (s - 1 - a) 0 (not-true (eqb (s - 1 - a) 0) (and_right two three rest))) in
+        let rest = (and_parts one (two && three) e).1 in
+        let some_name : s < m = omega (arith, eqb-false (m - s) 0 (not-true (eqb (m - s) 0) ((and_parts one (two && three) e).0))) in
+        let some_qualifier : a < s - 1 = omega (arith, eqb-false (s - 1 - a) 0 (not-true (eqb (s - 1 - a) 0) ((and_parts two three rest).1))) in
         let front = byte_behind t s (omega arith) (omega (arith, w.upto, n.upto)) in
-        let is_dot = sym front ∙ eqb-true (front_byte (reverse (take s t))) 46 (and_left two three rest) in
+        let is_dot = sym front ∙ eqb-true (front_byte (reverse (take s t))) 46 ((and_parts two three rest).0) in
         built r some_name some_qualifier is_dot (omega arith) g
 
     complete : (r : Target) → IsNameBefore t i r → (test ≡ true) × (r ≡ found)

@@ -7,7 +7,8 @@ use Prim.Native.Nat.{ℕ, ◌+◌, ◌-◌, ◌≤◌, ◌<◌}
 use native.Mathlib.Omega.{arith}
 use borrow.Author.Tests.{leb-true, le-leb, lt-ltb, le-ltb, eqb-true, not-true, not-false}
 use lib.Dec.{eqb, leb}
-use Rattle.spec.proofs.Choice.{by, and_left, and_right, or_left, or_second, or_cases}
+use Rattle.std.proofs.lemmas.Bool.{and_parts, or_parts, or_right}
+use Rattle.spec.proofs.Choice.{by, or_cases}
 use Rattle.spec.specs.Bytes.{within, is_digit, is_lower, is_upper, is_ident, is_word, is_w, is_n, is_high, upper}
 
 -- ---- the bytes that the definitions name
@@ -46,8 +47,8 @@ none f (n ∷ l) = not (f n) && none f l
 none_of : (f : ℕ → Bool) (l : List ℕ) (c : ℕ) → none f l ≡ true → one_of l c ≡ true → f c ≡ false
 none_of f [] c e h = absurd (false≢true h)
 none_of f (n ∷ l) c e h =
-    or_cases (eqb c n) (one_of l c) h (λ q. ap f (eqb-true c n q) ∙ not-true (f n) (and_left (not (f n)) (none f l) e))
-    (λ q. none_of f l c (and_right (not (f n)) (none f l) e) q)
+    or_cases (eqb c n) (one_of l c) h (λ q. ap f (eqb-true c n q) ∙ not-true (f n) ((and_parts (not (f n)) (none f l) e).0))
+    (λ q. none_of f l c ((and_parts (not (f n)) (none f l) e).1) q)
 
 pub sign_not_ident : (c : ℕ) → is_sign c ≡ true → is_ident c ≡ false
 unfolding is_ident is_lower is_upper is_digit within
@@ -72,7 +73,7 @@ letter_ident c h =
 
 range : (lo hi c : ℕ) → within lo hi c ≡ true → (lo ≤ c) × (c ≤ hi)
 unfolding within
-range lo hi c e = (leb-true lo c (and_left (leb lo c) (leb c hi) e), leb-true c hi (and_right (leb lo c) (leb c hi) e))
+range lo hi c e = (leb-true lo c ((and_parts (leb lo c) (leb c hi) e).0), leb-true c hi ((and_parts (leb lo c) (leb c hi) e).1))
 
 -- an identifier byte is at least 48, a byte of W at most 32
 ident_least : (c : ℕ) → is_ident c ≡ true → 48 ≤ c
@@ -98,7 +99,7 @@ w_not_ident c h = by (is_ident c) (λ e. absurd (omega (arith, ident_least c e, 
 -- N is part of W
 pub n_w : (c : ℕ) → is_n c ≡ true → is_w c ≡ true
 unfolding is_n
-n_w c h = and_left (is_w c) (not (eqb c 11)) h
+n_w c h = (and_parts (is_w c) (not (eqb c 11)) h).0
 
 pub not_n : (c : ℕ) → is_w c ≡ false → is_n c ≡ false
 unfolding is_n
@@ -106,7 +107,7 @@ not_n c h = rw h refl
 
 pub not_word : (c : ℕ) → is_word c ≡ false → is_ident c ≡ false
 unfolding is_word
-not_word c h = or_left (is_ident c) (eqb c 36) h
+not_word c h = (or_parts (is_ident c) (eqb c 36) h).0
 
 pub sign_not_word : (c : ℕ) → is_sign c ≡ true → eqb c 36 ≡ false → is_word c ≡ false
 unfolding is_word
@@ -145,8 +146,8 @@ upper_cases P c n e a b =
 -- a byte that is a capital letter but for its case is an identifier byte
 pub capital_ident : (c n : ℕ) → is_capital n ≡ true → upper c ≡ n → is_ident c ≡ true
 capital_ident c n h e =
-    let least = leb-true 65 n (and_left (leb 65 n) (leb n 90) h) in
-    let most = leb-true n 90 (and_right (leb 65 n) (leb n 90) h) in
+    let least = leb-true 65 n ((and_parts (leb 65 n) (leb n 90) h).0) in
+    let most = leb-true n 90 ((and_parts (leb 65 n) (leb n 90) h).1) in
     let small : is_letter (n + 32) ≡ true = rw (le-leb 97 (n + 32) (omega arith), le-leb (n + 32) 122 (omega arith)) refl in
-    let large : is_letter n ≡ true = or_second (leb 97 n && leb n 122) (is_capital n) h in
+    let large : is_letter n ≡ true = or_right (leb 97 n && leb n 122) (is_capital n) h in
     upper_cases (λ (m : ℕ). is_ident m ≡ true) c n e (letter_ident n large) (letter_ident (n + 32) small)

@@ -1,6 +1,6 @@
 -- The chain of the declaration records: it visits each record once, in rising byte order of names. Assumes nothing.
 use mathlib.Core.Option as maybe
-use Rattle.std.proofs.lemmas.Bool.{and_from}
+use Rattle.std.proofs.lemmas.Bool.{and_from, and_parts, or_parts}
 use mathlib.Core.Path.{◌≡◌, refl, sym, ap, ◌∙◌}
 use mathlib.Core.Bool.{Bool, true, false, cond, not, ◌&&◌, ◌||◌, false≢true}
 use mathlib.Core.List.{List, [], ◌∷◌, map}
@@ -10,7 +10,7 @@ use native.Mathlib.Omega.{arith}
 use borrow.Author.Tests.{not-true, eqb-true, eqb-false, eq-eqb, ne_eqb}
 use lib.Dec.{eqb}
 use lib.ListN.{length, get_or, get_elem?}
-use Rattle.spec.proofs.Choice.{by, and_left, and_right, or_left, or_right}
+use Rattle.spec.proofs.Choice.{by}
 use Rattle.spec.proofs.NameOrder.{same_sym, before_irrefl, before_trans, by_order}
 use Rattle.spec.proofs.RecordLaws.{named, distinct, names, length_names, number_at, number_next}
 use Rattle.spec.specs.Bytes.{is_same, is_before}
@@ -57,8 +57,8 @@ count_all (x ∷ l) = ap suc (count_all l)
 not_named : (n : List ℕ) (ds : List Declared) (k : ℕ) → any (named n) ds ≡ false → k < length ds → is_same n (get_or (names ds) k []) ≡ false
 unfolding any names
 not_named n [] k h b = absurd (not-suc-le-zero b)
-not_named n (d ∷ ds) zero h b = or_left (is_same n d.name) (any (named n) ds) h
-not_named n (d ∷ ds) (suc k) h b = not_named n ds k (or_right (is_same n d.name) (any (named n) ds) h) (le_of_suc-le-suc b)
+not_named n (d ∷ ds) zero h b = (or_parts (is_same n d.name) (any (named n) ds) h).0
+not_named n (d ∷ ds) (suc k) h b = not_named n ds k ((or_parts (is_same n d.name) (any (named n) ds) h).1) (le_of_suc-le-suc b)
 
 -- where names are different, the same name is at the same place
 pub distinct_place : (ds : List Declared) (j k : ℕ) → distinct ds ≡ true → j < length ds → k < length ds
@@ -67,13 +67,13 @@ unfolding distinct names
 distinct_place [] j k h b c e = absurd (not-suc-le-zero b)
 distinct_place (d ∷ ds) zero zero h b c e = refl
 distinct_place (d ∷ ds) zero (suc k) h b c e =
-    let new = not-true (any (named d.name) ds) (and_left (not (any (named d.name) ds)) (distinct ds) h) in
+    let new = not-true (any (named d.name) ds) ((and_parts (not (any (named d.name) ds)) (distinct ds) h).0) in
     absurd (false≢true (sym (not_named d.name ds k new (le_of_suc-le-suc c)) ∙ e))
 distinct_place (d ∷ ds) (suc j) zero h b c e =
-    let new = not-true (any (named d.name) ds) (and_left (not (any (named d.name) ds)) (distinct ds) h) in
+    let new = not-true (any (named d.name) ds) ((and_parts (not (any (named d.name) ds)) (distinct ds) h).0) in
     absurd (false≢true (sym (not_named d.name ds j new (le_of_suc-le-suc b)) ∙ same_sym (get_or (names ds) j []) d.name e))
 distinct_place (d ∷ ds) (suc j) (suc k) h b c e =
-    ap suc (distinct_place ds j k (and_right (not (any (named d.name) ds)) (distinct ds) h) (le_of_suc-le-suc b) (le_of_suc-le-suc c) e)
+    ap suc (distinct_place ds j k ((and_parts (not (any (named d.name) ds)) (distinct ds) h).1) (le_of_suc-le-suc b) (le_of_suc-le-suc c) e)
 
 -- ---- the first in order
 

@@ -3,7 +3,7 @@
 -- Assumes nothing.
 use mathlib.Core.Option as maybe
 use Rattle.std.specs.Prelude.{Option, Some, None}
-use Rattle.std.proofs.lemmas.Bool.{and_from}
+use Rattle.std.proofs.lemmas.Bool.{and_from, and_parts}
 use mathlib.Core.Path.{◌≡◌, refl, sym, ap, ◌∙◌}
 use mathlib.Core.Bool.{Bool, true, false, cond, ◌&&◌, and-true, false≢true}
 use mathlib.Core.List.{List, [], ◌∷◌, ◌++◌, map, append-nil, map-append}
@@ -15,7 +15,7 @@ use lib.Dec.{eqb}
 use lib.ListN.{length, take, drop, get_elem?, length-append, take-append-drop}
 use lib.Seq.{drop_at}
 use Rattle.spec.proofs.Apart.{apart}
-use Rattle.spec.proofs.Choice.{by, made_some, made_none, and_left, and_right}
+use Rattle.spec.proofs.Choice.{by, made_some, made_none}
 use Rattle.spec.proofs.ListLaws.{empty_nil, concat_append}
 use Rattle.spec.proofs.RecordLaws.{record_named, part_declares, last_named, parts_of, records_named}
 use Rattle.spec.specs.Bytes.{ascii, upper, is_lower, within}
@@ -38,7 +38,7 @@ first_is : (a : List ℕ) (texts : List (List ℕ)) (ws : List (List Marked)) �
     → (w : List Marked) × (us : List (List Marked)) × (ws ≡ w ∷ us) × (is_word_text a w ≡ true) × (are_words texts us ≡ true)
 unfolding are_words
 first_is a texts [] h = absurd (false≢true h)
-first_is a texts (w ∷ us) h = (w, us, refl, and_left (is_word_text a w) (are_words texts us) h, and_right (is_word_text a w) (are_words texts us) h)
+first_is a texts (w ∷ us) h = (w, us, refl, (and_parts (is_word_text a w) (are_words texts us) h).0, (and_parts (is_word_text a w) (are_words texts us) h).1)
 
 -- words that are two texts
 two_are : (a b : List ℕ) (ws : List (List Marked)) → are_words (a ∷ b ∷ []) ws ≡ true
@@ -184,7 +184,7 @@ pub word_is : (a : List ℕ) (w : List Marked) → is_word_text a w ≡ true →
 unfolding is_word_text
 word_is a w h =
     let e = eqb (length w) (length a) in
-    (eqb-true (length w) (length a) (and_left e (starts_ignoring_case a w) h), and_right e (starts_ignoring_case a w) h)
+    (eqb-true (length w) (length a) ((and_parts e (starts_ignoring_case a w) h).0), (and_parts e (starts_ignoring_case a w) h).1)
 
 -- words that are NOT NULL, or none: CONSTANT is not in front, and ahead of NOT NULL is nothing
 nothing_ahead : (m : Bool) (ws : List (List Marked)) → are_words (not_null_texts m) ws ≡ true → (is_constant ws ≡ false) × (ahead_of_not_null ws ≡ [])
@@ -259,8 +259,8 @@ word_capitals [] (x ∷ w) l h = absurd (omega arith)
 word_capitals (b ∷ a) [] l h = absurd (omega arith)
 word_capitals (b ∷ a) (x ∷ w) l h =
     let p = eqb (upper (byte x)) (upper b) in
-    let e = eqb-true (upper (byte x)) (upper b) (and_left p (starts_ignoring_case a w) h) in
-    let m = word_capitals a w (omega arith) (and_right p (starts_ignoring_case a w) h) in
+    let e = eqb-true (upper (byte x)) (upper b) ((and_parts p (starts_ignoring_case a w) h).0) in
+    let m = word_capitals a w (omega arith) ((and_parts p (starts_ignoring_case a w) h).1) in
     cc
 
 are_capitals : (texts : List (List ℕ)) (ws : List (List Marked)) → are_words texts ws ≡ true → map (map upper) (map bytes ws) ≡ map (map upper) texts

@@ -8,9 +8,7 @@ use mathlib.Core.List.{List, [], ◌∷◌}
 use Prim.Native.Nat.{ℕ, suc, ◌+◌, ◌-◌, ◌≤◌, ◌<◌}
 use native.Mathlib.Omega.{arith}
 use lib.ListN.{length, take, drop, get_or, drop_of_length-le}
-use Rattle.spec.proofs.Choice.{by}
-use Rattle.spec.proofs.FirstLaws.{apart}
-use Rattle.spec.proofs.WalkLaws.{climb, passes_at, first_end, first_hit, first_miss, first_within}
+use Rattle.spec.proofs.WalkLaws.{passes_at, first_within, up_to_first, up_to_end}
 use Rattle.spec.specs.Map.{Marked, live}
 use Rattle.spec.specs.Search.{Test, first}
 
@@ -22,32 +20,19 @@ module _ {B : Type 0} (put : List Marked → B → B)
   where
     pub copied : (i j : ℕ) → first p i t ≡ Some j → made i ≡ put (take (j - i) (drop i t)) (made j)
     copied i j =
-        climb (λ (k : ℕ). first p k t ≡ Some j → made k ≡ put (take (j - k) (drop k t)) (made j)) (length t)
-        (λ k h e. apart (first p k t) j e (first_end p t k h))
-        (λ k h rest e.
-        by (passes_at p t k)
-        (λ q.
-        let f = first_hit p t k h q in
-        let same : k ≡ j = cc in
-        let zero : j - k ≡ 0 = omega arith in
-        rw zero (ap made same ∙ sym (none (made j))))
-        (λ q.
-        let r : first p (k + 1) t ≡ Some j = sym (first_miss p t k h q) ∙ e in
-        let b = first_within p t (k + 1) j r in
+        up_to_first p t (λ (k : ℕ). made k ≡ put (take (j - k) (drop k t)) (made j)) j
+        (λ h q. let zero : j - j ≡ 0 = omega arith in rw zero (sym (none (made j))))
+        (λ k h q e rest.
+        let b = first_within p t (k + 1) j e in
         let one : j - k ≡ suc (j - (k + 1)) = omega arith in
         rw (one, drop_more t k (live 0) h)
-        (copies k h q ∙ (ap (put (get_or t k (live 0) ∷ [])) (rest r) ∙ sym (more _ _ _)))))
+        (copies k h q ∙ (ap (put (get_or t k (live 0) ∷ [])) rest ∙ sym (more _ _ _))))
         i
 
     -- where none passes, all of it is copied, and past the end stands b
     pub copied_all : (b : B) → ((k : ℕ) → length t ≤ k → made k ≡ b) → (i : ℕ) → first p i t ≡ None → made i ≡ put (drop i t) b
     copied_all b ends i =
-        climb (λ (k : ℕ). first p k t ≡ None → made k ≡ put (drop k t) b) (length t)
-        (λ k h e. rw (drop_of_length-le t h) (ends k h ∙ sym (none b)))
-        (λ k h rest e.
-        by (passes_at p t k)
-        (λ q. apart (first p k t) k (first_hit p t k h q) e)
-        (λ q.
-        rw (drop_more t k (live 0) h)
-        (copies k h q ∙ (ap (put (get_or t k (live 0) ∷ [])) (rest (sym (first_miss p t k h q) ∙ e)) ∙ sym (more _ _ _)))))
+        up_to_end p t (λ (k : ℕ). made k ≡ put (drop k t) b)
+        (λ k h. rw (drop_of_length-le t h) (ends k h ∙ sym (none b)))
+        (λ k h q e rest. rw (drop_more t k (live 0) h) (copies k h q ∙ (ap (put (get_or t k (live 0) ∷ [])) rest ∙ sym (more _ _ _))))
         i

@@ -1,7 +1,7 @@
 -- Note 2 in its own words: a default begins behind the leftmost default key of its part, and a part that has none has no
 -- default. The test passes exactly where a predicate on offsets holds, so the search finds the leftmost. Assumes nothing.
 use Rattle.std.specs.Prelude.{Option, Some, None}
-use Rattle.std.proofs.lemmas.Bool.{and_from}
+use Rattle.std.proofs.lemmas.Bool.{and_from, and_parts, or_left, or_right}
 use mathlib.Core.Path.{◌≡◌, refl, sym, ap, ◌∙◌}
 use mathlib.Core.Bool.{Bool, true, false, not, ◌&&◌}
 use mathlib.Core.List.{List, [], ◌∷◌, reverse}
@@ -13,7 +13,7 @@ use lib.Dec.{eqb}
 use lib.ListN.{length, take, drop, get_or}
 use Rattle.spec.proofs.Apart.{apart}
 use Rattle.spec.proofs.AssignTargets.{assign_says}
-use Rattle.spec.proofs.Choice.{made_some, and_left, and_right, or_cases, or_first, or_second}
+use Rattle.spec.proofs.Choice.{made_some, or_cases}
 use Rattle.spec.proofs.EqualsTargets.{lone_says}
 use Rattle.spec.proofs.FirstLaws.{Says, found_least, least_found, found_none, none_found}
 use Rattle.spec.proofs.MarkingWords.{word_says}
@@ -79,12 +79,12 @@ module _ (t : List Marked) (k : ℕ) where
 
       sound : (l && (m && not (eqb p 61))) ≡ true → IsEqualsAt t k
       sound h =
-          let rest = and_right l (m && not (eqb p 61)) h in
-          let lone = (lone_says t k).0 (and_left m (not (eqb p 61)) rest) in
-          let other = eqb-false p 61 (not-true (eqb p 61) (and_right m (not (eqb p 61)) rest)) in
+          let rest = (and_parts l (m && not (eqb p 61)) h).1 in
+          let lone = (lone_says t k).0 ((and_parts m (not (eqb p 61)) rest).0) in
+          let other = eqb-false p 61 (not-true (eqb p 61) ((and_parts m (not (eqb p 61)) rest).1)) in
           let inside = byte_inside t k (omega (arith, lone.equals)) in
           record {
-            is_live_lem = eqb-true (get_or (flags t) k 1) 0 (sym live_front ∙ and_left l (m && not (eqb p 61)) h);
+            is_live_lem = eqb-true (get_or (flags t) k 1) 0 (sym live_front ∙ (and_parts l (m && not (eqb p 61)) h).0);
             operator = lone;
             not_before = λ z e. other (byte_behind t k z (omega arith) ∙ e);
           }
@@ -107,13 +107,13 @@ module _ (t : List Marked) (k : ℕ) where
 
   pub key_complete : (n : ℕ) → IsDefaultKey t k n → passes_at default_here t k ≡ true
   unfolding default_here keyword_here
-  key_complete _ (assign r) = or_first (assign_here (reverse (take k t)) (drop k t)) _ ((assign_says t k).1 r)
+  key_complete _ (assign r) = or_left (assign_here (reverse (take k t)) (drop k t)) _ ((assign_says t k).1 r)
   key_complete _ (equals r) =
-      or_second (assign_here (reverse (take k t)) (drop k t)) _
-      (or_first (equals_here (reverse (take k t)) (drop k t)) _ (equals_says.1 r))
+      or_right (assign_here (reverse (take k t)) (drop k t)) _
+      (or_left (equals_here (reverse (take k t)) (drop k t)) _ (equals_says.1 r))
   key_complete _ (word r) =
-      or_second (assign_here (reverse (take k t)) (drop k t)) _
-      (or_second (equals_here (reverse (take k t)) (drop k t)) _ ((word_says t (ascii "DEFAULT") k).1 r))
+      or_right (assign_here (reverse (take k t)) (drop k t)) _
+      (or_right (equals_here (reverse (take k t)) (drop k t)) _ ((word_says t (ascii "DEFAULT") k).1 r))
 
   key_live : (n : ℕ) → IsDefaultKey t k n → IsLiveAt t k
   key_live _ (assign r) = r.is_live_lem

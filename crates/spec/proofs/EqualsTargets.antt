@@ -11,7 +11,8 @@ use borrow.Author.Tests.{eqb-true, eqb-false, eq-eqb, ne_eqb, not-true}
 use lib.Dec.{eqb}
 use lib.ListN.{drop, get_or}
 use lib.Seq.{drop-drop}
-use Rattle.spec.proofs.Choice.{by, and_left, and_right, or_left, or_right}
+use Rattle.std.proofs.lemmas.Bool.{and_parts, or_parts}
+use Rattle.spec.proofs.Choice.{by}
 use Rattle.spec.proofs.FirstTarget.{Exactly, choice_exactly, none_exactly}
 use Rattle.spec.proofs.ListLaws.{empty_length}
 use Rattle.spec.proofs.RunPlaces.{byte_ahead, byte_inside, Ahead, end_from, ahead, end_same}
@@ -51,11 +52,11 @@ lone_says t i = (sound, complete)
     sound : lone_equals (drop i t) ≡ true → IsLoneEqualsAt t i
     sound h =
         let e = sym (lone_at t i) ∙ h in
-        let n = not-true (double || arrow) (and_right one (not (double || arrow)) e) in
+        let n = not-true (double || arrow) ((and_parts one (not (double || arrow)) e).1) in
         record {
-          equals = eqb-true (byte_at t i) 61 (and_left one (not (double || arrow)) e);
-          not_double = eqb-false (byte_at t (i + 1)) 61 (or_left double arrow n);
-          not_arrow = eqb-false (byte_at t (i + 1)) 62 (or_right double arrow n);
+          equals = eqb-true (byte_at t i) 61 ((and_parts one (not (double || arrow)) e).0);
+          not_double = eqb-false (byte_at t (i + 1)) 61 ((or_parts double arrow n).0);
+          not_arrow = eqb-false (byte_at t (i + 1)) 62 ((or_parts double arrow n).1);
         }
 
     complete : IsLoneEqualsAt t i → lone_equals (drop i t) ≡ true
@@ -115,12 +116,12 @@ module _ (t : List Marked) (from a d e i : ℕ) (w : Ahead is_n t from a) (q : A
         let two = eqb (byte_at t d) 46 in
         let three = not (eqb (e - (d + 1)) 0) in
         let four = lone_equals (drop i t) in
-        let some_qualifier = eqb-false (d - a) 0 (not-true (eqb (d - a) 0) (and_left one (two && (three && four)) h)) in
-        let behind_one = and_right one (two && (three && four)) h in
-        let is_dot = eqb-true (byte_at t d) 46 (and_left two (three && four) behind_one) in
-        let behind_two = and_right two (three && four) behind_one in
-        let some_name = eqb-false (e - (d + 1)) 0 (not-true (eqb (e - (d + 1)) 0) (and_left three four behind_two)) in
-        let lone = (lone_says t i).0 (and_right three four behind_two) in
+        let some_qualifier = eqb-false (d - a) 0 (not-true (eqb (d - a) 0) ((and_parts one (two && (three && four)) h).0)) in
+        let behind_one = (and_parts one (two && (three && four)) h).1 in
+        let is_dot = eqb-true (byte_at t d) 46 ((and_parts two (three && four) behind_one).0) in
+        let behind_two = (and_parts two (three && four) behind_one).1 in
+        let some_name = eqb-false (e - (d + 1)) 0 (not-true (eqb (e - (d + 1)) 0) ((and_parts three four behind_two).0)) in
+        let lone = (lone_says t i).0 ((and_parts three four behind_two).1) in
         let dot_inside = byte_inside t d (omega (arith, is_dot)) in
         let longer : a < d = omega (arith, some_qualifier) in
         record {

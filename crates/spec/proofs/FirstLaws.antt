@@ -1,8 +1,9 @@
 -- The search for the first place that passes a test, for every test: it gives the least such offset at or after the
 -- starting one, and none exactly if there is none. Assumes nothing.
+use Rattle.std.proofs.lemmas.Option.{none-some}
 use Rattle.std.specs.Prelude.{Option, Some, None}
 use Rattle.std.proofs.lemmas.Bool.{false_from_ne_true}
-use mathlib.Core.Path.{◌≡◌, refl, sym, ap, ◌∙◌}
+use mathlib.Core.Path.{◌≡◌, refl, ap, ◌∙◌}
 use mathlib.Core.Bool.{true, false, cond}
 use mathlib.Core.List.{List, [], ◌∷◌}
 use mathlib.Core.Logic.{◌⊎◌, inl, inr}
@@ -12,7 +13,7 @@ use borrow.Author.Tests.{eqb-true, eqb-false, both_ways}
 use lib.Dec.{eqb}
 use lib.ListN.{length}
 use Rattle.spec.proofs.Choice.{by}
-use Rattle.spec.proofs.WalkLaws.{climb, passes_at, first_end, first_hit, first_miss}
+use Rattle.spec.proofs.WalkLaws.{climb, passes_at, first_end, first_hit, first_miss, up_to_first, up_to_end}
 use Rattle.spec.specs.Lists.{is_empty}
 use Rattle.spec.specs.Map.{Marked}
 use Rattle.spec.specs.Search.{Test, first}
@@ -28,35 +29,19 @@ pub record Least (p : Test) (i : ℕ) (t : List Marked) (j : ℕ) : Type 0 where
 split : (P : ℕ → Type 0) (i k : ℕ) → P i → (i + 1 ≤ k → P k) → i ≤ k → P k
 split P i k here more h = by (eqb k i) (λ e. rw (eqb-true k i e) here) (λ e. more (omega (arith, eqb-false k i e)))
 
--- a place and none are apart
-pub apart : {A : Type 0} (f : Option ℕ) (j : ℕ) → f ≡ Some j → f ≡ None → A
-apart f j e n = let z : ◌≡◌ {A = ℕ} 0 1 = cc in absurd (omega arith)
-
 module _ (p : Test) (t : List Marked) where
   -- what is found is the least place
   pub first_least : (i j : ℕ) → first p i t ≡ Some j → Least p i t j
   first_least i j =
-      climb (λ (k : ℕ). first p k t ≡ Some j → Least p k t j) (length t)
-      (λ k h e. apart (first p k t) j e (first_end p t k h))
-      (λ k h more e.
-      by (passes_at p t k)
-      (λ q.
-      let f = first_hit p t k h q in
-      let same : k ≡ j = cc in
-      record {
-        from = omega arith;
-        inside = omega arith;
-        passes = rw same at q;
-        least = λ m a b. absurd (omega arith);
-      })
-      (λ q.
-      let r = more (sym (first_miss p t k h q) ∙ e) in
+      up_to_first p t (λ (k : ℕ). Least p k t j) j
+      (λ h q. record { from = omega arith; inside = h; passes = q; least = λ m a b. absurd (omega arith) })
+      (λ k h q e r.
       record {
         from = omega (arith, r.from);
         inside = r.inside;
         passes = r.passes;
         least = λ m a b. split (λ (n : ℕ). passes_at p t n ≡ false) k m q (λ c. r.least m c b) a;
-      }))
+      })
       i
 
   -- the least place is found
@@ -78,12 +63,9 @@ module _ (p : Test) (t : List Marked) where
   -- where none is found, none passes
   pub first_none : (i : ℕ) → first p i t ≡ None → (k : ℕ) → i ≤ k → k < length t → passes_at p t k ≡ false
   first_none i =
-      climb (λ (m : ℕ). first p m t ≡ None → (k : ℕ) → m ≤ k → k < length t → passes_at p t k ≡ false) (length t)
-      (λ m h e k a b. absurd (omega arith))
-      (λ m h more e k a b.
-      by (passes_at p t m)
-      (λ q. apart (first p m t) m (first_hit p t m h q) e)
-      (λ q. split (λ (n : ℕ). passes_at p t n ≡ false) m k q (λ c. more (sym (first_miss p t m h q) ∙ e) k c b) a))
+      up_to_end p t (λ (m : ℕ). (k : ℕ) → m ≤ k → k < length t → passes_at p t k ≡ false)
+      (λ m h k a b. absurd (omega arith))
+      (λ m h q e more k a b. split (λ (n : ℕ). passes_at p t n ≡ false) m k q (λ c. more k c b) a)
       i
 
   -- where none passes, none is found
@@ -144,7 +126,7 @@ module _ (p : Test) (t : List Marked) (Q : ℕ → Type 0) (s : Says p t Q) (i :
 
 some_word : (w : List ℕ) (f : Option ℕ) (j : ℕ) → cond (is_empty w) None f ≡ Some j → f ≡ Some j
 unfolding is_empty
-some_word [] f j e = apart None j e refl
+some_word [] f j e = absurd (none-some j e)
 some_word (a ∷ w) f j e = e
 
 pub nonempty_word : (w : List ℕ) (f : Option ℕ) → 0 < length w → cond (is_empty w) None f ≡ f

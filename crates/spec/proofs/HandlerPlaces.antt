@@ -1,6 +1,6 @@
 -- The two yes/no searches in document 01's words: a handler stands somewhere, a dollar literal is left open. Assumes nothing.
 use Rattle.std.specs.Prelude.{Option, Some, None}
-use Rattle.std.proofs.lemmas.Bool.{and_from}
+use Rattle.std.proofs.lemmas.Bool.{and_from, and_parts, or_right}
 use mathlib.Core.Path.{◌≡◌, refl, sym, ap, ◌∙◌}
 use mathlib.Core.Bool.{Bool, true, false, ◌&&◌, false≢true}
 use mathlib.Core.List.{List, [], ◌∷◌, map}
@@ -11,7 +11,7 @@ use borrow.Author.Tests.{eqb-true, eq-eqb, not-true}
 use lib.Dec.{eqb}
 use lib.ListN.{length, drop, get_or, length-map}
 use lib.Seq.{drop-drop}
-use Rattle.spec.proofs.Choice.{and_left, and_right, or_cases, or_second}
+use Rattle.spec.proofs.Choice.{or_cases}
 use Rattle.spec.proofs.WalkLaws.{starts_case, passes_at}
 use Rattle.spec.proofs.FirstLaws.{Says, found_least, found_none}
 use Rattle.spec.specs.Bytes.{ascii, upper, prefix_by}
@@ -59,11 +59,11 @@ handler_says xs =
           let b = eqb (length (word_text xs (k + 9))) 4 in
           let c = prefix_by upper (ascii "WHEN") (word_text xs (k + 9)) in
           let e : (a && (b && c)) ≡ true = sym (handler_test xs k) ∙ h in
-          let f = and_right a (b && c) e in
+          let f = (and_parts a (b && c) e).1 in
           record {
-            keyword = s.sound k (and_left a (b && c) e);
-            size = eqb-true (length (word_text xs (k + 9))) 4 (and_left b c f);
-            same = prefix_at upper (ascii "WHEN") (word_text xs (k + 9)) 0 zero-le (and_right b c f);
+            keyword = s.sound k ((and_parts a (b && c) e).0);
+            size = eqb-true (length (word_text xs (k + 9))) 4 ((and_parts b c f).0);
+            same = prefix_at upper (ascii "WHEN") (word_text xs (k + 9)) 0 zero-le ((and_parts b c f).1);
           };
       complete = λ k r.
           let a = passes_at (keyword_here (ascii "EXCEPTION")) (marked_text xs) k in
@@ -105,7 +105,7 @@ pub found_any : {A : Type 0} (f : A → Bool) (d : A) (l : List A) (k : ℕ) →
 unfolding any
 found_any f d [] k h e = absurd (omega arith)
 found_any f d (x ∷ l) zero h e = rw e refl
-found_any f d (x ∷ l) (suc k) h e = or_second (f x) (any f l) (found_any f d l k (le_of_suc-le-suc h) e)
+found_any f d (x ∷ l) (suc k) h e = or_right (f x) (any f l) (found_any f d l k (le_of_suc-le-suc h) e)
 
 -- yes exactly if a span of the text is a dollar literal that is not closed
 pub unterminated_found : (xs : List ℕ) (d : Lexeme) → has_unterminated_dollar_quote xs ≡ true → (k : ℕ) × (k < length (lexemes xs)) × (is_unclosed (get_or (lexemes xs) k d).span ≡ true)

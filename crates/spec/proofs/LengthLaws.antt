@@ -1,7 +1,7 @@
 -- How long the results of passes 1 to 3 can be, and the lengths of pieces. A text is weighed byte by byte: a `'` as 2, every
 -- other byte as some n. Assumes nothing.
 use Rattle.std.specs.Prelude.{Option, Some, None}
-use Rattle.std.proofs.lemmas.Bool.{cond_both, and_from}
+use Rattle.std.proofs.lemmas.Bool.{cond_both, and_from, and_parts, or_parts}
 use mathlib.Core.Path.{◌≡◌, refl, sym, ap, ◌∙◌, subst}
 use mathlib.Core.Bool.{Bool, true, false, cond, not, ◌&&◌, false≢true}
 use mathlib.Core.List.{List, [], ◌∷◌, ◌++◌, map, reverse, reverse_aux}
@@ -13,7 +13,7 @@ use lib.Dec.{eqb}
 use lib.ListN.{length, take, drop, length-append, length-map, length-reverse}
 use lib.Seq.{length-take-le, drop-drop}
 use Rattle.spec.proofs.ByteSets.{sign_not_ident}
-use Rattle.spec.proofs.Choice.{by, cond_le, and_left, and_right, or_left, or_right}
+use Rattle.spec.proofs.Choice.{by, cond_le}
 use Rattle.spec.proofs.ListLaws.{while_all, total_append, total_reverse, total_cut, total_while, total_le, total_map, total_const, drop_end_le, drop_while_le}
 use Rattle.spec.proofs.SpanLaws.{by_kind, span_pos, dollar_le, opens_in}
 use Rattle.spec.proofs.MapLaws.{text_bytes, text_length}
@@ -160,10 +160,10 @@ unfolding starts_ignoring_case any total
 word_weight n [] t h q = omega arith
 word_weight n (a ∷ w) [] h q = absurd (false≢true h)
 word_weight n (a ∷ w) (x ∷ t) h q =
-    let e = and_left (eqb (upper (byte x)) (upper a)) (starts_ignoring_case w t) h in
-    let m = and_right (eqb (upper (byte x)) (upper a)) (starts_ignoring_case w t) h in
-    let o = or_left (eqb (upper a) 39) (any (λ a. eqb (upper a) 39) w) q in
-    let r = or_right (eqb (upper a) 39) (any (λ a. eqb (upper a) 39) w) q in
+    let e = (and_parts (eqb (upper (byte x)) (upper a)) (starts_ignoring_case w t) h).0 in
+    let m = (and_parts (eqb (upper (byte x)) (upper a)) (starts_ignoring_case w t) h).1 in
+    let o = (or_parts (eqb (upper a) 39) (any (λ a. eqb (upper a) 39) w) q).0 in
+    let r = (or_parts (eqb (upper a) 39) (any (λ a. eqb (upper a) 39) w) q).1 in
     omega (arith, weight_other n (byte x) (upper_other (byte x) a e o), word_weight n w t m r)
 
 -- what stands in front exactly also stands there ignoring case
@@ -172,8 +172,8 @@ unfolding starts starts_ignoring_case
 starts_any_case [] t h = refl
 starts_any_case (a ∷ w) [] h = h
 starts_any_case (a ∷ w) (x ∷ t) h =
-    let e = eqb-true (byte x) a (and_left (eqb (byte x) a) (starts w t) h) in
-    let m = and_right (eqb (byte x) a) (starts w t) h in
+    let e = eqb-true (byte x) a ((and_parts (eqb (byte x) a) (starts w t) h).0) in
+    let m = (and_parts (eqb (byte x) a) (starts w t) h).1 in
     and_from _ _ (eq-eqb _ _ (ap upper e)) (starts_any_case w t m)
 
 -- ---- pass 2
@@ -182,8 +182,8 @@ starts_any_case (a ∷ w) (x ∷ t) h =
 pub word_in : (set : ℕ → Bool) (w : List ℕ) (p : ℕ) (t : List Marked) → word_here set w p t ≡ true → starts_ignoring_case w t ≡ true
 unfolding word_here
 word_in set w p t h =
-    let e = and_right (front_live t) _ h in
-    and_left (starts_ignoring_case w t) _ e
+    let e = (and_parts (front_live t) _ h).1 in
+    (and_parts (starts_ignoring_case w t) _ e).0
 
 elsif_out : total (mark_weight 5) (lives (ascii "ELSEIF")) ≡ 30
 unfolding total lives weight
@@ -338,11 +338,11 @@ ident_weight : (n : ℕ) (t : List Marked) → all (of_byte is_ident) t ≡ true
 unfolding total all of_byte
 ident_weight n [] h = refl
 ident_weight n (x ∷ t) h =
-    omega (arith, weight_other n (byte x) (ident_other (byte x) (and_left (is_ident (byte x)) _ h)), ident_weight n t (and_right (is_ident (byte x)) _ h))
+    omega (arith, weight_other n (byte x) (ident_other (byte x) ((and_parts (is_ident (byte x)) _ h).0)), ident_weight n t ((and_parts (is_ident (byte x)) _ h).1))
 
 name_some : (t : List Marked) → starts_name t ≡ true → 1 ≤ length t
 unfolding starts_name front_byte
-name_some [] h = absurd (false≢true (sym (sign_not_ident 0 refl) ∙ and_left (is_ident 0) (not (is_digit 0)) h))
+name_some [] h = absurd (false≢true (sym (sign_not_ident 0 refl) ∙ (and_parts (is_ident 0) (not (is_digit 0)) h).0))
 name_some (x ∷ t) h = suc-le-suc zero-le
 
 pub trim_le : (t : List Marked) → length (trim t) ≤ length t
@@ -368,7 +368,7 @@ set_length front name right =
 assign_in : (back t : List Marked) → assign_here back t ≡ true → total (mark_weight 5) t ≡ 10 + total (mark_weight 5) (drop 2 t)
 unfolding assign_here needle_here total any upper is_lower within
 assign_in back t h =
-    word_weight 5 (ascii ":=") t (starts_any_case (ascii ":=") t (and_right (front_live t) (starts (ascii ":=") t) h)) refl
+    word_weight 5 (ascii ":=") t (starts_any_case (ascii ":=") t ((and_parts (front_live t) (starts (ascii ":=") t) h).1)) refl
 
 -- an assignment adds 5 bytes at most; its name and its `:=` weigh 9 more than twice their length, or more
 assignment_weight : (t : List Marked) → 2 * length (assignment t) ≤ total (mark_weight 5) t + 1
@@ -391,7 +391,7 @@ assignment_weight t =
       set_length (reverse front) (reverse name) right,
       length-reverse front,
       length-reverse name,
-      name_some (reverse name) (and_left (starts_name (reverse name)) _ h),
+      name_some (reverse name) ((and_parts (starts_name (reverse name)) _ h).0),
       total_cut (mark_weight 5) i t,
       total_reverse (mark_weight 5) (take i t),
       total_while (mark_weight 5) (of_byte is_w) (reverse (take i t)),

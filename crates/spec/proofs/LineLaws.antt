@@ -12,7 +12,8 @@ use lib.Dec.{eqb, ltb, leb}
 use lib.ListN.{length, take, drop, length-append, take-append-drop}
 use lib.Seq.{drop-append_seam}
 use Rattle.spec.proofs.Apart.{apart}
-use Rattle.spec.proofs.Choice.{by, and_left, and_right}
+use Rattle.std.proofs.lemmas.Bool.{and_parts}
+use Rattle.spec.proofs.Choice.{by}
 use Rattle.spec.proofs.NameOrder.{same_eq}
 use Rattle.spec.specs.Bytes.{is_same}
 use Rattle.spec.specs.Lists.{take_while, all, concat}
@@ -91,8 +92,8 @@ passes p (f ∷ es) line e a h =
     (λ q.
     let k : Some f ≡ Some e = rw q at h in
     let i : e ≡ f = cc in
-    ap p i ∙ and_left (p f) (all p es) a)
-    (λ q. let k : entry_in es line ≡ Some e = rw q at h in passes p es line e (and_right (p f) (all p es) a) k)
+    ap p i ∙ (and_parts (p f) (all p es) a).0)
+    (λ q. let k : entry_in es line ≡ Some e = rw q at h in passes p es line e ((and_parts (p f) (all p es) a).1) k)
 
 -- a test that all of the list pass, each level with each action, every entry passes
 pub every_entry : (p : Entry → Bool) → all p all_entries ≡ true → (e : Entry) → p e ≡ true
@@ -136,8 +137,8 @@ unfolding only_last
 through_only b [] rest h = absurd (false≢true h)
 through_only b (x ∷ []) rest h = through_ends b x rest h
 through_only b (x ∷ y ∷ p) rest h =
-    let n = not-true (eqb x b) (and_left (not (eqb x b)) (only_last b (y ∷ p)) h) in
-    let more = through_only b (y ∷ p) rest (and_right (not (eqb x b)) (only_last b (y ∷ p)) h) in
+    let n = not-true (eqb x b) ((and_parts (not (eqb x b)) (only_last b (y ∷ p)) h).0) in
+    let more = through_only b (y ∷ p) rest ((and_parts (not (eqb x b)) (only_last b (y ∷ p)) h).1) in
     through_on b x (y ∷ (p ++ rest)) n ∙ ap (λ (l : List ℕ). x ∷ l) more
 
 -- the lines of t by its first

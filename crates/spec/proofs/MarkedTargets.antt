@@ -24,7 +24,8 @@ use Rattle.spec.proofs.RunPlaces.{flags_length}
 use Rattle.spec.proofs.TargetPlaces.{flags, byte_at, StandsAt, OpensStatement, IsMarkedTarget, FirstFrom, NoPlace}
 use Rattle.spec.proofs.WalkLaws.{back_step, live_inside}
 use Rattle.spec.specs.Map.{Marked, live, byte, front_byte}
-use Rattle.spec.specs.Assignments.{Target, or_else, opens_statement, Marking, markings, marking_here}
+use Rattle.spec.specs.declared.Mark.TheVariants as mark
+use Rattle.spec.specs.Assignments.{Target, or_else, Marking, markings, marking_here}
 use Rattle.spec.specs.Assignments.{cases_behind, target_past, target_behind, marked_target}
 
 -- ---- the target just past a word
@@ -39,17 +40,17 @@ marked_at t k = target_behind (met t k) (cases t k) (drop k t)
 
 module _ (t : List Marked) (k : ℕ) where
   -- behind CASE and END there is none
-  not_opening : (m : Marking) → IsMarking m → StandsAt m.word t k → (m.mark ≡ opens_statement → ⊥)
+  not_opening : (m : Marking) → IsMarking m → StandsAt m.word t k → (m.mark ≡ mark.OpensStatement → ⊥)
       → (r : Target) → IsMarkedTarget t k r → ⊥
-  not_opening m a s d r p = not_both t k m (marking p.word opens_statement) a (opening p.opens) d s p.stands
+  not_opening m a s d r p = not_both t k m (marking p.word mark.OpensStatement) a (opening p.opens) d s p.stands
 
   -- behind the others, where none is open
   past : (w : List ℕ) → OpensStatement w → StandsAt w t k
-      → Exactly (target_past opens_statement (length w) (cases t k) (drop k t)) (IsMarkedTarget t k)
+      → Exactly (target_past mark.OpensStatement (length w) (cases t k) (drop k t)) (IsMarkedTarget t k)
   unfolding target_past
   past w a s r =
       let x = equals_target_exactly t (k + length w) (word_edge t w k s) r in
-      let m = marking w opens_statement in
+      let m = marking w mark.OpensStatement in
       rw (drop-drop (length w) k t)
       (by (eqb (cases t k) 0)
       (λ e.
@@ -57,7 +58,7 @@ module _ (t : List Marked) (k : ℕ) where
       rw e (
         (λ h. record { word = w; opens = a; stands = s; no_case = rw c at (open_cases t k); target = x.0 h }),
         (λ p.
-            let n = marking p.word opens_statement in
+            let n = marking p.word mark.OpensStatement in
             let same : p.word ≡ w = ap (λ (y : Marking). y.word) (one_marking t k n m (opening p.opens) (opening a) p.stands s) in
             x.1 (rw same at p.target)),
       ))
@@ -82,7 +83,7 @@ module _ (t : List Marked) (k : ℕ) where
 
       go : (o : Option Marking) → Met t k o → (target_behind o (cases t k) (drop k t) ≡ Some r) ↔ IsMarkedTarget t k r
       go _ (word m a s) = behind m a s
-      go _ (nothing f) = (never, (λ p. absurd (f (marking p.word opens_statement) (opening p.opens) p.stands)))
+      go _ (nothing f) = (never, (λ p. absurd (f (marking p.word mark.OpensStatement) (opening p.opens) p.stands)))
 
 -- ---- the walk
 

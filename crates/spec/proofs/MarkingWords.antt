@@ -19,7 +19,9 @@ use Rattle.spec.proofs.TargetPlaces.{OpenCases, starts, opens, closes, not_below
 use Rattle.spec.specs.Bytes.{ascii, upper, within, is_lower, is_word}
 use Rattle.spec.specs.Map.{Marked, marked, bytes, front_byte}
 use Rattle.spec.specs.Search.{word_here}
-use Rattle.spec.specs.Assignments.{Mark, opens_case, closes_case, opens_statement, Marking, markings, marking_here, cases_after, cases_behind}
+use Rattle.spec.specs.declared.Mark.{Mark}
+use Rattle.spec.specs.declared.Mark.TheVariants as mark
+use Rattle.spec.specs.Assignments.{Marking, markings, marking_here, cases_after, cases_behind}
 
 -- ---- the table
 
@@ -29,17 +31,17 @@ marking w m = record { word = w; mark = m }
 
 -- the six marking words
 pub data IsMarking : Marking → Type 0 where
-  case : IsMarking (marking (ascii "CASE") opens_case)
-  end : IsMarking (marking (ascii "END") closes_case)
-  opening : {w : List ℕ} → OpensStatement w → IsMarking (marking w opens_statement)
+  case : IsMarking (marking (ascii "CASE") mark.OpensCase)
+  end : IsMarking (marking (ascii "END") mark.ClosesCase)
+  opening : {w : List ℕ} → OpensStatement w → IsMarking (marking w mark.OpensStatement)
 
 -- they are told apart by their first two bytes
 named : ℕ → ℕ → Marking
 named x y =
-    let second = cond (eqb y 78) (marking (ascii "END") closes_case) (marking (ascii "ELSE") opens_statement) in
-    let rest = cond (eqb x 76) (marking (ascii "LOOP") opens_statement) second in
-    let more = cond (eqb x 84) (marking (ascii "THEN") opens_statement) rest in
-    cond (eqb x 67) (marking (ascii "CASE") opens_case) (cond (eqb x 66) (marking (ascii "BEGIN") opens_statement) more)
+    let second = cond (eqb y 78) (marking (ascii "END") mark.ClosesCase) (marking (ascii "ELSE") mark.OpensStatement) in
+    let rest = cond (eqb x 76) (marking (ascii "LOOP") mark.OpensStatement) second in
+    let more = cond (eqb x 84) (marking (ascii "THEN") mark.OpensStatement) rest in
+    cond (eqb x 67) (marking (ascii "CASE") mark.OpensCase) (cond (eqb x 66) (marking (ascii "BEGIN") mark.OpensStatement) more)
 
 -- m is a word of two bytes or more that its first two name
 record Named (m : Marking) : Type 0 where
@@ -142,10 +144,10 @@ unfoldable pub cases : List Marked → ℕ → ℕ
 cases t zero = 0
 cases t (suc k) = cases_behind (met t k) (cases t k)
 
-pub case_other : opens_case ≡ opens_statement → ⊥
+pub case_other : mark.OpensCase ≡ mark.OpensStatement → ⊥
 case_other e = apart (cc)
 
-pub end_other : closes_case ≡ opens_statement → ⊥
+pub end_other : mark.ClosesCase ≡ mark.OpensStatement → ⊥
 end_other e = apart (cc)
 
 module _ (t : List Marked) where

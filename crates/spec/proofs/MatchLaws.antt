@@ -1,5 +1,5 @@
 -- A word or needle at an offset of a text, byte by byte, and a word with its edges. Assumes nothing.
-use Rattle.std.proofs.lemmas.Bool.{and_from}
+use Rattle.std.proofs.lemmas.Bool.{and_from, and_parts}
 use mathlib.Core.Path.{◌≡◌, refl, sym, ap, ◌∙◌}
 use mathlib.Core.Bool.{Bool, true, false, not, ◌&&◌, false≢true}
 use mathlib.Core.List.{List, [], ◌∷◌, reverse}
@@ -10,7 +10,6 @@ use borrow.Author.Tests.{eqb-true, eq-eqb, not-true}
 use lib.Dec.{eqb}
 use lib.ListN.{length, take, drop, get_or, length-drop}
 use lib.Seq.{get_or-drop}
-use Rattle.spec.proofs.Choice.{and_left, and_right}
 use Rattle.spec.proofs.WalkLaws.{live_inside, word_at, byte_before, prefix_by_len}
 use Rattle.spec.specs.Bytes.{upper, prefix_by}
 use Rattle.spec.specs.Map.{marked, front_byte}
@@ -27,9 +26,9 @@ prefix_same : (f : ℕ → ℕ) (w xs : List ℕ) → prefix_by f w xs ≡ true 
 unfolding prefix_by
 prefix_same f [] xs h i k = absurd (omega arith)
 prefix_same f (a ∷ w) [] h i k = absurd (false≢true h)
-prefix_same f (a ∷ w) (x ∷ xs) h zero k = eqb-true (f x) (f a) (and_left (eqb (f x) (f a)) (prefix_by f w xs) h)
+prefix_same f (a ∷ w) (x ∷ xs) h zero k = eqb-true (f x) (f a) ((and_parts (eqb (f x) (f a)) (prefix_by f w xs) h).0)
 prefix_same f (a ∷ w) (x ∷ xs) h (suc i) k =
-    prefix_same f w xs (and_right (eqb (f x) (f a)) (prefix_by f w xs) h) i (le_of_suc-le-suc k)
+    prefix_same f w xs ((and_parts (eqb (f x) (f a)) (prefix_by f w xs) h).1) i (le_of_suc-le-suc k)
 
 same_prefix : (f : ℕ → ℕ) (w xs : List ℕ) → length w ≤ length xs → ((i : ℕ) → i < length w → f (get_or xs i 0) ≡ f (get_or w i 0)) → prefix_by f w xs ≡ true
 unfolding prefix_by
@@ -78,15 +77,15 @@ module _ (set : ℕ → Bool) (xs ms w : List ℕ) (e : length ms ≡ length xs)
       let c = not (set p) in
       let d = not (set (get_or xs (j + length w) 0)) in
       let one = sym (word_at set w xs ms e j) ∙ h in
-      let two = and_right a (b && (c && d)) one in
-      let three = and_right b (c && d) two in
-      let l = eqb-true (get_or ms j 1) 0 (and_left a (b && (c && d)) one) in
+      let two = (and_parts a (b && (c && d)) one).1 in
+      let three = (and_parts b (c && d) two).1 in
+      let l = eqb-true (get_or ms j 1) 0 ((and_parts a (b && (c && d)) one).0) in
       let m : j ≤ length xs = omega (arith, live_inside ms j l) in
       record {
         is_live_lem = l;
-        matches = prefix_at upper w xs j m (and_left b (c && d) two);
-        before = λ z. ap set (sym (byte_before xs ms j z m)) ∙ not-true (set p) (and_left c d three);
-        behind = not-true (set (get_or xs (j + length w) 0)) (and_right c d three);
+        matches = prefix_at upper w xs j m ((and_parts b (c && d) two).0);
+        before = λ z. ap set (sym (byte_before xs ms j z m)) ∙ not-true (set p) ((and_parts c d three).0);
+        behind = not-true (set (get_or xs (j + length w) 0)) ((and_parts c d three).1);
       }
 
   pub word_complete : set 0 ≡ false → IsWordAt set xs ms w j → word_here set w (front_byte (reverse (take j (marked xs ms)))) (drop j (marked xs ms)) ≡ true

@@ -1,6 +1,6 @@
 -- The message of an abort in document 01's words, by offsets of its text: the definition gives exactly that part. Assumes
 -- nothing.
-use Rattle.std.proofs.lemmas.Bool.{and_from}
+use Rattle.std.proofs.lemmas.Bool.{and_from, and_parts}
 use mathlib.Core.Path.{◌≡◌, refl, sym, ap, ◌∙◌}
 use mathlib.Core.Bool.{Bool, true, false, not, ◌&&◌, false≢true}
 use mathlib.Core.Logic.{◌↔◌}
@@ -13,7 +13,7 @@ use lib.ListN.{length, take, drop, get_or, length-append}
 use lib.Seq.{get_or-take, length-take-le}
 use Rattle.spec.proofs.ByteSets.{sign_not_w}
 use Rattle.spec.proofs.BytesLaws.{bytes_take, while_length_bytes}
-use Rattle.spec.proofs.Choice.{by, and_left, and_right}
+use Rattle.spec.proofs.Choice.{by}
 use Rattle.spec.proofs.LiteralLaws.{IsLiteral, literal_exactly}
 use Rattle.spec.proofs.SpanLaws.{seen}
 use Rattle.spec.proofs.TrimLaws.{IsTrimmed, trimmed_some, trimmed_part, part_of_front}
@@ -79,8 +79,8 @@ module _ (t : List Marked) where
   closed_literal h =
       let a = eqb (front_byte t) 39 in
       let b = eqb (close_len (drop 1 t)) 0 in
-      let n = eqb-false (close_len (drop 1 t)) 0 (not-true b (and_right a (not b) h)) in
-      (literal_exactly t (1 + close_len (drop 1 t))).0 (eqb-true (front_byte t) 39 (and_left a (not b) h), omega (arith, n), refl)
+      let n = eqb-false (close_len (drop 1 t)) 0 (not-true b ((and_parts a (not b) h).1)) in
+      (literal_exactly t (1 + close_len (drop 1 t))).0 (eqb-true (front_byte t) 39 ((and_parts a (not b) h).0), omega (arith, n), refl)
 
   literal_closed : (n : ℕ) → IsLiteral (bytes t) n → (closed ≡ true) × (n ≡ 1 + close_len (drop 1 t))
   literal_closed n l =

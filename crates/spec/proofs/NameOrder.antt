@@ -6,7 +6,8 @@ use Prim.Native.Nat.{ℕ, ◌<◌}
 use native.Mathlib.Omega.{arith}
 use borrow.Author.Tests.{eqb-true, eqb-false, eq-eqb, ltb-true, ltb-false, lt-ltb, le-ltb}
 use lib.Dec.{eqb, ltb}
-use Rattle.spec.proofs.Choice.{by, and_left, and_right}
+use Rattle.std.proofs.lemmas.Bool.{and_parts}
+use Rattle.spec.proofs.Choice.{by}
 use Rattle.spec.specs.Bytes.{is_same, is_before}
 
 -- the same bytes are the same name
@@ -16,8 +17,8 @@ same_eq [] [] h = refl
 same_eq [] (y ∷ b) h = absurd (false≢true h)
 same_eq (x ∷ a) [] h = absurd (false≢true h)
 same_eq (x ∷ a) (y ∷ b) h =
-    let p : x ≡ y = eqb-true x y (and_left (eqb x y) (is_same a b) h) in
-    let q : a ≡ b = same_eq a b (and_right (eqb x y) (is_same a b) h) in
+    let p : x ≡ y = eqb-true x y ((and_parts (eqb x y) (is_same a b) h).0) in
+    let q : a ≡ b = same_eq a b ((and_parts (eqb x y) (is_same a b) h).1) in
     cc
 
 pub same_refl : (a : List ℕ) → is_same a a ≡ true
@@ -44,7 +45,7 @@ unfolding is_before
 before_cases x a y b h p q =
     by (ltb x y) (λ e. p (ltb-true x y e))
     (λ e. let k : (eqb x y && is_before a b) ≡ true = rw e at h in
-    q (eqb-true x y (and_left (eqb x y) _ k)) (and_right (eqb x y) _ k))
+    q (eqb-true x y ((and_parts (eqb x y) _ k).0)) ((and_parts (eqb x y) _ k).1))
 
 before_byte : (x : ℕ) (a : List ℕ) (y : ℕ) (b : List ℕ) → x < y → is_before (x ∷ a) (y ∷ b) ≡ true
 unfolding is_before

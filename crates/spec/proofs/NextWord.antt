@@ -1,6 +1,7 @@
 -- The next word in document 01's words: where it stands, which bytes it has, and that there is none. Assumes nothing.
+use Rattle.std.proofs.lemmas.Option.{none-some}
 use Rattle.std.specs.Prelude.{Some, None}
-use Rattle.std.proofs.lemmas.Bool.{and_from}
+use Rattle.std.proofs.lemmas.Bool.{and_from, and_parts}
 use Rattle.std.proofs.lemmas.List.{take-map, get_or_default, nil_from_length}
 use mathlib.Core.Path.{◌≡◌, refl, sym, ap, ◌∙◌}
 use mathlib.Core.Bool.{true, false, cond, ◌&&◌, false≢true}
@@ -12,11 +13,10 @@ use lib.Dec.{eqb, ltb}
 use lib.ListN.{length, take, drop, get_or, length-drop, length-map}
 use lib.Seq.{drop-drop}
 use Rattle.spec.proofs.ByteSets.{word_not_n}
-use Rattle.spec.proofs.Choice.{by, and_left, and_right}
+use Rattle.spec.proofs.Choice.{by}
 use Rattle.spec.proofs.ListLaws.{empty_length}
 use Rattle.spec.proofs.MapLaws.{map_length, text_length}
 use Rattle.spec.proofs.WalkLaws.{mark_skipped, mark_word, marked_at_lem, live_inside, bytes_drop, while_take, while_drop, while_length, while_passes_at, while_fails_at, while_exactly_at, while_hit}
-use Rattle.spec.proofs.FirstLaws.{apart}
 use Rattle.spec.specs.Bytes.{is_word, is_n}
 use Rattle.spec.specs.Lists.{is_empty, take_while, drop_while}
 use Rattle.spec.specs.Map.{Marked, live, byte, mark, map_of, marked, marked_text, bytes}
@@ -60,7 +60,7 @@ module _ (xs : List ℕ) (k : ℕ) (h : k < length xs) where
       let q = sym (word_byte_test d) ∙ e in
       let l = eqb (get_or (map_of xs) k 1) 0 in
       let m = is_word (get_or xs k 0) in
-      record { is_live_lem = eqb-true (get_or (map_of xs) k 1) 0 (and_left l m q); is_word_lem = and_right l m q }
+      record { is_live_lem = eqb-true (get_or (map_of xs) k 1) 0 ((and_parts l m q).0); is_word_lem = (and_parts l m q).1 }
 
   word_byte_complete : (d : Marked) → IsWordByteAt xs k → is_word_mark (get_or (marked_text xs) k d) ≡ true
   word_byte_complete d r =
@@ -140,7 +140,7 @@ module _ (xs : List ℕ) (i : ℕ) where
   found_start : (j : ℕ) → word_place xs i ≡ Some j → (0 < length (word_text xs i)) × (word_start ≡ j)
   found_start j e =
       by (eqb (length (word_text xs i)) 0)
-      (λ z. apart (word_place xs i) j e (word_nowhere (eqb-true (length (word_text xs i)) 0 z)))
+      (λ z. absurd (none-some j (sym (word_nowhere (eqb-true (length (word_text xs i)) 0 z)) ∙ e)))
       (λ z.
       let h : 0 < length (word_text xs i) = omega (arith, eqb-false (length (word_text xs i)) 0 z) in
       let p = word_place_lem h in
@@ -169,7 +169,7 @@ module _ (xs : List ℕ) (i : ℕ) where
   word_empty e =
       by (eqb (length (word_text xs i)) 0)
       (λ z. nil_from_length (word_text xs i) (eqb-true (length (word_text xs i)) 0 z))
-      (λ z. apart (word_place xs i) word_start (word_place_lem (omega (arith, eqb-false (length (word_text xs i)) 0 z))) e)
+      (λ z. absurd (none-some word_start (sym e ∙ word_place_lem (omega (arith, eqb-false (length (word_text xs i)) 0 z)))))
 
   -- a live word byte behind nothing but what is skipped is found
   pub found_word : (j : ℕ) → i ≤ j → ((k : ℕ) → i ≤ k → k < j → IsSkippedAt xs k) → IsWordByteAt xs j → word_place xs i ≡ Some j
@@ -189,7 +189,7 @@ module _ (xs : List ℕ) (i : ℕ) where
 
   -- so none is found exactly if no word byte comes first
   pub word_none : word_place xs i ≡ None → (j : ℕ) → i ≤ j → ((k : ℕ) → i ≤ k → k < j → IsSkippedAt xs k) → IsWordByteAt xs j → ⊥
-  word_none e j a s r = apart (word_place xs i) j (found_word j a s r) e
+  word_none e j a s r = absurd (none-some j (sym e ∙ found_word j a s r))
 
   pub none_word : ((j : ℕ) → i ≤ j → ((k : ℕ) → i ≤ k → k < j → IsSkippedAt xs k) → IsWordByteAt xs j → ⊥) → word_place xs i ≡ None
   none_word r =

@@ -1,24 +1,19 @@
 -- What stands at the front of a text, as a part of it. Assumes nothing.
+use Rattle.spec.proofs.WalkLaws.{prefix_take}
 use Rattle.std.proofs.lemmas.Bool.{and_from}
-use mathlib.Core.Path.{◌≡◌, refl, ap, ◌∙◌}
-use mathlib.Core.Bool.{true, ◌&&◌, false≢true}
+use mathlib.Core.Path.{◌≡◌, refl, ap, ◌∙◌, sym}
+use mathlib.Core.Bool.{true, ◌&&◌}
 use mathlib.Core.List.{List, [], ◌∷◌, ◌++◌}
 use Prim.Native.Nat.{ℕ}
-use borrow.Author.Tests.{eqb-true, eq-eqb}
+use borrow.Author.Tests.{eq-eqb}
 use lib.Dec.{eqb}
-use lib.ListN.{length, drop}
-use Rattle.spec.proofs.Choice.{by, and_left, and_right}
+use lib.ListN.{length, drop, take-append-drop}
+use Rattle.spec.proofs.Choice.{by}
 use Rattle.spec.specs.Bytes.{is_prefix}
 
 -- where p stands at the front of xs, xs is p and what follows it
 pub prefix_split : (p xs : List ℕ) → is_prefix p xs ≡ true → xs ≡ p ++ drop (length p) xs
-unfolding is_prefix
-prefix_split [] xs h = refl
-prefix_split (a ∷ p) [] h = absurd (false≢true h)
-prefix_split (a ∷ p) (x ∷ xs) h =
-    let same : x ≡ a = eqb-true x a (and_left (eqb x a) (is_prefix p xs) h) in
-    let more = prefix_split p xs (and_right (eqb x a) (is_prefix p xs) h) in
-    ap (λ (b : ℕ). b ∷ xs) same ∙ ap (λ (l : List ℕ). a ∷ l) more
+prefix_split p xs h = sym (take-append-drop (length p) xs) ∙ ap (λ (l : List ℕ). l ++ drop (length p) xs) (prefix_take p xs h)
 
 -- and it stands at the front of itself with anything behind it
 pub prefix_front : (p xs : List ℕ) → is_prefix p (p ++ xs) ≡ true

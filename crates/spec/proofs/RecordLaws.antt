@@ -2,7 +2,7 @@
 -- the records' numbers say. Assumes nothing.
 use mathlib.Core.Option as maybe
 use Rattle.std.specs.Prelude.{Option, Some, None}
-use Rattle.std.proofs.lemmas.Bool.{cond_both, and_from}
+use Rattle.std.proofs.lemmas.Bool.{cond_both, and_from, and_parts}
 use mathlib.Core.Path.{◌≡◌, refl, sym, ap, ◌∙◌}
 use mathlib.Core.Bool.{Bool, true, false, cond, not, ◌&&◌, ◌||◌, or-false, false≢true, or_self_left}
 use mathlib.Core.List.{List, [], ◌∷◌, ◌++◌, map, append-nil, append_assoc}
@@ -10,7 +10,7 @@ use Prim.Native.Nat.{ℕ, zero, suc, ◌+◌, ◌*◌, ◌≤◌, ◌<◌}
 use native.Mathlib.Omega.{arith}
 use lib.ListN.{length, get_or, get_elem?, take, drop, replicate, length-append, length-map, get_or-replicate, get_or-append}
 use lib.Seq.{take-length, take-take, take_all, take_at, drop_at, get_or-append-add}
-use Rattle.spec.proofs.Choice.{by, and_left, and_right}
+use Rattle.spec.proofs.Choice.{by}
 use Rattle.spec.proofs.NameOrder.{same_eq, same_refl, same_sym}
 use Rattle.spec.specs.Bytes.{ascii, is_same}
 use Rattle.spec.specs.Lists.{any}
@@ -60,8 +60,8 @@ pub declare_distinct : (d : Declared) (ds : List Declared) → distinct ds ≡ t
 unfolding declare distinct any
 declare_distinct d [] h = refl
 declare_distinct d (e ∷ es) h =
-    let new : not (any (named e.name) es) ≡ true = and_left (not (any (named e.name) es)) (distinct es) h in
-    let rest : distinct es ≡ true = and_right (not (any (named e.name) es)) (distinct es) h in
+    let new : not (any (named e.name) es) ≡ true = (and_parts (not (any (named e.name) es)) (distinct es) h).0 in
+    let rest : distinct es ≡ true = (and_parts (not (any (named e.name) es)) (distinct es) h).1 in
     by (named d.name e)
     (λ k. rw (k, same_eq d.name e.name k) h)
     (λ k. rw (k, declare_any e.name d es, other d.name e.name k)

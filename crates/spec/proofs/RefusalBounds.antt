@@ -1,7 +1,7 @@
 -- What a call leaves in its output is never longer than the buffer size: not the text, not `q.n` of refusal 4 and not the
 -- clause of refusal 5. Assumes nothing.
 use Rattle.std.specs.Prelude.{Option, Some, None, Ok, Err, Result}
-use Rattle.std.proofs.lemmas.Bool.{cond_both}
+use Rattle.std.proofs.lemmas.Bool.{cond_both, and_parts}
 use mathlib.Core.Path.{◌≡◌, refl, ap, subst}
 use mathlib.Core.Bool.{not, ◌&&◌}
 use mathlib.Core.List.{List, [], ◌∷◌, ◌++◌}
@@ -13,7 +13,6 @@ use lib.ListN.{length, drop, length-append, length-drop, length-map, length-reve
 use Rattle.spec.proofs.WalkLaws.{while_length}
 use Rattle.spec.proofs.LengthLaws.{trim_le}
 use Rattle.spec.proofs.ListLaws.{while_sum, drop_while_le}
-use Rattle.spec.proofs.Choice.{and_left, and_right}
 use Rattle.spec.proofs.MapLaws.{text_length}
 use Rattle.spec.proofs.JoinedPieces.{joined, pieces_joined}
 use Rattle.spec.proofs.FirstFound.{either_of, first_some}
@@ -23,10 +22,12 @@ use Rattle.spec.specs.Bytes.{ascii, is_w, is_n, is_ident, is_word}
 use Rattle.spec.specs.Lists.{is_empty, take_while, drop_while}
 use Rattle.spec.specs.Map.{Marked, live, byte, bytes, marked_text, front_byte, of_byte, is_live_byte}
 use Rattle.spec.specs.Search.{byte_here, pieces_from, pieces, starts_ignoring_case, word_here}
-use Rattle.spec.specs.Assignments.{Target, or_else, assign_here, target_before, assign_target, lone_equals, equals_target, Mark, opens_case, closes_case, opens_statement, Marking, markings, marking_here, cases_behind, target_past, target_behind, marked_target, statement_target}
+use Rattle.spec.specs.Assignments.{Target, or_else, assign_here, target_before, assign_target, lone_equals, equals_target, Marking, markings, marking_here, cases_behind, target_past, target_behind, marked_target, statement_target}
 use Rattle.spec.specs.Parts.{trim}
 use Rattle.spec.specs.Raise.{Fate, rewritten, refused_clause, message, using_fate, raise_fate, level_in, level_words, level_len, action_of, content_of, action_fate, raised_at, Token, raises_from}
 use Rattle.spec.specs.declared.Level.{Level}
+use Rattle.spec.specs.declared.Mark.{Mark}
+use Rattle.spec.specs.declared.Mark.TheVariants.{OpensCase, ClosesCase, OpensStatement}
 use Rattle.spec.specs.declared.RaiseType.{RaiseType}
 use Rattle.spec.specs.declared.Action.{Action}
 use Rattle.spec.specs.declared.Action.TheVariants.{Drop, Raise}
@@ -90,7 +91,7 @@ before_within back =
       while_sum (of_byte is_ident) b,
       while_sum (of_byte is_ident) (drop 1 r),
       length-drop 1 r,
-      front_seen r 45 (eqb-true (front_byte r) 46 (and_left (eqb (front_byte r) 46) (not (is_empty q)) (and_right (not (is_empty n)) _ e))),
+      front_seen r 45 (eqb-true (front_byte r) 46 ((and_parts (eqb (front_byte r) 46) (not (is_empty q)) ((and_parts (not (is_empty n)) _ e).1)).0)),
     ))
     (λ _. tt)
 
@@ -121,15 +122,15 @@ equals_within t =
       while_sum (of_byte is_ident) a,
       while_sum (of_byte is_ident) (drop 1 r),
       length-drop 1 r,
-      front_seen r 45 (eqb-true (front_byte r) 46 (and_left (eqb (front_byte r) 46) lone (and_right (not (is_empty q)) _ e))),
+      front_seen r 45 (eqb-true (front_byte r) 46 ((and_parts (eqb (front_byte r) 46) lone ((and_parts (not (is_empty q)) _ e).1)).0)),
     ))
     (λ _. tt)
 
 past_within : (m : Mark) (n d : ℕ) (t : List Marked) → Within target_size (target_past m n d t) (length t)
 unfolding target_past
-past_within opens_case n d t = tt
-past_within closes_case n d t = tt
-past_within opens_statement n d t =
+past_within OpensCase n d t = tt
+past_within ClosesCase n d t = tt
+past_within OpensStatement n d t =
     cond_both (eqb d 0) _ _ (λ (o : Option Target). Within target_size o (length t))
     (λ _. within_le target_size (equals_target (drop n t)) _ _ (omega (arith, length-drop n t)) (equals_within (drop n t)))
     (λ _. tt)

@@ -1,7 +1,7 @@
 -- The searches for a keyword, a byte and a needle in document 01's words: what each finds is the least offset of what it seeks,
 -- and none exactly if there is none. Assumes nothing.
 use Rattle.std.specs.Prelude.{Some, None}
-use Rattle.std.proofs.lemmas.Bool.{and_from}
+use Rattle.std.proofs.lemmas.Bool.{and_from, and_parts}
 use mathlib.Core.Path.{◌≡◌, refl, sym, ◌∙◌}
 use mathlib.Core.List.{List, []}
 use mathlib.Core.Logic.{◌⊎◌, inr}
@@ -11,7 +11,6 @@ use borrow.Author.Tests.{eqb-true, eq-eqb}
 use lib.Dec.{eqb}
 use lib.ListN.{length, drop, get_or}
 use Rattle.spec.proofs.ByteSets.{sign_not_word}
-use Rattle.spec.proofs.Choice.{and_left, and_right}
 use Rattle.spec.proofs.MapLaws.{map_length, marked_length}
 use Rattle.spec.proofs.WalkLaws.{live_inside, needle_at, byte_at}
 use Rattle.spec.proofs.FirstLaws.{LeastOf, NoneOf, Says, found_least, least_found, found_none, none_found, sought_least, least_sought, sought_none, none_sought}
@@ -78,7 +77,7 @@ byte_says xs b =
           let e = sym (byte_at b xs (map_of xs) (map_length xs) k) ∙ h in
           let l = eqb (get_or (map_of xs) k 1) 0 in
           let m = eqb (get_or xs k 0) b in
-          record { is_live_lem = eqb-true (get_or (map_of xs) k 1) 0 (and_left l m e); is_byte = eqb-true (get_or xs k 0) b (and_right l m e) };
+          record { is_live_lem = eqb-true (get_or (map_of xs) k 1) 0 ((and_parts l m e).0); is_byte = eqb-true (get_or xs k 0) b ((and_parts l m e).1) };
       complete = λ k r.
           byte_at b xs (map_of xs) (map_length xs) k
           ∙ and_from (eqb (get_or (map_of xs) k 1) 0) (eqb (get_or xs k 0) b) (eq-eqb (get_or (map_of xs) k 1) 0 r.is_live_lem) (eq-eqb (get_or xs k 0) b r.is_byte);
@@ -118,10 +117,10 @@ needle_says xs w =
           let l = eqb (get_or (map_of xs) k 1) 0 in
           let m = prefix_by (λ (b : ℕ). b) w (drop k xs) in
           let e = sym (needle_at w xs (map_of xs) (map_length xs) k) ∙ h in
-          let q = eqb-true (get_or (map_of xs) k 1) 0 (and_left l m e) in
+          let q = eqb-true (get_or (map_of xs) k 1) 0 ((and_parts l m e).0) in
           record {
             is_live_lem = q;
-            matches = prefix_at (λ (b : ℕ). b) w xs k (omega (arith, live_inside (map_of xs) k q, map_length xs)) (and_right l m e);
+            matches = prefix_at (λ (b : ℕ). b) w xs k (omega (arith, live_inside (map_of xs) k q, map_length xs)) ((and_parts l m e).1);
           };
       complete = λ k r.
           needle_at w xs (map_of xs) (map_length xs) k

@@ -1,6 +1,6 @@
 -- Spans: each has at least one byte and at most the text's, and the row of spans is the text; where the search for a
 -- delimiter stops. Assumes nothing.
-use Rattle.std.proofs.lemmas.Bool.{cond_both}
+use Rattle.std.proofs.lemmas.Bool.{cond_both, and_parts}
 use mathlib.Core.Path.{◌≡◌, refl, sym, ap, ◌∙◌}
 use mathlib.Core.Bool.{Bool, true, false, cond, not, false≢true}
 use mathlib.Core.List.{List, [], ◌∷◌, ◌++◌, map}
@@ -10,7 +10,7 @@ use borrow.Author.Tests.{eqb-true, eq-eqb, ne_eqb}
 use lib.Dec.{eqb}
 use lib.ListN.{length, take, drop, get_or, length-drop, take-append-drop}
 use lib.Seq.{length-take-le, drop-nil}
-use Rattle.spec.proofs.Choice.{by, cond_le, and_right}
+use Rattle.spec.proofs.Choice.{by, cond_le}
 use Rattle.spec.specs.Bytes.{is_digit, is_ident, is_pair, is_prefix}
 use Rattle.spec.specs.Lists.{concat}
 use Rattle.spec.specs.declared.Span.TheVariants.{Verbatim, Dollar, Code}
@@ -81,14 +81,14 @@ seen (x ∷ xs) (suc i) v h = suc-le-suc (seen xs i v h)
 -- a pair in front whose second byte is not 0
 pub pair_two : (xs : List ℕ) (x y c : ℕ) → is_pair x (suc y) c (get_or xs 1 0) ≡ true → 1 < length xs
 unfolding is_pair
-pair_two xs x y c h = seen xs 1 y (eqb-true _ (suc y) (and_right (eqb c x) (eqb (get_or xs 1 0) (suc y)) h))
+pair_two xs x y c h = seen xs 1 y (eqb-true _ (suc y) ((and_parts (eqb c x) (eqb (get_or xs 1 0) (suc y)) h).1))
 
 -- the opening delimiter stands within the text
 pub opens_in : (xs : List ℕ) → opens_dollar xs ≡ true → 2 + tag_len (drop 1 xs) ≤ length xs
 unfolding opens_dollar
 opens_in xs h =
     let e : eqb (get_or xs (1 + tag_len (drop 1 xs)) 0) 36 ≡ true =
-    and_right (not (is_digit (get_or xs 1 0))) _ (and_right (eqb (get_or xs 0 0) 36) _ h) in
+    (and_parts (not (is_digit (get_or xs 1 0))) _ ((and_parts (eqb (get_or xs 0 0) 36) _ h).1)).1 in
     omega (arith, seen xs (1 + tag_len (drop 1 xs)) 35 (eqb-true _ _ e))
 
 -- where p stands in front of xs, xs is at least as long
@@ -96,7 +96,7 @@ pub prefix_len : (p xs : List ℕ) → is_prefix p xs ≡ true → length p ≤ 
 unfolding is_prefix
 prefix_len [] xs h = zero-le
 prefix_len (a ∷ p) [] h = absurd (false≢true h)
-prefix_len (a ∷ p) (x ∷ xs) h = suc-le-suc (prefix_len p xs (and_right (eqb x a) (is_prefix p xs) h))
+prefix_len (a ∷ p) (x ∷ xs) h = suc-le-suc (prefix_len p xs ((and_parts (eqb x a) (is_prefix p xs) h).1))
 
 pub dollar_le : (n : ℕ) (xs : List ℕ) → n ≤ length xs → (dollar_of n xs).span ≤ length xs
 unfolding dollar_of

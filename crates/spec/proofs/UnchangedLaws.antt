@@ -6,7 +6,8 @@ use mathlib.Core.Bool.{Bool, true, false, false≢true}
 use mathlib.Core.List.{List, [], ◌∷◌, map}
 use Prim.Native.Nat.{ℕ}
 use lib.ListN.{length}
-use Rattle.spec.proofs.Choice.{by, or_left, or_right}
+use Rattle.std.proofs.lemmas.Bool.{or_parts}
+use Rattle.spec.proofs.Choice.{by}
 use Rattle.spec.proofs.SpanLaws.{tiles}
 use Rattle.spec.proofs.MapLaws.{text_bytes}
 use Rattle.spec.specs.Bytes.{ascii}
@@ -47,8 +48,8 @@ spans_kept : (ls : List Lexeme)
 unfolding any concat requote_lexeme
 spans_kept [] h = refl
 spans_kept (l ∷ ls) h =
-    let rest = spans_kept ls (or_right (is_dollar l.span) (any (λ (m : Lexeme). is_dollar m.span) ls) h) in
-    rw (span_kept l.span l.text (or_left (is_dollar l.span) _ h), rest)
+    let rest = spans_kept ls ((or_parts (is_dollar l.span) (any (λ (m : Lexeme). is_dollar m.span) ls) h).1) in
+    rw (span_kept l.span l.text ((or_parts (is_dollar l.span) _ h).0), rest)
 
 -- pass 1: no dollar literal, no byte changed
 pub requoted_kept : (xs : List ℕ) → has_dollar xs ≡ false → requoted xs ≡ xs

@@ -1,7 +1,7 @@
 -- Passes 3 and 4, then all five: a text that has none of a pass's places comes through byte for byte, and the body call
 -- accepts it as it is. Assumes nothing.
 use Rattle.std.specs.Prelude.{Option, Some, None, Ok}
-use Rattle.std.proofs.lemmas.Bool.{cond_both, and_from}
+use Rattle.std.proofs.lemmas.Bool.{cond_both, and_from, and_parts, or_parts}
 use mathlib.Core.Path.{◌≡◌, refl, sym, ap, ◌∙◌}
 use mathlib.Core.Bool.{Bool, true, false, cond, not, ◌&&◌, false≢true}
 use mathlib.Core.List.{List, [], ◌∷◌, ◌++◌, reverse_aux, append-nil, append_assoc}
@@ -9,7 +9,7 @@ use Prim.Native.Nat.{ℕ, ◌≤◌}
 use native.Mathlib.Omega.{arith}
 use lib.Dec.{eqb}
 use lib.ListN.{length}
-use Rattle.spec.proofs.Choice.{by, and_left, and_right, or_left, or_right}
+use Rattle.spec.proofs.Choice.{by}
 use Rattle.spec.proofs.MapLaws.{text_bytes}
 use Rattle.spec.proofs.FirstFound.{first_some}
 use Rattle.spec.proofs.JoinedPieces.{joined, pieces_joined}
@@ -38,8 +38,8 @@ unfolding starts
 needle_front [] t u h = refl
 needle_front (a ∷ w) [] u h = absurd (false≢true h)
 needle_front (a ∷ w) (x ∷ t) u h =
-    and_from (eqb (byte x) a) (starts w (t ++ u)) (and_left (eqb (byte x) a) (starts w t) h)
-    (needle_front w t u (and_right (eqb (byte x) a) (starts w t) h))
+    and_from (eqb (byte x) a) (starts w (t ++ u)) ((and_parts (eqb (byte x) a) (starts w t) h).0)
+    (needle_front w t u ((and_parts (eqb (byte x) a) (starts w t) h).1))
 
 -- a needle that stands at a place of a text stands there with more text behind, whatever stands before
 needle_more : (w : List ℕ) (back past : List Marked) (x : Marked) (t u : List Marked)
@@ -49,8 +49,8 @@ unfolding needle_here front_live
 needle_more w back past x t u h =
     by (needle_here w back (x ∷ t))
     (λ e. absurd (false≢true (sym h ∙ and_from (is_live x) (starts w (x ∷ (t ++ u)))
-    (and_left (is_live x) (starts w (x ∷ t)) e)
-    (needle_front w (x ∷ t) u (and_right (is_live x) (starts w (x ∷ t)) e)))))
+    ((and_parts (is_live x) (starts w (x ∷ t)) e).0)
+    (needle_front w (x ∷ t) u ((and_parts (is_live x) (starts w (x ∷ t)) e).1)))))
     (λ e. e)
 
 -- a needle that is nowhere in a text is nowhere in its front
@@ -146,7 +146,7 @@ selects_kept (s ∷ []) h = refl
 selects_kept (s ∷ r ∷ ss) h =
     let t = s ++ (live 59 ∷ []) in
     let more = any has_select_into (ended (r ∷ ss)) in
-    rw (select_kept t (or_left (has_select_into t) more h), selects_kept (r ∷ ss) (or_right (has_select_into t) more h))
+    rw (select_kept t ((or_parts (has_select_into t) more h).0), selects_kept (r ∷ ss) ((or_parts (has_select_into t) more h).1))
     (append_assoc s (live 59 ∷ []) (joined 59 (r ∷ ss)))
 
 -- pass 4: no statement with SELECT and then INTO, no byte changed

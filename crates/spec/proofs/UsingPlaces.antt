@@ -1,6 +1,6 @@
 -- The content of a RAISE whose action is not drop, in document 01's words and by its offsets: what is refused and what is
 -- rewritten is exactly that, and the word is the action's. Assumes nothing.
-use Rattle.std.proofs.lemmas.Bool.{and_from}
+use Rattle.std.proofs.lemmas.Bool.{and_from, and_parts}
 use mathlib.Core.Path.{◌≡◌, refl, sym, ap, ◌∙◌, subst}
 use mathlib.Core.Bool.{Bool, true, false, cond, ◌&&◌, false≢true}
 use mathlib.Core.Logic.{◌↔◌}
@@ -15,7 +15,7 @@ use Rattle.spec.proofs.AheadLaws.{drop_front}
 use Rattle.spec.proofs.Apart.{apart}
 use Rattle.spec.proofs.ByteSets.{sign_not_w, letter_not_w, upper_cases}
 use Rattle.spec.proofs.BytesLaws.{bytes_drop}
-use Rattle.spec.proofs.Choice.{by, and_left, and_right}
+use Rattle.spec.proofs.Choice.{by}
 use Rattle.spec.proofs.ListLaws.{empty_length, while_sum}
 use Rattle.spec.proofs.MessagePlaces.{IsMessage, message_some, message_part, message_within, message_quote}
 use Rattle.spec.proofs.RefusalBounds.{bytes_length}
@@ -170,22 +170,22 @@ module _ (t : List Marked) (a b c : ℕ)
       let q = eqb (get_or (bytes t) b 0) 61 in
       let r = eqb (get_or (bytes t) c 0) 39 in
       let s = is_empty (drop_while (of_byte is_w) (drop (c + length (message (drop c t))) t)) in
-      let two = and_right p (q && (r && s)) h in
-      let three = and_right q (r && s) two in
-      let quote = eqb-true (get_or (bytes t) c 0) 39 (and_left r s three) in
+      let two = (and_parts p (q && (r && s)) h).1 in
+      let three = (and_parts q (r && s) two).1 in
+      let quote = eqb-true (get_or (bytes t) c 0) 39 ((and_parts r s three).0) in
       record {
         at_using = u;
         from_using = omega arith;
         behind_using = λ k x y. while_passes_at is_w (bytes t) 0 5 k x (omega arith);
-        at_message = starts_matches t (ascii "MESSAGE") a (and_left p (q && (r && s)) h) (omega arith);
+        at_message = starts_matches t (ascii "MESSAGE") a ((and_parts p (q && (r && s)) h).0) (omega arith);
         from_message = omega arith;
         behind_message = λ k x y. while_passes_at is_w (bytes t) 0 (a + 7) k x (omega arith);
-        at_equals = eqb-true (get_or (bytes t) b 0) 61 (and_left q (r && s) two);
+        at_equals = eqb-true (get_or (bytes t) b 0) 61 ((and_parts q (r && s) two).0);
         from_equals = omega arith;
         behind_equals = λ k x y. while_passes_at is_w (bytes t) 0 (b + 1) k x (omega arith);
         at_quote = quote;
         is_message = quoted_message t c quote;
-        only_space = rest_w t (c + length (message (drop c t))) (and_right r s three);
+        only_space = rest_w t (c + length (message (drop c t))) ((and_parts r s three).1);
       }
 
   clause_fits : (d : ℕ) → IsMessageClause (bytes t) a b c d → fits ≡ true

@@ -2,7 +2,8 @@
 -- up to a separator, for every test. Assumes nothing.
 use Rattle.std.specs.Prelude.{Some, None}
 use Rattle.std.proofs.lemmas.List.{get_or_default, drop_more}
-use mathlib.Core.Path.{◌≡◌, refl, sym, ap, ◌∙◌}
+use Rattle.std.proofs.lemmas.Option.{none-some}
+use mathlib.Core.Path.{◌≡◌, refl, sym, ap, ◌∙◌, subst}
 use mathlib.Core.Bool.{Bool, true, false, cond, not, ◌&&◌, false≢true}
 use mathlib.Core.List.{List, [], ◌∷◌, ◌++◌, reverse, reverse-append}
 use Prim.Native.Nat.{ℕ, zero, suc, ◌+◌, ◌-◌, ◌≤◌, ◌<◌, zero-le, suc-le-suc}
@@ -13,7 +14,8 @@ use borrow.Author.Tests.{ltb-true, ltb-false, eqb-true, eq-eqb, ne_eqb}
 use lib.Dec.{eqb, ltb, eqb-suc-zero}
 use lib.ListN.{length, take, drop, get_or, length-reverse, length-drop, drop_of_length-le, get_or-eq_default}
 use lib.Seq.{length-take-le, take-suc, drop-nil, get_or-drop, drop-drop}
-use Rattle.spec.proofs.Choice.{by, neither_less, and_left, and_right}
+use Rattle.std.proofs.lemmas.Bool.{and_parts}
+use Rattle.spec.proofs.Choice.{by, neither_less}
 use Rattle.spec.proofs.MapLaws.{mark_byte, map_length, marked_length, marked_bytes}
 use Rattle.spec.specs.Bytes.{is_prefix, upper, is_word, is_n, prefix_by}
 use Rattle.spec.specs.Lists.{take_while, drop_while}
@@ -170,8 +172,8 @@ unfolding is_prefix
 prefix_take [] xs h = refl
 prefix_take (a ∷ p) [] h = absurd (false≢true h)
 prefix_take (a ∷ p) (x ∷ xs) h =
-    let e : x ≡ a = eqb-true x a (and_left (eqb x a) (is_prefix p xs) h) in
-    let m = prefix_take p xs (and_right (eqb x a) (is_prefix p xs) h) in
+    let e : x ≡ a = eqb-true x a ((and_parts (eqb x a) (is_prefix p xs) h).0) in
+    let m = prefix_take p xs ((and_parts (eqb x a) (is_prefix p xs) h).1) in
     rw (e, m) refl
 
 -- a text in front of which a word stands is at least as long
@@ -179,14 +181,14 @@ pub prefix_by_len : (f : ℕ → ℕ) (w xs : List ℕ) → prefix_by f w xs ≡
 unfolding prefix_by
 prefix_by_len f [] xs h = zero-le
 prefix_by_len f (a ∷ w) [] h = absurd (false≢true h)
-prefix_by_len f (a ∷ w) (x ∷ xs) h = suc-le-suc (prefix_by_len f w xs (and_right (eqb (f x) (f a)) (prefix_by f w xs) h))
+prefix_by_len f (a ∷ w) (x ∷ xs) h = suc-le-suc (prefix_by_len f w xs ((and_parts (eqb (f x) (f a)) (prefix_by f w xs) h).1))
 
 pub starts_length : (w : List ℕ) (t : List Marked) → starts_ignoring_case w t ≡ true → length w ≤ length t
 unfolding starts_ignoring_case
 starts_length [] t h = zero-le
 starts_length (a ∷ w) [] h = absurd (false≢true h)
 starts_length (a ∷ w) (x ∷ t) h =
-    suc-le-suc (starts_length w t (and_right (eqb (upper (byte x)) (upper a)) (starts_ignoring_case w t) h))
+    suc-le-suc (starts_length w t ((and_parts (eqb (upper (byte x)) (upper a)) (starts_ignoring_case w t) h).1))
 
 -- the comparison from an index of w and an index of xs on: all of w is compared, xs is at its end, the bytes agree, or not
 module _ (f : ℕ → ℕ) (w xs : List ℕ) (k i : ℕ) where
@@ -293,15 +295,39 @@ module _ (p : Test) (t : List Marked) (i : ℕ) where
         front_miss p (reverse (take i t)) (drop i t) (drop (i + 1) t) (get_or t i (live 0)) d e
         ∙ ap (λ (b : List Marked). first_from p b (drop (i + 1) t)) (sym (back_step t i (live 0) h))
 
+-- what holds where the search ends, and at each offset that it passes over if it holds one further on, holds where it starts
+module _ (p : Test) (t : List Marked) (P : ℕ → Type 0) where
+  pub up_to_first : (j : ℕ) → (j < length t → passes_at p t j ≡ true → P j)
+      → ((k : ℕ) → k < length t → passes_at p t k ≡ false → first p (k + 1) t ≡ Some j → P (k + 1) → P k)
+      → (i : ℕ) → first p i t ≡ Some j → P i
+  up_to_first j hit miss =
+      climb (λ (k : ℕ). first p k t ≡ Some j → P k) (length t)
+      (λ k h e. absurd (none-some j (sym (first_end p t k h) ∙ e)))
+      (λ k h more e.
+      by (passes_at p t k)
+      (λ q.
+      let f = first_hit p t k h q in
+      let same : k ≡ j = cc in
+      subst P (sym same) (hit (omega arith) (rw same at q)))
+      (λ q. let r = sym (first_miss p t k h q) ∙ e in miss k h q r (more r)))
+
+  pub up_to_end : ((k : ℕ) → length t ≤ k → P k)
+      → ((k : ℕ) → k < length t → passes_at p t k ≡ false → first p (k + 1) t ≡ None → P (k + 1) → P k)
+      → (i : ℕ) → first p i t ≡ None → P i
+  up_to_end end miss =
+      climb (λ (k : ℕ). first p k t ≡ None → P k) (length t)
+      (λ k h e. end k h)
+      (λ k h more e.
+      by (passes_at p t k)
+      (λ q. absurd (none-some k (sym e ∙ first_hit p t k h q)))
+      (λ q. let r = sym (first_miss p t k h q) ∙ e in miss k h q r (more r)))
+
 -- where a place is found, it stands at or behind the start and within the text
 pub first_within : (p : Test) (t : List Marked) (i j : ℕ) → first p i t ≡ Some j → (i ≤ j) × (j < length t)
 first_within p t i j =
-    climb (λ (k : ℕ). first p k t ≡ Some j → (k ≤ j) × (j < length t)) (length t)
-    (λ k h e. let n = first_end p t k h in let z : ◌≡◌ {A = ℕ} 0 1 = cc in absurd (omega arith))
-    (λ k h more e.
-    by (passes_at p t k)
-    (λ q. let f = first_hit p t k h q in let same : k ≡ j = cc in (omega arith, omega arith))
-    (λ q. let r = more (sym (first_miss p t k h q) ∙ e) in (omega arith, r.1)))
+    up_to_first p t (λ (k : ℕ). (k ≤ j) × (j < length t)) j
+    (λ h q. (omega arith, h))
+    (λ k h q e r. (omega (arith, r.0), r.1))
     i
 
 -- ---- `take_while` and `drop_while`, at an index
@@ -445,38 +471,27 @@ module _ (p : Test) (t : List Marked) (i : ℕ) where
 pub pieces_cut : (p : Test) (t : List Marked) (i j : ℕ) → first p i t ≡ Some j → pieces_at p t i ≡ take (j - i) (drop i t) ∷ pieces_at p t (j + 1)
 unfolding onto_first
 pieces_cut p t i j =
-    climb (λ (k : ℕ). first p k t ≡ Some j → pieces_at p t k ≡ take (j - k) (drop k t) ∷ pieces_at p t (j + 1)) (length t)
-    (λ k h e. let n = first_end p t k h in let z : ◌≡◌ {A = ℕ} 0 1 = cc in absurd (omega arith))
-    (λ k h more e.
-    by (passes_at p t k)
-    (λ q.
-    let f = first_hit p t k h q in
-    let same : k ≡ j = cc in
-    let none : j - k ≡ 0 = omega arith in
-    rw none (pieces_hit p t k h q ∙ ap (λ (n : ℕ). [] ∷ pieces_at p t (n + 1)) same))
-    (λ q.
-    let r : first p (k + 1) t ≡ Some j = sym (first_miss p t k h q) ∙ e in
-    let b = first_within p t (k + 1) j r in
+    up_to_first p t (λ (k : ℕ). pieces_at p t k ≡ take (j - k) (drop k t) ∷ pieces_at p t (j + 1)) j
+    (λ h q. let none : j - j ≡ 0 = omega arith in rw none (pieces_hit p t j h q))
+    (λ k h q e more.
+    let b = first_within p t (k + 1) j e in
     let one : j - k ≡ suc (j - (k + 1)) = omega arith in
     rw one
     (pieces_miss p t k h q
-    ∙ (ap (λ (ps : List (List Marked)). onto_first (get_or t k (live 0)) ps) (more r)
-    ∙ ap (λ (l : List Marked). take (suc (j - (k + 1))) l ∷ pieces_at p t (j + 1)) (sym (drop_more t k (live 0) h))))))
+    ∙ (ap (λ (ps : List (List Marked)). onto_first (get_or t k (live 0)) ps) more
+    ∙ ap (λ (l : List Marked). take (suc (j - (k + 1))) l ∷ pieces_at p t (j + 1)) (sym (drop_more t k (live 0) h)))))
     i
 
 -- where none passes, there is one piece
 pub pieces_last : (p : Test) (t : List Marked) (i : ℕ) → first p i t ≡ None → pieces_at p t i ≡ drop i t ∷ []
 unfolding onto_first
 pieces_last p t i =
-    climb (λ (k : ℕ). first p k t ≡ None → pieces_at p t k ≡ drop k t ∷ []) (length t)
-    (λ k h e. pieces_end p t k h ∙ ap (λ (l : List Marked). l ∷ []) (sym (drop_of_length-le t h)))
-    (λ k h more e.
-    by (passes_at p t k)
-    (λ q. let f = first_hit p t k h q in let z : ◌≡◌ {A = ℕ} 0 1 = cc in absurd (omega arith))
-    (λ q.
+    up_to_end p t (λ (k : ℕ). pieces_at p t k ≡ drop k t ∷ [])
+    (λ k h. pieces_end p t k h ∙ ap (λ (l : List Marked). l ∷ []) (sym (drop_of_length-le t h)))
+    (λ k h q e more.
     pieces_miss p t k h q
-    ∙ (ap (λ (ps : List (List Marked)). onto_first (get_or t k (live 0)) ps) (more (sym (first_miss p t k h q) ∙ e))
-    ∙ ap (λ (l : List Marked). l ∷ []) (sym (drop_more t k (live 0) h)))))
+    ∙ (ap (λ (ps : List (List Marked)). onto_first (get_or t k (live 0)) ps) more
+    ∙ ap (λ (l : List Marked). l ∷ []) (sym (drop_more t k (live 0) h))))
     i
 
 -- ---- where the pieces start, at an index

@@ -6,6 +6,8 @@ use Rattle.spec.specs.Map.{Marked, live, byte, bytes, lives, front_byte, of_byte
 use Rattle.spec.specs.Outcome.{qualified_target, Outcome, accepted, refused, ◌⊕◌}
 use Rattle.spec.specs.Parts.{trim}
 use Rattle.spec.specs.Search.{Test, first, word_here, needle_here, byte_here, pieces}
+use Rattle.spec.specs.declared.Mark.{Mark}
+use Rattle.spec.specs.declared.Mark.TheVariants.{OpensCase, ClosesCase, OpensStatement}
 
 -- a qualified target `q.n`
 pub record Target : Type 0 where
@@ -53,10 +55,7 @@ equals_target t =
     let found : Option Target = Some record { qualifier = q; name = n } in
     cond (not (is_empty q) && (eqb (front_byte r) 46 && (not (is_empty n) && lone_equals e))) found None
 
--- what a marking word does: CASE opens one, END closes one, a statement may follow the others
-pub data Mark : Type 0 where
-  opens_case closes_case opens_statement : Mark
-
+-- a marking word, and what it does: CASE opens one, END closes one, a statement may follow the others
 pub record Marking : Type 0 where
   pub word : List ℕ
   pub mark : Mark
@@ -64,12 +63,12 @@ pub record Marking : Type 0 where
 -- these six marking words stand in a fixed table
 unfoldable pub markings : List Marking
 markings =
-    record { word = ascii "CASE"; mark = opens_case }
-    ∷ record { word = ascii "END"; mark = closes_case }
-    ∷ record { word = ascii "BEGIN"; mark = opens_statement }
-    ∷ record { word = ascii "THEN"; mark = opens_statement }
-    ∷ record { word = ascii "ELSE"; mark = opens_statement }
-    ∷ record { word = ascii "LOOP"; mark = opens_statement }
+    record { word = ascii "CASE"; mark = OpensCase }
+    ∷ record { word = ascii "END"; mark = ClosesCase }
+    ∷ record { word = ascii "BEGIN"; mark = OpensStatement }
+    ∷ record { word = ascii "THEN"; mark = OpensStatement }
+    ∷ record { word = ascii "ELSE"; mark = OpensStatement }
+    ∷ record { word = ascii "LOOP"; mark = OpensStatement }
     ∷ []
 
 -- the marking word that stands here live; p is the byte before
@@ -81,9 +80,9 @@ marking_here (m ∷ ms) p t =
 
 -- how many CASEs are open behind a mark, never below zero
 unfoldable pub cases_after : Mark → ℕ → ℕ
-cases_after opens_case d = suc d
-cases_after closes_case d = d - 1
-cases_after opens_statement d = d
+cases_after OpensCase d = suc d
+cases_after ClosesCase d = d - 1
+cases_after OpensStatement d = d
 
 unfoldable pub cases_behind : Option Marking → ℕ → ℕ
 cases_behind None d = d
@@ -91,9 +90,9 @@ cases_behind (Some m) d = cases_after m.mark d
 
 -- the target just past a marking word of n bytes, where no CASE is open
 unfoldable pub target_past : Mark → ℕ → ℕ → List Marked → Option Target
-target_past opens_case n d t = None
-target_past closes_case n d t = None
-target_past opens_statement n d t =
+target_past OpensCase n d t = None
+target_past ClosesCase n d t = None
+target_past OpensStatement n d t =
     let found = equals_target (drop n t) in
     cond (eqb d 0) found None
 

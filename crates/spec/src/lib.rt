@@ -6,7 +6,8 @@ ghost use Rattle.spec.specs.Answers.{refusal_numbers};
 ghost use Rattle.spec.specs.Raise.{at_all, at_level, with_level};
 
 // A dollar literal: its length, where its inside starts and how long that is, and whether it is closed. The two numbers are no
-// `runs::Place`: that crate stands on this one.
+// `runs::Place`, since `runs` stands on this crate: its methods, their definitions and edits would have to move here for the one
+// function that reads the two.
 #[derive(Clone, Copy)]
 pub struct DollarQuoted {
     pub span: usize,
@@ -92,6 +93,14 @@ pub enum RaiseType {
 pub enum Action {
     Drop,
     Raise(RaiseType),
+}
+
+// What a marking word does: CASE opens one, END closes one, a statement may follow the others.
+#[derive(Clone, Copy)]
+pub enum Mark {
+    OpensCase,
+    ClosesCase,
+    OpensStatement,
 }
 
 // A refusal's number, place and length of what the output holds: a constructor, which each arm of the `From` below calls.

@@ -1,16 +1,15 @@
 -- Runs one after the other, and the text of a run. Assumes nothing.
 use mathlib.Core.Path.{◌≡◌, refl, sym, ap, ◌∙◌}
-use mathlib.Core.Bool.{true, false}
-use mathlib.Core.List.{List, [], ◌∷◌, ◌++◌}
+use mathlib.Core.List.{List, [], ◌++◌}
 use Prim.Native.Nat.{ℕ, ◌+◌, ◌-◌, ◌*◌, ◌≤◌, ◌<◌, min}
 use native.Mathlib.Omega.{arith}
-use borrow.Author.Tests.{leb-true, leb-false}
+use borrow.Author.Tests.{leb-true, leb-false, eq-eqb, ne_eqb}
 use lib.Dec.{leb}
 use lib.ListN.{length, take, drop, take-append-drop}
 use lib.Seq.{sets, length-sets, length-take-le, take_all}
 use Rattle.output.proofs.StoreLaws.{sets_append, sets_out, front_stored}
-use Rattle.spec.specs.Lists.{is_empty}
 use Rattle.spec.proofs.Choice.{by}
+use Rattle.spec.proofs.ListLaws.{empty_length}
 use Rattle.stored_list.specs.Fields.{field_of}
 use Rattle.stored_list.specs.Numbers.{counted}
 use Rattle.stored_list.specs.Runs.{repeated, hex_run, run_at, runs_from}
@@ -27,16 +26,6 @@ module _ (n i : ℕ) (xs : List ℕ) where
 
 -- ---- the runs of a line
 
-empty_none : (xs : List ℕ) → length xs ≡ 0 → is_empty xs ≡ true
-unfolding is_empty
-empty_none [] h = refl
-empty_none (x ∷ xs) h = absurd (omega arith)
-
-empty_some : (xs : List ℕ) → (length xs ≡ 0 → ⊥) → is_empty xs ≡ false
-unfolding is_empty
-empty_some [] h = absurd (h refl)
-empty_some (x ∷ xs) h = refl
-
 module _ (n j : ℕ) (line : List ℕ) where
   pub runs_end : n ≤ j → runs_from (n - j) j line ≡ []
   unfolding runs_from
@@ -45,12 +34,12 @@ module _ (n j : ℕ) (line : List ℕ) where
   module _ (h : j < n) where
     pub runs_none : length (field_of (2 * j + 1) line) ≡ 0 → runs_from (n - j) j line ≡ []
     unfolding runs_from
-    runs_none e = rw (one_less n j h, empty_none (field_of (2 * j + 1) line) e) refl
+    runs_none e = rw (one_less n j h, empty_length (field_of (2 * j + 1) line) ∙ eq-eqb _ 0 e) refl
 
     pub runs_step : (length (field_of (2 * j + 1) line) ≡ 0 → ⊥)
         → runs_from (n - j) j line ≡ run_at j line ++ runs_from (n - (j + 1)) (j + 1) line
     unfolding runs_from
-    runs_step e = rw (one_less n j h, empty_some (field_of (2 * j + 1) line) e) refl
+    runs_step e = rw (one_less n j h, empty_length (field_of (2 * j + 1) line) ∙ ne_eqb _ 0 e) refl
 
 -- a run from what the code computes: its fields, and what the first counts as
 pub run_fields : (j : ℕ) (line times hex : List ℕ) (n : ℕ) → times ≡ field_of (2 * j + 1) line → n ≡ counted times

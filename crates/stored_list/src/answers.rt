@@ -15,7 +15,8 @@ pub struct Numbers {
     pub count: usize,
 }
 
-// What a search found: where it stands, and its length, which is 0 if what was sought has it already.
+// What a search found: where it stands, and its length, which is 0 if what was sought has it already. No `runs::Place`: the `From` of a
+// place below makes a type of this crate.
 #[derive(Clone, Copy)]
 pub struct Found {
     pub place: usize,

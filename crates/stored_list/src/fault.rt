@@ -24,7 +24,8 @@ pub fn fault_of(line: &[u8]) -> Fault
     }
 }
 
-// Changes the element at a place, if the buffer reaches so far.
+// Changes the element at a place, if the buffer reaches so far. By index, and no `get_mut`: tried, and the proof did not close, since
+// the library says of it what stands at the place, and nothing of what the buffer holds behind the change.
 #[tactic(auto, using(crate::proofs::ChangedLaws::changed_in, crate::proofs::ChangedLaws::changed_out))]
 fn change_at<T: Mark>(buffer: &mut [T], place: usize)
     ensures { buffer.new ≡ changed_at T.other place buffer.old }

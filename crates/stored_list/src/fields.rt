@@ -6,6 +6,7 @@ ghost use Rattle.stored_list.specs.Fields.{part_of, place_of, field_of};
 ghost use Rattle.stored_list.specs.Numbers.{hex_digit, hex_bytes, with_digit, number_of};
 
 // The bytes from a up to e, or none where they do not lie in the list.
+#[tactic(auto, using(crate::proofs::FieldLaws::part_get))]
 pub fn part(list: &[u8], a: usize, e: usize) -> &[u8]
     ensures { result.now ≡ part_of a e list.now }
 {
@@ -42,7 +43,9 @@ fn digit(b: u8) -> u8
 
 // Puts the bytes that a field of hex digits stands for at the front of out, as far as it reaches, and gives their number.
 // The field `-` is the empty text. The library allocates nothing, so the buffer is lent. It is written by index: a digit pair
-// would come by `iter_mut` behind an adapter, of whose elements a proof knows nothing.
+// would come by `iter_mut` behind an adapter, of whose elements a proof knows nothing. The result is their number and not the part
+// that they fill: that part would keep the buffer lent, of which the promise speaks.
+#[tactic(auto, using(crate::proofs::StoringLaws::storing_one, crate::proofs::StoringLaws::stored_all, crate::proofs::StoringLaws::stored_full, crate::proofs::NumberLaws::hex_turn, crate::proofs::NumberLaws::hex_end))]
 pub fn decode(hex: &[u8], out: &mut [u8]) -> usize
     ensures value { result ≡ min (length (hex_bytes hex.now)) (length out.old) }
     ensures out_after { out.new ≡ sets out.old 0 (hex_bytes hex.now) }
@@ -67,6 +70,7 @@ fn with_digit(n: usize, b: u8) -> Option<usize>
 }
 
 // The value of a decimal field; none if it is empty, has a byte that is no digit or is too large.
+#[tactic(auto, using(crate::proofs::NumberLaws::number_none, crate::proofs::NumberLaws::number_digits, crate::proofs::NumberLaws::digit_some, crate::proofs::NumberLaws::digit_none, crate::proofs::NumberLaws::digits_end))]
 pub fn number(digits: &[u8]) -> Option<usize>
     ensures value { result ≡ number_of digits.now }
     ensures bound { IfSome result (λ n. n ≤ 9999999) }

@@ -58,6 +58,7 @@ impl<T: Listed, const N: usize> Held<T, N> {
     }
 
     // The list that a line gives, as far as the buffer reaches.
+    #[tactic(auto, using(crate::proofs::RepeatLaws::held))]
     pub fn set_line(&mut self, line: &[u8])
         ensures { self.new ≡ take N (T.listed line.now) }
     {

@@ -16,8 +16,8 @@ pub struct Line {
     pub filled: usize,
 }
 
-// The functions below take the input, the buffer and a line apart, and no struct of the three: the caller owns the buffer and the input
-// for as long as it reads, and `next_line` promises of the buffer's bytes before and after.
+// The functions below take the input, the buffer and a line apart, and no struct of the three: `next_line` promises of the buffer's
+// bytes before and after, and a line is handed on without the two.
 
 // Reads once, and gives how many bytes it put at the front: none where the input ends or the read fails.
 fn read_some(input: &mut impl Read, buffer: &mut [u8]) -> usize
@@ -43,6 +43,7 @@ fn read_full(input: &mut impl Read, buffer: &mut [u8]) -> usize
 }
 
 // Reads on behind the first `left` bytes, and gives how many bytes there are then.
+#[tactic(auto)]
 fn read_behind(input: &mut impl Read, buffer: &mut [u8], left: usize) -> usize
     requires { left ≤ length buffer.old }
     ensures lower_bound { left ≤ result }
@@ -53,6 +54,7 @@ fn read_behind(input: &mut impl Read, buffer: &mut [u8], left: usize) -> usize
 }
 
 // Moves the bytes from `from` up to `end` to the front, and gives how many there are.
+#[tactic(auto, using(crate::proofs::CopyLaws::moved))]
 fn move_front(buffer: &mut [u8], from: usize, end: usize) -> usize
     ensures value { result ≡ length (drop from (take end buffer.old)) }
     ensures buffer_after { buffer.new ≡ sets buffer.old 0 (drop from (take end buffer.old)) }
@@ -84,6 +86,7 @@ fn line_from(buffer: &[u8], start: usize, filled: usize) -> Option<Line>
 }
 
 // The first line of the buffer's bytes, after reading on behind the first `left` ones.
+#[tactic(auto)]
 fn read_line(input: &mut impl Read, buffer: &mut [u8], left: usize) -> Option<Line>
     requires { left ≤ length buffer.old }
     ensures first_read { FirstRead left buffer.new result }
@@ -95,6 +98,7 @@ fn read_line(input: &mut impl Read, buffer: &mut [u8], left: usize) -> Option<Li
 
 // The line behind this one. It ends with a newline and is shorter than the buffer; other bytes at the end of the input are no
 // line. What is read is free.
+#[tactic(auto, using(crate::proofs::ListLineLaws::next_held, crate::proofs::ListLineLaws::next_read, crate::proofs::ListLineLaws::next_in))]
 pub fn next_line(input: &mut impl Read, buffer: &mut [u8], before: Line) -> Option<Line>
     ensures next_line { NextLine buffer.old before buffer.new result }
     ensures line_in { before.filled ≤ length buffer.old → IfSome result (LineIn buffer.new) }

@@ -18,7 +18,8 @@ pub trait Mark: Copy + PartialEq {
 
     ghost other: { Self → Self };
 
-    // Another element. No default body for the two alike: a trait has no number to compare with or to give.
+    // Another element. No default body for the two alike: it would make 1 and 2 by `From<u8>`, and each impl would owe a law of what that
+    // gives, for one line.
     fn other(self) -> Self
         ensures { result ≡ other self };
 
@@ -62,7 +63,8 @@ pub fn marked<T: Mark, const N: usize>() -> [T; N]
     [T::MARK; N]
 }
 
-// Whether all elements from `from` up to `end` are x, as far as the buffer reaches.
+// Whether all elements from `from` up to `end` are x, as far as the buffer reaches. A list may lend more than there is, so what is asked
+// of is two numbers and no part of the buffer.
 pub fn is_filled<T: Copy + PartialEq>(buffer: &[T], from: usize, end: usize, x: T) -> bool
     ensures { result ≡ holds_only T.eq x from end buffer.now }
 {

@@ -4,6 +4,7 @@ use crate::tally::{Row, print_rows};
 use std::io;
 use std::io::Read;
 
+// No promises: what a program asks and counts is its own, and that it agrees with the lists is what the replay shows.
 pub trait Replay: Drop {
     // Takes one line: what it asks is asked again, and the answer is counted.
     fn take_line(&mut self, line: &[u8]);

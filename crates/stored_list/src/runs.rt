@@ -8,7 +8,9 @@ use crate::held::Listed;
 use crate::numbers::count;
 
 // Puts bytes behind the first n bytes of out, as far as out reaches, and gives how many there are then. No `output::Writer`: a text
-// stops with its buffer, where a `Writer` counts on past it.
+// stops with its buffer, where a `Writer` counts on past it. No `Held` either: `Listed` fills the buffer that a `Held` lends it, and
+// `Held` alone sets its own length.
+#[tactic(auto, using(crate::proofs::CopyLaws::copied))]
 fn append(out: &mut [u8], n: usize, bytes: &[u8]) -> usize
     requires { n ≤ length out.old }
     ensures value { result ≡ min (n + length bytes.now) (length out.old) }
@@ -20,6 +22,7 @@ fn append(out: &mut [u8], n: usize, bytes: &[u8]) -> usize
 }
 
 // The same, `times` times.
+#[tactic(auto, using(crate::proofs::StoringLaws::storing_list, crate::proofs::StoringLaws::stored_all, crate::proofs::RepeatLaws::repeated_step, crate::proofs::RepeatLaws::repeated_end))]
 fn append_times(out: &mut [u8], n: usize, bytes: &[u8], times: usize) -> usize
     requires { n ≤ length out.old }
     ensures value { result ≡ min (n + length (repeated times bytes.now)) (length out.old) }
@@ -43,8 +46,10 @@ fn append_hex(out: &mut [u8], n: usize, hex: &[u8], times: usize) -> usize
     append_times(out, n, &bytes[..k], times)
 }
 
-// Puts the runs of a line, which begin with its second field, at the front of out, and gives how many bytes there are. A turn
-// takes two fields, so it counts and does not walk through the fields one by one; 500 runs is the definition's bound.
+// Puts the runs of a line, which begin with its second field, at the front of out, and gives how many bytes there are. A run is two
+// fields, read by their numbers as the definition reads them: an iterator of the fields would be asked for two in each of the 500
+// turns that the definition has, each time with what stands for a field that is missing, and be no shorter.
+#[tactic(auto, using(crate::proofs::StoringLaws::storing, crate::proofs::StoringLaws::stored_all, crate::proofs::RepeatLaws::runs_none, crate::proofs::RepeatLaws::runs_step, crate::proofs::RepeatLaws::runs_end, crate::proofs::RepeatLaws::run_fields), unfolding(crate::specs::Runs::runs_of))]
 fn put_runs(line: &[u8], out: &mut [u8]) -> usize
     ensures value { result ≡ min (length (runs_of line.now)) (length out.old) }
     ensures out_after { out.new ≡ sets out.old 0 (runs_of line.now) }

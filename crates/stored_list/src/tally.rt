@@ -34,7 +34,7 @@ fn with_answer(row: Row, agrees: bool) -> Row
 // The last row that a tally may have.
 const LAST_ROW: usize = 1000;
 
-// Counts one answer in a row, if the tally has it.
+// Counts one answer in a row, if the tally has it. By index for the reason at `fault::change_at`.
 #[tactic(auto, using(crate::proofs::ChangedLaws::changed_in, crate::proofs::ChangedLaws::changed_out))]
 pub fn note(tally: &mut [Row], row: usize, agrees: bool)
     ensures { tally.new ≡ noted row agrees tally.old }
@@ -44,9 +44,9 @@ pub fn note(tally: &mut [Row], row: usize, agrees: bool)
     }
 }
 
-// Prints a line for each row and its name, up to the first write that fails. A row has its `Display`; the names and the rows are
-// two slices and no type that could have one. It writes to standard output alone, of which
-// nothing can be promised.
+// Prints a line for each row and its name, up to the first write that fails. The names are a list of their own, and not in the rows:
+// only this reads them, and a row with its name would carry it through each count and its definition. It writes to standard output
+// alone, of which nothing can be promised.
 pub fn print_rows(rt: &impl Print, names: &[&str], tally: &[Row]) -> io::Result<()> {
     for (name, row) in names.iter().zip(tally) {
         println!(rt; "{name} {row}")?;

@@ -14,10 +14,13 @@ use lib.ListN.{length, take, drop, get_or, drop_of_length-le}
 use Rattle.spec.specs.Bytes.{within, is_lower, is_word, upper}
 use Rattle.spec.specs.Map.{Marked, live, byte, is_live, front_byte, front_live}
 use Rattle.spec.specs.Search.{word_here, keyword_here, starts_ignoring_case}
+use Rattle.spec.specs.declared.Mark.{Mark}
+use Rattle.spec.specs.declared.Mark.TheVariants.{OpensCase, ClosesCase, OpensStatement}
 use Rattle.spec.specs.Assignments as spec
 use Rattle.spec.specs.Assignments.{Target, or_else, markings, marking_here, cases_behind, target_behind, marked_target}
 use Rattle.spec.proofs.ByteSets.{is_capital, capital_ident, not_word}
-use Rattle.spec.proofs.Choice.{by, and_left, and_right}
+use Rattle.std.proofs.lemmas.Bool.{and_parts}
+use Rattle.spec.proofs.Choice.{by}
 use Rattle.spec.proofs.WalkLaws.{before_next}
 use Rattle.targets.proofs.TargetNameLaws.{tells_some, tells_next}
 use Rattle.targets.specs.Tells.{Tells}
@@ -73,7 +76,7 @@ module _ (p : ℕ) (x : Marked) (u : List Marked) (h : may_start p x ≡ false) 
   none_off : (ms : List spec.Marking) → all_capital ms ≡ true → marking_here ms p (x ∷ u) ≡ None
   unfolding marking_here all_capital
   none_off [] c = refl
-  none_off (m ∷ ms) c = simp (word_off m.word (and_left (capital m.word) (all_capital ms) c)) (none_off ms (and_right (capital m.word) (all_capital ms) c))
+  none_off (m ∷ ms) c = simp (word_off m.word ((and_parts (capital m.word) (all_capital ms) c).0)) (none_off ms ((and_parts (capital m.word) (all_capital ms) c).1))
 
 markings_capital : all_capital markings ≡ true
 unfolding all_capital markings capital upper is_lower within
@@ -94,10 +97,10 @@ unfolding cases_behind spec.cases_after
 cases_le None d = omega arith
 cases_le (Some m) d = go m.mark
   where
-    go : (m : spec.Mark) → spec.cases_after m d ≤ d + 1
-    go spec.opens_case = omega arith
-    go spec.closes_case = omega arith
-    go spec.opens_statement = omega arith
+    go : (m : Mark) → spec.cases_after m d ≤ d + 1
+    go OpensCase = omega arith
+    go ClosesCase = omega arith
+    go OpensStatement = omega arith
 
 walk_front : (d p : ℕ) (t u : List Marked) (x : Marked) → t ≡ x ∷ u
     → marked_target d p t ≡ or_else (target_behind (marking_here markings p t) d t) (marked_target (cases_behind (marking_here markings p t) d) (byte x) u)

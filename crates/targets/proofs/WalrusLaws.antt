@@ -10,12 +10,10 @@ use Rattle.spec.specs.Bytes.{ascii}
 use Rattle.spec.specs.Map.{Marked, live}
 use Rattle.spec.specs.Search.{Test, first, needle_here}
 use Rattle.spec.specs.Assignments.{Target, or_else, assign_here, target_before, assign_target}
-use Rattle.spec.proofs.Choice.{by}
-use Rattle.spec.proofs.FirstLaws.{apart}
 use Rattle.targets.proofs.TargetNameLaws.{tells_some, tells_next}
 use Rattle.targets.specs.Tells.{Tells}
 use Rattle.targets.specs.declared.TargetPlaces.{TargetPlaces}
-use Rattle.spec.proofs.WalkLaws.{climb, back_step, passes_at, first_end, first_hit, first_miss}
+use Rattle.spec.proofs.WalkLaws.{back_step, passes_at, up_to_first, up_to_end}
 
 -- a live `:=`, as the scanner searches for it
 abbrev assign : Test
@@ -52,26 +50,14 @@ module _ (t : List Marked) where
 
   -- no `:=`, no target
   pub assign_none : (i : ℕ) → first assign i t ≡ None → assign_from t i ≡ None
-  assign_none =
-      climb (λ (k : ℕ). first assign k t ≡ None → assign_from t k ≡ None) (length t)
-      (λ k h e. assign_end k h)
-      (λ k h more e.
-      by (passes_at assign t k)
-      (λ q. apart (first assign k t) k (first_hit assign t k h q) e)
-      (λ q. assign_miss k h q ∙ more (sym (first_miss assign t k h q) ∙ e)))
+  assign_none = up_to_end assign t (λ (k : ℕ). assign_from t k ≡ None) assign_end (λ k h q e more. assign_miss k h q ∙ more)
 
   -- the first `:=` from i on stands at j
   assign_at : (i j : ℕ) → first assign i t ≡ Some j → assign_from t i ≡ or_else (target_before (reverse (take j t))) (assign_from t (j + 1))
   assign_at i j =
-      climb (λ (k : ℕ). first assign k t ≡ Some j → assign_from t k ≡ or_else (target_before (reverse (take j t))) (assign_from t (j + 1))) (length t)
-      (λ k h e. apart (first assign k t) j e (first_end assign t k h))
-      (λ k h more e.
-      by (passes_at assign t k)
-      (λ q.
-      let f = first_hit assign t k h q in
-      let same : k ≡ j = cc in
-      assign_hit k h q ∙ ap (λ (n : ℕ). or_else (target_before (reverse (take n t))) (assign_from t (n + 1))) same)
-      (λ q. assign_miss k h q ∙ more (sym (first_miss assign t k h q) ∙ e)))
+      up_to_first assign t (λ (k : ℕ). assign_from t k ≡ or_else (target_before (reverse (take j t))) (assign_from t (j + 1))) j
+      (assign_hit j)
+      (λ k h q e more. assign_miss k h q ∙ more)
       i
 
   -- it has a target before it, or the search goes on behind it

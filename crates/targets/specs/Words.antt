@@ -4,21 +4,14 @@ use Rattle.std.specs.Option.{option_map}
 use Rattle.spec.specs.Bytes.{is_word}
 use Rattle.spec.specs.Map.{Marked, byte, is_live}
 use Rattle.spec.specs.Assignments as spec
-use Rattle.targets.specs.declared.Mark.{Mark}
-use Rattle.targets.specs.declared.Mark.TheVariants.{OpensCase, ClosesCase, OpensStatement}
 use Rattle.targets.specs.declared.Marking.{Marking}
 
 -- x is a live word byte, and p before it is no word byte
 abbrev pub may_start : ℕ → Marked → Bool
 may_start p x = is_live x && (is_word (byte x) && not (is_word p))
 
-abbrev pub spec_mark : Mark → spec.Mark
-spec_mark OpensCase = spec.opens_case
-spec_mark ClosesCase = spec.closes_case
-spec_mark OpensStatement = spec.opens_statement
-
 abbrev pub marking_of : Marking → spec.Marking
-marking_of m = record { word = m.word.now; mark = spec_mark m.mark }
+marking_of m = record { word = m.word.now; mark = m.mark }
 
 -- what is met at a place
 abbrev pub seen : Option Marking → Option spec.Marking

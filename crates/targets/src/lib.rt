@@ -11,21 +11,13 @@ ghost use Rattle.targets.specs.Words.{may_start, seen};
 use classes::{byte_at, byte_before, is_word_byte, lone_equals};
 use runs::{Place, Set, run_end, run_start};
 use scanner::MappedText;
+use spec::Mark;
 
 // Where a qualified target stands in a statement.
 #[derive(Clone, Copy)]
 pub struct TargetPlaces {
     pub qualifier: Place,
     pub name: Place,
-}
-
-// What a marking word does: CASE opens one, END closes one, a statement may follow the others. The definitions' `Mark` once more:
-// it stands in specs/ of the crate `spec` and not, as `Level` and `Action` do, in its src/, since no other crate's code needs it.
-#[derive(Clone, Copy)]
-enum Mark {
-    OpensCase,
-    ClosesCase,
-    OpensStatement,
 }
 
 // A marking word.
@@ -86,7 +78,8 @@ fn qualified_walrus_target(statement: &MappedText<'_>) -> Option<TargetPlaces>
 {
     let bytes = statement.text();
     let mut from: usize = 0;
-    // On from one byte behind: what is before `at` is passed over already.
+    // On from one byte behind: what is before `at` is passed over already. A chain by `successors` and `find_map` would be no plainer: it
+    // would name the search twice, for the first place and for those behind it.
     while let Some(at) = statement.find_str(b":=", from) {
         if let Some(places) = qualified_name_before(bytes, at) {
             return Some(places);
@@ -97,7 +90,7 @@ fn qualified_walrus_target(statement: &MappedText<'_>) -> Option<TargetPlaces>
 }
 
 // The target `q.n` from `from` on with a lone `=` behind it; N may stand before q and before `=`.
-#[tactic(auto, using(crate::proofs::TargetNameLaws::equals_no_qualifier, crate::proofs::TargetNameLaws::equals_no_dot, crate::proofs::TargetNameLaws::equals_no_name, spec::proofs::SpanLaws::seen))]
+#[tactic(auto, using(crate::proofs::TargetNameLaws::equals_no_qualifier, crate::proofs::TargetNameLaws::equals_no_dot, crate::proofs::TargetNameLaws::equals_no_name, spec::proofs::SpanLaws::seen, crate::proofs::TargetNameLaws::equals_no_sign, crate::proofs::TargetNameLaws::equals_found))]
 fn qualified_name_at_with_equals(statement: &[u8], from: usize) -> Option<TargetPlaces>
     ensures { (t : List Marked) → bytes t ≡ statement.now → Tells t (equals_target (drop from t)) result }
 {
@@ -179,7 +172,8 @@ fn target_behind(
     }
 }
 
-// The first target behind a marking word. A loop and no chain: the walk carries the number of open CASEs.
+// The first target behind a marking word. A loop and no chain: a `try_fold` over the number of open CASEs would be no plainer, since it
+// would hand the target out as the error that stops it.
 #[tactic(auto, using(spec::proofs::RefusalBounds::bytes_length, crate::proofs::TargetNameLaws::tells_nothing, crate::proofs::MarkingLaws::cases_le, crate::proofs::MarkingLaws::walk_start, crate::proofs::MarkingLaws::walk_end, crate::proofs::MarkingLaws::walk_found, crate::proofs::MarkingLaws::walk_more))]
 fn marked_target(statement: &MappedText<'_>) -> Option<TargetPlaces>
     ensures { Tells statement.now (marked_target 0 0 statement.now) result }

@@ -7,4 +7,5 @@ use Rattle.declarations.proofs.insert.Goals as goal
 pub returns : goal.returns
 returns c =
     let a = c.args in
-    inserted a.text.now a.records.now a.count a.k c.find_place-p.result c.requires.different c.requires.le_k c.requires.k_le_count c.requires.count_bound (omega arith) c.requires.chained c.find_place-p.ensures
+    let r = c.requires in
+    inserted a.text.now a.records.now a.count a.k c.find_place-p.result c.number-next.result _ _ r.different r.le_k r.k_le_count r.count_bound (omega arith) r.chained c.find_place-p.ensures c.number-next.ensures.value c.set_next.ensures c.set_next-2.ensures

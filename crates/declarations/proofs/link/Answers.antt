@@ -10,4 +10,4 @@ returns c =
     let a = c.args in
     let l = c.loop-k in
     let z : l.k ≡ 0 = omega arith in
-    linked_all a.text.now a.records.now a.count l.records c.requires.different (linked_head a.text.now a.records.now a.count 0 0 l.records (rw z at l.invariant))
+    linked_all a.text.now a.records.now a.count l.records c.requires.different (linked_head a.text.now a.records.now a.count 0 0 l.records (rw (z, c.set_next.ensures) at l.invariant))

@@ -11,7 +11,7 @@ use Rattle.spec.specs.Declarations.{packed}
 use Rattle.spec.proofs.RefusalBounds.{bytes_length}
 use Rattle.declared_records.specs.Held.{Gathered}
 use Rattle.declarations.proofs.NextLaws.{gathered_different}
-use Rattle.declarations.proofs.PackedLaws.{packed_small, count_length, kept_all, packed_all, parsed_over, parsed_count, over_holds}
+use Rattle.declarations.proofs.PackedLaws.{packed_small, head_cleared, count_length, kept_all, packed_all, parsed_over, parsed_count, over_holds}
 use Rattle.declarations.proofs.parse_section.Goals as goal
 use Rattle.declarations.proofs.parse_section.Goals.{In_ok-count}
 
@@ -41,7 +41,7 @@ pack_records-requires c =
     let xs = c.text-bytes.result.now in
     let t = c.args.text.now in
     let g = held (goal.at.pack_records-requires c).In_ok-count in
-    let k = kept_all xs t c.in_ok-count.count _ _ g c.link.ensures _ c.put_numbers.ensures in
+    let k = kept_all xs t c.in_ok-count.count _ _ g c.link.ensures _ (head_cleared _ _ c.fill.ensures) in
     record {
       count_bound = g.within;
       text_len_bound = omega (arith, ap length c.text-bytes.ensures, bytes_length t);
@@ -56,11 +56,11 @@ returns c =
     let n = c.in_ok-count.count in
     let g = held (goal.at.returns c).In_ok-count in
     let l = c.link.ensures in
-    let e = c.put_numbers.ensures in
+    let e = head_cleared _ _ c.fill.ensures in
     let w = c.pack_records.ensures in
     let k = kept_all xs t n _ _ g l _ e in
     record {
       value = parsed_count _ n _ (count_length xs t n _ _ g l) (w.value ∙ ap (λ ds. length (packed ds)) k) g.within;
-      holds = packed_all xs t n _ _ g l _ e a.records.now a.declared.now _ _ (omega arith) (omega arith) (omega arith) c.requires.text_len_bound c.requires.declared_in_bounds w.declared_after w.records_after;
+      holds = packed_all xs t n _ _ g l _ e a.records.now a.declared.now _ _ (omega arith) (omega arith) (omega arith) c.requires.text_len_bound (omega arith) w.declared_after w.records_after;
       records_len = omega arith;
     }

@@ -2,12 +2,9 @@
 -- many stand ahead of it. Assumes nothing.
 use Rattle.std.proofs.Common.{◌≡◌, rules, true, false}
 use borrow.Author.Tests.{tests}
-use Rattle.std.proofs.lemmas.Iterator.{first_from_Range, serves_from_Range}
+use Rattle.std.proofs.lemmas.Iterator.{first_from_Range}
 use Rattle.declared_records.proofs.GatherLaws.{has_name, place_found}
 use Rattle.declared_records.proofs.find_name.Goals as goal
-
-pub find-place-requires : goal.find-place-requires
-find-place-requires c = record { can = tt; finite = tt; callable = serves_from_Range (λ x q k. search (rules, tests)) (λ x low high. search rules) }
 
 pub returns : goal.returns
 returns c =

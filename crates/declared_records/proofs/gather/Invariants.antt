@@ -1,11 +1,10 @@
 use Prim.Native.Nat.{◌-◌, ◌≤◌}
-use mathlib.Core.Path.{◌≡◌}
-use lib.ListN.{length, drop}
+use lib.ListN.{length}
 use Rattle.declared_records.proofs.GatherLaws.{Going}
 use Rattle.declared_records.proofs.gather.Given as goal
 
 abbrev pub invariant-loop-end : goal.invariant-loop-end
-invariant-loop-end l = record { in_text : l.at ≤ length l.text; going : Going l.text l.at l.records l.count; behind : drop 5130 l.records ≡ drop 5130 l.initial.records }
+invariant-loop-end l = record { in_text : l.at ≤ length l.text; going : Going l.text l.at l.records l.count }
 
 abbrev pub decreases-loop-end : goal.decreases-loop-end
 decreases-loop-end l = length l.text - l.at

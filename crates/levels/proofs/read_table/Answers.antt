@@ -15,9 +15,9 @@ use Rattle.spec.specs.Raise.{at_level, with_level}
 use Rattle.spec.specs.declared.Action.{Action}
 use Rattle.spec.specs.declared.ByLevel.{ByLevel}
 use Rattle.levels.specs.Lines.{ahead, completed}
-use Rattle.levels.proofs.AheadLaws.{line_found_lem, found_none}
+use Rattle.levels.proofs.AheadLaws.{line_found_lem}
 use Rattle.levels.proofs.GivenLaws.{given_start, given_by_lem, given_more, completed_by}
-use Rattle.levels.proofs.TurnLaws.{says, says_end, says_malformed, line_fits, says_repeated, says_on}
+use Rattle.levels.proofs.TurnLaws.{says, says_end, line_fits, says_on}
 use Rattle.levels.proofs.read_table.Goals as goal
 use Rattle.levels.proofs.read_table.Goals.{In_ok-line, After-get}
 
@@ -37,15 +37,8 @@ had c =
 within : (c : goal.In_ok-line) → c.in_ok-line.line.len ≤ length c.loop-rest.rest.now
 within c = omega (arith, (lined c).1, line_fits c.loop-rest.invariant.0 0 _ _ (lined c).0)
 
--- an action that is given, and one that is not
+-- an action that is not given
 module _ (o p : Option Action) (e : o ≡ p) where
-  some_given : is_some o ≡ true → (a : Action) × (p ≡ Some a)
-  some_given h = go p refl
-    where
-      go : (q : Option Action) → p ≡ q → (a : Action) × (p ≡ Some a)
-      go (Some a) k = (a, k)
-      go None k = let none : is_some o ≡ false = ap is_some (e ∙ k) in absurd (false≢true (sym none ∙ h))
-
   none_given : is_some o ≡ false → p ≡ None
   none_given h = go p refl
     where
@@ -60,35 +53,10 @@ loop-rest-init c =
     let start : n - n ≡ 0 = omega arith in
     ([], omega arith, c.all-given.ensures ∙ sym given_start, ap (λ (k : ℕ). says [] k c.args.table.now) (sym start))
 
-pub returns-in_err-line : goal.returns-in_err-line
-returns-in_err-line c =
-    let i = c.loop-rest.invariant in
-    let none : c.read_line.result ≡ None = search rules in
-    let malformed = found_none _ _ (sym c.read_line.ensures ∙ none) in
-    let said = i.3 ∙ says_malformed i.0 _ c.loop-rest.rest.now (search rules) malformed in
-    search rules
-
-pub returns-then-is_some : goal.returns-then-is_some
-returns-then-is_some c =
-    let given = some_given _ _ (had (goal.at.returns-then-is_some c).After-get) (sym c.is_some.ensures ∙ c.if-is_some.true) in
-    sym (c.loop-rest.invariant.3 ∙ says_repeated c.loop-rest.invariant.0 _ _ _ (lined (goal.at.returns-then-is_some c).In_ok-line).0 given.0 given.1)
-
-pub slice_bounds-rest-count : goal.slice_bounds-rest-count
-slice_bounds-rest-count c = within (goal.at.slice_bounds-rest-count c).In_ok-line
-
-pub slice_bounds-rest-start : goal.slice_bounds-rest-start
-slice_bounds-rest-start c = let h = within (goal.at.slice_bounds-rest-start c).In_ok-line in search rules
-
 -- what is left behind the line
 left : (n k : ℕ) (xs : List ℕ) → 0 < k → k ≤ length xs → length xs ≤ n →
     let rest = take (length xs - k) (drop k xs) in (length rest < length xs) × (n - length rest ≡ n - length xs + k)
 left n k xs a b c = let e = take_rest xs k in rw e (omega (arith, length-drop k xs), omega (arith, length-drop k xs))
-
-pub loop-rest-smaller : goal.loop-rest-smaller
-loop-rest-smaller c =
-    let line = lined (goal.at.loop-rest-smaller c).In_ok-line in
-    let size = text_size (entry c.in_ok-line.line.level c.in_ok-line.line.action) in
-    (left (length c.loop-rest.rest.now) c.in_ok-line.line.len c.loop-rest.rest.now (omega (arith, line.1, size)) (within (goal.at.loop-rest-smaller c).In_ok-line) (omega arith)).0
 
 pub loop-rest-preserved : goal.loop-rest-preserved
 loop-rest-preserved c =

@@ -1,11 +1,11 @@
--- `output::fill` meets its contract. What `fill_with` is given in each call is the item, so the part holds it alone; past the
--- buffer's end a store does nothing. Assumes nothing.
-use Rattle.std.proofs.Common.{◌≡◌, sym, ◌∙◌, ◌-◌, arith, length, drop, replicate, rules}
+-- `output::fill` meets its contract. What `fill_with` is given in each call is the item, so the part holds it alone.
+-- Assumes nothing.
+use Rattle.std.proofs.Common.{◌≡◌, refl, sym, ◌∙◌, ◌-◌, arith, length, drop, replicate, rules}
 use borrow.Author.Tests.{tests}
 use lib.ListN.{length-drop}
 use lib.Seq.{length-take-le}
 use Rattle.std.proofs.lemmas.List.{length-replicate, take-replicate}
-use Rattle.output.proofs.StoreLaws.{store_part, all_same, fill_end}
+use Rattle.output.proofs.StoreLaws.{store_part, all_same}
 use Rattle.output.proofs.fill.Goals as goal
 
 pub returns-then-from-end : goal.returns-then-from-end
@@ -18,8 +18,5 @@ returns-then-from-end g c =
     let len : length c.fill_with.new.self ≡ k =
     c.fill_with.ensures.len ∙ length-take-le k (drop a.from d) (omega (arith, length-drop a.from d, c.if-from-end.true, c.min-end.ensures)) in
     let same : c.fill_with.new.self ≡ replicate k a.x = all_same _ a.x _ (λ y next q. search (rules, tests)) c.fill_with.new.self r.0 r.1 ∙ rw len in
-    rw (same, sym (take-replicate k (a.to - a.from) a.x (omega (arith, c.min-end.ensures))))
-    (store_part d all a.from k (omega (arith, c.if-from-end.true, c.min-end.ensures)) (omega (arith, length-replicate (a.to - a.from) a.x, c.if-from-end.true, c.min-end.ensures)))
-
-pub returns-else-from-end : goal.returns-else-from-end
-returns-else-from-end g c = let a = c.args in sym (fill_end a.out.now a.from a.to a.x (omega (arith, c.if-from-end.false, c.min-end.ensures)))
+    sym (store_part d all _ a.from k k (omega (arith, c.if-from-end.true, c.min-end.ensures)) (omega (arith, length-replicate (a.to - a.from) a.x, c.if-from-end.true, c.min-end.ensures)) refl
+    (same ∙ sym (take-replicate k (a.to - a.from) a.x (omega (arith, c.min-end.ensures)))))

@@ -30,10 +30,10 @@ came c =
     (rw (take_rest xs start, c.passed.ensures) at c.run_body-r.ensures.value)
 
 pub overflow_mul-sizes : goal.overflow_mul-sizes
-overflow_mul-sizes c = omega (arith, ap (λ s. s.records) c.sizes_of-sizes.ensures, (came (goal.at.overflow_mul-sizes c).After-run_body-r).count)
+overflow_mul-sizes c = omega (arith, ap (λ s. s.records) c.sizes_of-sizes.ensures, (came (goal.at.overflow_mul-sizes c).After-run_body-r).sizes.count)
 
 pub overflow_add-sizes : goal.overflow_add-sizes
-overflow_add-sizes c = omega (arith, ap (λ s. s.records) c.sizes_of-sizes.ensures, (came (goal.at.overflow_add-sizes c).After-run_body-r).count)
+overflow_add-sizes c = omega (arith, ap (λ s. s.records) c.sizes_of-sizes.ensures, (came (goal.at.overflow_add-sizes c).After-run_body-r).sizes.count)
 
 pub returns : goal.returns
 returns c =
@@ -56,12 +56,12 @@ returns c =
       spare_after = ran.spare_after;
       declared_after = c.fill.ensures
           ∙ zeros_behind 65536 c.if_accepted.result s.declared.now c.parse_declarations-parsed.new.declared (by_table s.table (function_result xs)).declared (omega (arith, p.declared_in_bounds, l.declared))
-          (omega (arith, n, at_most c.run_body-r.result (sizes_of c.parse_declarations-parsed.result).bytes 65536 all.small))
-          all.kept
+          (omega (arith, n, at_most c.run_body-r.result (sizes_of c.parse_declarations-parsed.result).bytes 65536 all.sizes.small))
+          all.sizes.kept
           (ap (λ (i : ℕ). take i c.parse_declarations-parsed.new.declared) n ∙ all.texts);
       records_after = c.fill-2.ensures
           ∙ zeros_behind 5130 c.if_accepted-numbers.result s.records.now c.parse_declarations-parsed.new.records (by_table s.table (function_result xs)).records (omega (arith, p.records_in_bounds, l.records))
-          (omega (arith, k, at_most c.run_body-r.result (10 * (sizes_of c.parse_declarations-parsed.result).records + 10) 5130 (omega (arith, all.count))))
+          (omega (arith, k, at_most c.run_body-r.result (10 * (sizes_of c.parse_declarations-parsed.result).records + 10) 5130 (omega (arith, all.sizes.count))))
           held.behind
           (ap (λ (i : ℕ). take i c.parse_declarations-parsed.new.records) k ∙ all.numbers);
     }

@@ -1,9 +1,6 @@
 -- `requote::requote` meets its contract. A step of the cursor takes a span, and what becomes of it is the front of what is
 -- left to write; the result is at most twice as long as the text. Assumes nothing.
-use Rattle.std.proofs.Common.{◌≡◌, sym, ◌∙◌, ◌-◌, take, drop, length, arith}
-use lib.ListN.{length-drop}
-use lib.Seq.{length-take-le}
-use Rattle.spec.proofs.LengthLaws.{requoted_length_lem}
+use Rattle.std.proofs.Common.{sym, ◌∙◌}
 use Rattle.spec.specs.Requote.{requoted}
 use Rattle.spans.proofs.StepLaws.{Stepped, step_taken}
 use Rattle.requote.proofs.RequoteLaws.{requote_turn}
@@ -13,15 +10,6 @@ use Rattle.requote.proofs.requote.Goals.{In-Some}
 -- the step that was taken
 turn : (c : goal.In-Some) → Stepped c.args.text.now c.loop-s.cursor.at c.in-Some.s c.in-Some.next.at
 turn c = step_taken _ _ _ c.in-Some.next (sym c.step.ensures ∙ c.in-Some.is)
-
-pub put_span-requires-clause-span_bound : goal.put_span-requires-clause-span_bound
-put_span-requires-clause-span_bound c =
-    let xs = c.args.text.now in
-    let t = turn (goal.at.put_span-requires-clause-span_bound c).In-Some in
-    let at = c.loop-s.cursor.at in
-    let to = c.in-Some.next.at in
-    let long : length (take (to - at) (drop at xs)) ≡ to - at = length-take-le (to - at) (drop at xs) (omega (arith, t.within, length-drop at xs)) in
-    omega (arith, long, t.within, requoted_length_lem xs, c.loop-s.invariant.1.counts, c.new-written.ensures.count)
 
 pub loop-s-preserved : goal.loop-s-preserved
 loop-s-preserved c =

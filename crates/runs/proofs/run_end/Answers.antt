@@ -1,6 +1,6 @@
 -- `runs::run_end` meets its contract. The chain's count is the length of the longest front of the rest whose bytes all
 -- pass; where there is no rest, no byte passes. Assumes nothing.
-use Rattle.std.proofs.Common.{◌≡◌, sym, ap, ◌∙◌, arith, rules, ℕ, length, drop, ◌+◌, List}
+use Rattle.std.proofs.Common.{◌≡◌, sym, ap, ◌∙◌, rules, ℕ, length, drop, ◌+◌, List}
 use borrow.Author.Tests.{tests}
 use Rattle.std.proofs.lemmas.Iterator.{YieldsList-from_slice}
 use Rattle.std.proofs.lemmas.Iterator.Consumers.{YieldsList-at, count_from_yields_List}
@@ -9,7 +9,6 @@ use Rattle.std.proofs.lemmas.List.{take_rest}
 use Rattle.spec.specs.Lists.{take_while}
 use Rattle.runs.specs.Sets.{in_set}
 use Rattle.runs.proofs.ListsOfLibrary.{take_while_of_library}
-use Rattle.runs.proofs.RunLaws.{end_past}
 use Rattle.runs.proofs.run_end.Goals as goal
 
 pub returns-in-Some-clause-value : goal.returns-in-Some-clause-value
@@ -24,8 +23,3 @@ returns-in-Some-clause-value c =
     ∙ sym (ap length (take_while_of_library f rest)) in
     let behind : rest ≡ drop a.from a.text.now = c.in-Some.ensures.lookup.0.2 ∙ take_rest a.text.now a.from in
     ap (λ (n : ℕ). a.from + n) (counted ∙ ap (λ (xs : List ℕ). length (take_while f xs)) behind)
-
-pub returns-in-None-clause-value : goal.returns-in-None-clause-value
-returns-in-None-clause-value c =
-    let a = c.args in
-    sym (end_past (in_set a.set) a.text.now a.from (omega (arith, c.in-None.ensures.lookup.0)))

@@ -2,15 +2,12 @@
 -- `byte_passes` says of the test. Assumes nothing.
 use Rattle.std.proofs.Common.{◌≡◌, rules, true, false, ℕ, get_or}
 use borrow.Author.Tests.{tests}
-use Rattle.std.proofs.lemmas.Iterator.{first_from_Range, serves_from_Range}
+use Rattle.std.proofs.lemmas.Iterator.{first_from_Range}
 use Rattle.spec.specs.Map.{live, is_live_byte}
 use Rattle.spec.specs.Search.{byte_here}
 use Rattle.scanner.proofs.ByteLaws.{byte_passes}
 use Rattle.scanner.proofs.OffsetLaws.{found_first}
 use Rattle.scanner.proofs.MappedText.find_byte.Goals as goal
-
-pub find-requires : goal.find-requires
-find-requires c = record { can = tt; finite = tt; callable = serves_from_Range (λ x q k. search (rules, tests)) (λ x low high. search rules) }
 
 pub returns : goal.returns
 returns c =

@@ -2,15 +2,12 @@
 -- byte; an empty needle is found nowhere. Assumes nothing.
 use Rattle.std.proofs.Common.{◌≡◌, refl, sym, ◌∙◌, arith, rules, true, false}
 use borrow.Author.Tests.{tests}
-use Rattle.std.proofs.lemmas.Iterator.{first_from_Range, serves_from_Range}
+use Rattle.std.proofs.lemmas.Iterator.{first_from_Range}
 use Rattle.spec.specs.Search.{needle_here}
 use Rattle.spec.proofs.FirstLaws.{nonempty_word}
 use Rattle.spec.proofs.WalkLaws.{passes_at}
 use Rattle.scanner.proofs.OffsetLaws.{found_first}
 use Rattle.scanner.proofs.MappedText.find_str.Goals as goal
-
-pub find-requires : goal.find-requires
-find-requires c = record { can = tt; finite = tt; callable = serves_from_Range (λ x q k. search (rules, tests)) (λ x low high. search rules) }
 
 pub returns : goal.returns
 returns c =

@@ -1,7 +1,5 @@
 -- `stored_list::next_line` meets its contract. Either a whole line is left, or the rest is moved and more is read; that a line
 -- lies in the bytes read follows. Assumes nothing.
-use lib.ListN.{take, length-take, length-drop}
-use native.Mathlib.Omega.{arith}
 use Rattle.stored_list.proofs.ListLineLaws.{next_held, next_read, next_in}
 use Rattle.stored_list.proofs.lines.next_line.Goals as goal
 
@@ -11,14 +9,6 @@ returns-in-Some g c =
     let xs = s.buffer.now in
     let t = next_held xs s.before c.next_start-start.result c.next_start-start.ensures c.line_from.result c.line_from.ensures c.in-Some.line c.in-Some.is in
     record { next_line = t; line_in = next_in xs s.before xs _ t }
-
-pub read_line-requires : goal.read_line-requires
-read_line-requires g c =
-    let s = c.args in
-    let m = c.move_front-left in
-    let f = c.next_start-start in
-    let ys = take s.before.filled s.buffer.now in
-    omega (arith, m.ensures.value, m.auto.buffer, length-drop f.result ys, length-take s.before.filled s.buffer.now)
 
 pub returns : goal.returns
 returns g c =

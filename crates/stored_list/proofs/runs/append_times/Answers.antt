@@ -3,8 +3,8 @@
 use native.Mathlib.Omega.{arith}
 use Prim.Native.Nat.{◌+◌, ◌-◌}
 use Rattle.stored_list.specs.Runs.{repeated}
-use Rattle.stored_list.proofs.StoringLaws.{storing_list, stored_all}
-use Rattle.stored_list.proofs.RepeatLaws.{repeated_step, repeated_end}
+use Rattle.stored_list.proofs.StoringLaws.{storing_list}
+use Rattle.stored_list.proofs.RepeatLaws.{repeated_step}
 use Rattle.stored_list.proofs.runs.append_times.Goals as goal
 
 pub loop-turn-preserved : goal.loop-turn-preserved
@@ -16,12 +16,3 @@ loop-turn-preserved c =
     storing_list s.out.now s.n (repeated s.times b) l.out l.at (repeated (s.times - l._turn) b) b
     (repeated (s.times - (l._turn + 1)) b) a.new.out a.result l.invariant (repeated_step s.times l._turn b (omega arith)) a.ensures.out_after
     a.ensures.value
-
-pub returns : goal.returns
-returns c =
-    let l = c.loop-turn in
-    let s = c.args in
-    let b = s.bytes.now in
-    let t = stored_all s.out.now s.n (repeated s.times b) l.out l.at (repeated (s.times - l._turn) b) l.invariant
-    (repeated_end s.times l._turn b (omega arith)) in
-    record { value = t.count; out_after = t.content }

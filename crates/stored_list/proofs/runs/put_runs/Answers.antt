@@ -8,26 +8,9 @@ use borrow.Author.Rules.{rules}
 use lib.ListN.{length}
 use Rattle.stored_list.specs.Fields.{field_of}
 use Rattle.stored_list.specs.Runs.{hex_run, runs_from, runs_of}
-use Rattle.stored_list.proofs.StoringLaws.{storing, storing_list, stored_all}
-use Rattle.stored_list.proofs.RepeatLaws.{runs_none, runs_step, runs_end, run_fields}
+use Rattle.stored_list.proofs.StoringLaws.{storing_list}
+use Rattle.stored_list.proofs.RepeatLaws.{runs_step, run_fields}
 use Rattle.stored_list.proofs.runs.put_runs.Goals as goal
-
-pub loop-j-init : goal.loop-j-init
-unfolding runs_of
-loop-j-init c =
-    let s = c.args in
-    storing s.out.now 0 (runs_of s.line.now) (omega arith)
-
-pub returns-then-is_empty : goal.returns-then-is_empty
-returns-then-is_empty c =
-    let l = c.loop-j in
-    let s = c.args in
-    let xs = s.line.now in
-    let none : length c.field-times.result.now ≡ 0 = search rules in
-    let e : length (field_of (2 * l.j + 1) xs) ≡ 0 = sym (ap length c.field-times.ensures) ∙ none in
-    let t = stored_all s.out.now 0 (runs_of xs) l.out l.n (runs_from (500 - l.j) l.j xs) l.invariant
-    (runs_none 500 l.j xs (omega arith) e) in
-    record { value = omega (arith, t.count); out_after = t.content }
 
 pub loop-j-preserved : goal.loop-j-preserved
 loop-j-preserved c =
@@ -45,12 +28,3 @@ loop-j-preserved c =
     let e = run_fields l.j xs f.result.now g.result.now m.result f.ensures m.ensures.value g.ensures in
     storing_list s.out.now 0 (runs_of xs) l.out l.n (runs_from (500 - l.j) l.j xs) u t a.new.out a.result
     l.invariant (runs_step 500 l.j xs (omega arith) z ∙ ap (λ (k : List ℕ). k ++ t) (sym e)) a.ensures.out_after a.ensures.value
-
-pub returns : goal.returns
-returns c =
-    let l = c.loop-j in
-    let s = c.args in
-    let xs = s.line.now in
-    let t = stored_all s.out.now 0 (runs_of xs) l.out l.n (runs_from (500 - l.j) l.j xs) l.invariant
-    (runs_end 500 l.j xs (omega arith)) in
-    record { value = omega (arith, t.count); out_after = t.content }
