@@ -269,7 +269,7 @@ pub fn comes_before(x: &[u8], y: &[u8]) -> bool
     x.cmp(&y).is_lt()
 }
 
-// What stands inside a default that is wholly `$tag$..$tag$`, whose delimiter has d bytes then.
+// What stands inside a default that is wholly `$tag$..$tag$`: between its two delimiters, of d bytes each.
 fn inside_whole<'a>(text: &'a [u8]) -> Option<&'a [u8]>
     ensures { option_copied result ≡ inside_of text.now }
 {
