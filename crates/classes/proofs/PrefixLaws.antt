@@ -1,6 +1,8 @@
 -- `is_prefix` is the library's `starts_with` at bytes, by an induction on both lists; the two write the test of a byte
--- the other way round. Assumes nothing.
-use Rattle.std.proofs.Common.{◌≡◌, refl, sym, List, [], ◌∷◌, ℕ, eqb}
+-- the other way round. Of a text that is long enough it is the library's `==` with the text's front. Assumes nothing.
+use Rattle.std.proofs.Common.{◌≡◌, refl, sym, List, [], ◌∷◌, ℕ, ◌≤◌, ◌<◌, false, length, take, eqb, arith}
+use Rattle.std.specs.Cmp.Lexicographic.{pointwise}
+use Rattle.std.specs.Prelude.{nat_eq}
 use borrow.Author.Tests.{eqb-true, eqb-false, eq-eqb, ne_eqb}
 use Rattle.std.specs.List.{starts_with}
 use Rattle.spec.proofs.Choice.{by}
@@ -18,3 +20,17 @@ is_prefix_of_library [] [] = refl
 is_prefix_of_library [] (x ∷ xs) = refl
 is_prefix_of_library (a ∷ p) [] = refl
 is_prefix_of_library (a ∷ p) (x ∷ xs) = rw (eqb_flip x a, is_prefix_of_library p xs) refl
+
+-- a prefix is no longer than the text
+pub prefix_too_long : (p xs : List ℕ) → length xs < length p → is_prefix p xs ≡ false
+unfolding is_prefix
+prefix_too_long [] xs h = absurd (omega arith)
+prefix_too_long (a ∷ p) [] h = refl
+prefix_too_long (a ∷ p) (x ∷ xs) h = by (eqb x a) (λ e. rw (e, prefix_too_long p xs (omega arith)) refl) (λ e. rw e refl)
+
+-- of a text that is long enough, it is the library's equality with the front
+pub prefix_of_equal : (p xs : List ℕ) → length p ≤ length xs → is_prefix p xs ≡ pointwise nat_eq (take (length p) xs) p
+unfolding is_prefix
+prefix_of_equal [] xs h = refl
+prefix_of_equal (a ∷ p) [] h = absurd (omega arith)
+prefix_of_equal (a ∷ p) (x ∷ xs) h = rw (prefix_of_equal p xs (omega arith)) refl

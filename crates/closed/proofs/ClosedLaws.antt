@@ -1,6 +1,6 @@
 -- The parts of a closed body at an offset: its last byte, its spans, and each RAISE. Assumes nothing.
 use Rattle.std.specs.List.{list_all, list_any, starts_with, range_with_len}
-use Rattle.std.proofs.lemmas.List.{drop_more, take_rest}
+use Rattle.std.proofs.lemmas.List.{drop_more}
 use mathlib.Core.Path.{◌≡◌, refl, sym, ap, ◌∙◌}
 use mathlib.Core.Bool.{Bool, true, false, not, ◌&&◌, and-false, false≢true}
 use mathlib.Core.List.{List, [], ◌∷◌, reverse}
@@ -13,7 +13,7 @@ use lib.Seq.{drop-drop, get_or-drop}
 use Rattle.spec.specs.Bytes.{ascii, is_pair, is_prefix, is_ident}
 use Rattle.spec.specs.Lists.{take_while, drop_while, any, all}
 use Rattle.spec.specs.Spans.{block_len, kind_at, opens_dollar, span_of, span_at, span_len, Lexeme, lexeme_at, lexemes_from, lexemes}
-use Rattle.spec.specs.Map.{Marked, live, byte, bytes, is_live, front_byte, of_byte, is_live_byte}
+use Rattle.spec.specs.Map.{Marked, live, byte, bytes, front_byte, of_byte, is_live_byte}
 use Rattle.spec.specs.Search.{word_here}
 use Rattle.spec.specs.Closed.{ends_live, is_plain_span, ends_word, is_followed, raises_followed}
 use Rattle.spec.specs.declared.Span.{Span}
@@ -23,7 +23,7 @@ use Rattle.spec.proofs.LengthLaws.{word_in}
 use Rattle.spec.proofs.RunPlaces.{end_from, ahead_at}
 use Rattle.spec.proofs.SpanLaws.{lexemes_step, span_pos}
 use Rattle.spec.proofs.WalkLaws.{before_next, starts_length}
-use Rattle.classes.proofs.PrefixLaws.{is_prefix_of_library}
+use Rattle.classes.proofs.PrefixLaws.{eqb_flip, is_prefix_of_library}
 use Rattle.runs.proofs.ListsOfLibrary.{any_of_library}
 use Rattle.runs.proofs.RunLaws.{any_byte}
 use Rattle.spans.proofs.StepLaws.{by_front, Stepped}
@@ -136,6 +136,23 @@ block_two [] e = absurd (false≢true e)
 block_two (c ∷ []) e = absurd (false≢true (sym (and-false (eqb c 47)) ∙ e))
 block_two (c ∷ d ∷ cs) e = suc-le-suc (suc-le-suc zero-le)
 
+-- a newline is a span of its own
+newline_len : (xs : List ℕ) → get_or xs 0 0 ≡ 10 → span_len (span_at xs) ≡ 1
+unfolding span_at span_of kind_at opens_dollar is_pair
+newline_len xs e = rw e refl
+
+-- two bytes do not stand in front of one
+two_in_one : (a b : ℕ) (ys : List ℕ) → length ys ≡ 1 → starts_with eqb ys (a ∷ b ∷ []) ≡ false
+two_in_one a b [] h = refl
+two_in_one a b (y ∷ []) h = and-false (eqb a y)
+two_in_one a b (y ∷ z ∷ ys) h = absurd (omega (arith, h))
+
+-- one byte is a newline in front, or none at all
+one_newline : (ys : List ℕ) → length ys ≡ 1 → starts_with eqb ys (10 ∷ []) ≡ false → list_any (λ y. eqb y 10) ys ≡ false
+one_newline [] h e = refl
+one_newline (y ∷ []) h e = rw (eqb_flip y 10) (by (eqb 10 y) (λ f. absurd (false≢true (rw f at (sym e)))) (λ f. rw f refl))
+one_newline (y ∷ z ∷ ys) h e = absurd (omega (arith, h))
+
 -- the library's `contains`
 contains_byte : (c : ℕ) (xs : List ℕ) → list_any (λ y. eqb y c) xs ≡ any (eqb c) xs
 contains_byte c xs = sym (any_of_library (λ y. eqb y c) xs) ∙ any_byte c xs
@@ -157,6 +174,14 @@ module _ (xs ys : List ℕ) (h : ys ≡ take (span_len (span_at xs)) xs) where
       ∙ by (is_prefix p xs)
       (λ e. prefix_part p xs (span_len (span_at xs)) (long e))
       (λ e. prefix_whole p xs (span_len (span_at xs)) e ∙ sym e))
+
+  -- a newline in front is all of it
+  first_alone : get_or xs 0 0 ≡ 10 → length ys ≡ 1
+  first_alone e = rw (h, newline_len xs e) (one_taken xs e)
+    where
+      one_taken : (l : List ℕ) → get_or l 0 0 ≡ 10 → length (take 1 l) ≡ 1
+      one_taken [] f = absurd (omega (arith, f))
+      one_taken (c ∷ cs) f = refl
 
   line_same : starts_with eqb ys (45 ∷ 45 ∷ []) ≡ is_pair 45 45 (get_or xs 0 0) (get_or xs 1 0)
   unfolding span_at span_of kind_at
@@ -184,6 +209,25 @@ module _ (xs ys : List ℕ) (h : ys ≡ take (span_len (span_at xs)) xs) where
       bytes_other e =
           plain_other xs (sym line_same ∙ p) (sym block_same ∙ q) (not_one 9 xs (sym newline_same ∙ e))
           ∙ ap not (ap (λ (l : List ℕ). any (eqb 10) l) (sym h) ∙ sym (contains_byte 10 ys))
+
+      -- more than one byte has no newline in front
+      pub bytes_longer : (length ys ≡ 1 → ⊥) → is_plain_span (lexeme_at xs) ≡ not (list_any (λ y. eqb y 10) ys)
+      bytes_longer n =
+          by (starts_with eqb ys (10 ∷ []))
+          (λ e. absurd (n (one_byte e)))
+          bytes_other
+        where
+          one_byte : starts_with eqb ys (10 ∷ []) ≡ true → length ys ≡ 1
+          one_byte e = first_alone (front_one 9 xs (sym newline_same ∙ e))
+
+  -- one byte is no comment, and no literal with a newline
+  pub bytes_one : length ys ≡ 1 → is_plain_span (lexeme_at xs) ≡ true
+  bytes_one e =
+      let p = two_in_one 45 45 ys e in
+      let q = two_in_one 47 42 ys e in
+      by (starts_with eqb ys (10 ∷ []))
+      (λ f. bytes_newline p q f)
+      (λ f. bytes_other p q f ∙ ap not (one_newline ys e f))
 
 -- ---- all spans
 

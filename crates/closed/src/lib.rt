@@ -26,15 +26,14 @@ fn ends_live(text: &MappedText<'_>) -> bool
     n != 0 && text.is_live_byte(n - 1, b';')
 }
 
-// Whether the bytes `span` are no comment, and no literal with a newline. A newline in front is live text:
-// a literal starts with a quote or a `$`.
-#[tactic(auto, using(crate::proofs::ClosedLaws::bytes_line, crate::proofs::ClosedLaws::bytes_block, crate::proofs::ClosedLaws::bytes_newline, crate::proofs::ClosedLaws::bytes_other))]
+// Whether the bytes `span` are no comment, and no literal with a newline. One byte is neither, and most spans are one byte of
+// live text.
+#[tactic(auto, using(crate::proofs::ClosedLaws::bytes_one, crate::proofs::ClosedLaws::bytes_line, crate::proofs::ClosedLaws::bytes_block, crate::proofs::ClosedLaws::bytes_longer))]
 fn is_plain_span(span: &[u8]) -> bool
     ensures { (xs : List ℕ) → span.now ≡ take (span_len (span_at xs)) xs → result ≡ is_plain_span (lexeme_at xs) }
 {
-    !span.starts_with(b"--")
-        && !span.starts_with(b"/*")
-        && (span.starts_with(b"\n") || !span.contains(&b'\n'))
+    span.len() == 1
+        || (!span.starts_with(b"--") && !span.starts_with(b"/*") && !span.contains(&b'\n'))
 }
 
 // Whether no span is a comment or a literal with a newline: a walk by `spans::Cursor`, for the reason at `scanner::has_unterminated`.

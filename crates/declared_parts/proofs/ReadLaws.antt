@@ -2,7 +2,7 @@
 use Rattle.std.specs.Prelude.{Option, Some, None, is_some}
 use mathlib.Core.Path.{◌≡◌, refl, sym, ap, subst, ◌∙◌}
 use mathlib.Core.Bool.{Bool, true, false}
-use mathlib.Core.List.{List}
+use mathlib.Core.List.{List, []}
 use Prim.Native.Nat.{ℕ, ◌+◌, ◌-◌, ◌≤◌}
 use native.Mathlib.Omega.{arith}
 use lib.ListN.{length, take, drop}
@@ -12,9 +12,9 @@ use Rattle.spec.proofs.ListLaws.{drop_end_le}
 use Rattle.spec.proofs.RefusalBounds.{bytes_length}
 use Rattle.spec.proofs.WalkLaws.{while_take, while_length}
 use Rattle.spec.specs.Bytes.{is_w}
-use Rattle.spec.specs.Lists.{take_while, drop_while, drop_end}
+use Rattle.spec.specs.Lists.{is_empty, keep, take_while, drop_while, drop_end}
 use Rattle.spec.specs.Map.{Marked, bytes, of_byte}
-use Rattle.spec.specs.Search.{first}
+use Rattle.spec.specs.Search.{first, first_from, pieces, pieces_from}
 use Rattle.spec.specs.Parts.{trim, trim_end, part}
 use Rattle.spec.specs.Declarations.{requoted_default, words, declared_of, default_here, part_at, declaration, one_if}
 use Rattle.runs.specs.Places.{piece_at}
@@ -171,3 +171,13 @@ pub bytes_read : (m : List Marked) (ys : List ℕ) (from to start end : ℕ) (c 
     → c ≡ cut_in (part start end m)
     → declaration (part from to m) ≡ read_of (bytes m) p
 bytes_read m ys from to start end c k p e l cut = part_read m from to start end c k p (subst (λ zs. Places zs from to start end c k p) e l) cut
+
+-- W alone declares nothing
+pub blank_read : (m : List Marked) (ys : List ℕ) (from to start : ℕ) → ys ≡ bytes m → start ≡ from + length (take_while is_w (part from to ys)) → start ≡ to
+    → declaration (part from to m) ≡ None
+unfolding declaration trim trim_end part_at drop_end first first_from words keep pieces pieces_from declared_of is_empty
+blank_read m ys from to start e s z =
+    let at : front_end is_w (bytes m) from to ≡ to = rw e at (sym s ∙ z) in
+    let none : to - to ≡ 0 = omega arith in
+    let d : drop_while (of_byte is_w) (part from to m) ≡ [] = skipped m from to is_w ∙ rw (at, none) refl in
+    rw d refl

@@ -219,6 +219,17 @@ pub fn read_part(text: &MappedText<'_>, from: usize, to: usize) -> DeclarationPl
 {
     let bytes = text.text();
     let start = run_end_between(bytes, Set::W, from, to);
+    // W alone declares nothing, and there is nothing in it to look for.
+    if start == to {
+        let nothing = Place { at: to, len: 0 };
+        return DeclarationPlaces {
+            name: nothing,
+            kind: nothing,
+            value: None,
+            constant: false,
+            not_null: false,
+        };
+    }
     let end = trim_end(bytes, start, to);
     let cut = find_default(&text.part(start, end));
     let head = start + cut.head;

@@ -136,16 +136,24 @@ pub fn put_part(records: &mut Records, k: usize, front: usize, p: DeclarationPla
     put_numbers(records, k, numbers);
 }
 
+// Whether a and b are the same bytes. Names of one hash may share their front, so the lengths and the last bytes are compared first.
+#[tactic(auto, using(declared_parts::proofs::DeclaredNameLaws::same_of_library))]
+fn is_same(a: &[u8], b: &[u8]) -> bool
+    ensures { result ≡ is_same a.now b.now }
+{
+    a.len() == b.len() && a.last() == b.last() && a == b
+}
+
 // Whether record k has this name; the hashes tell most names apart. The name and its hash are two arguments: the hash is made once
 // for the walk over the records, and a struct of the two would need an invariant for that one walk.
-#[tactic(auto, using(crate::proofs::GatherLaws::other_hash, declared_parts::proofs::DeclaredNameLaws::same_of_library))]
+#[tactic(auto, using(crate::proofs::GatherLaws::other_hash))]
 fn is_named(text: &[u8], records: &Records, k: usize, name: &[u8], hash: usize) -> bool
     requires k_bound { k ≤ 512 }
     requires hash_value { hash ≡ name_hash name.now }
     requires hash_in { HashIn text.now records.now k }
     ensures { result ≡ is_same name.now (record_in text.now records.now k).name }
 {
-    number(records, k, NEXT) == hash && name == name_of(text, records, k)
+    number(records, k, NEXT) == hash && is_same(name, name_of(text, records, k))
 }
 
 // How many records stand ahead of the first one of this name, all if none has it. No Option: a new record's place is the first free

@@ -45,6 +45,17 @@ store_part d vs u n m fits h e k f =
     let whole : vs ≡ u ++ drop fits vs = rw f (sym (take-append-drop fits vs)) in
     ap (sets d n) whole ∙ (sets_append u (drop fits vs) d n ∙ (rest ∙ stored))
 
+-- a list is stored item by item from index n on, and j items are stored in d': a turn stores the next one, as far as there is room
+module _ (d d' vs : List ℕ) (n j : ℕ) where
+  pub stored_turn : sets d n vs ≡ sets d' (n + j) (drop j vs) → j < length vs
+      → sets d n vs ≡ sets (set d' (n + j) (get_or vs j 0)) (n + (j + 1)) (drop (j + 1) vs)
+  stored_turn e h =
+      let x = get_or vs j 0 in
+      e ∙ sets_more d' (set d' (n + j) x) (drop j vs) (x ∷ []) (drop (j + 1) vs) (n + j) (n + (j + 1)) (drop_more vs j 0 h) refl (omega arith)
+
+  pub stored_end : sets d n vs ≡ sets d' (n + j) (drop j vs) → length vs ≤ j → d' ≡ sets d n vs
+  stored_end e h = sym (e ∙ rw (drop_of_length-le vs h) refl)
+
 -- what calls that give x and change nothing have given
 pub all_same : {F A : Type 0} (step : F → A → F → Type 0) (x : A) (f : F)
     → ((y : A) (next : F) → step f y next → (next ≡ f) × (y ≡ x))

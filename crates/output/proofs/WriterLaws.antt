@@ -85,6 +85,10 @@ pub record Left (old : Writer) (text : List ℕ) (now : Writer) (rest : List ℕ
 pub left_start : (w : Writer) (text : List ℕ) → Left w text w text
 left_start w text = record { same = refl; stores = refl; counts = refl }
 
+-- the buffer keeps its length
+pub left_kept : {a b : Writer} (text r : List ℕ) → Left a text b r → length b.out.now ≡ length a.out.now
+left_kept {a} {b} text r l = sym (length-sets b.out.now b.len r) ∙ (ap length (sym l.stores) ∙ length-sets a.out.now a.len text)
+
 -- the front of what is left is written
 pub left_more : {a b c : Writer} (text r u v : List ℕ) → Left a text b r → r ≡ u ++ v → Wrote b u c → Left a text c v
 left_more {a} {b} text r u v l e p =
@@ -116,7 +120,7 @@ left_all text r l p =
 
 -- a text that is written whole, and counted
 pub within_text : {a b : Writer} (u : List ℕ) (r : Result ⊤ Refusal) → Wrote a u b → r ≡ checked b.len → WroteWithin a u b r
-within_text u r p e = record { same = p.same; answer = e ∙ ap checked p.count; wrote = λ _. p }
+within_text u r p e = record { same = p.same; kept = wrote_length u p; answer = e ∙ ap checked p.count; wrote = λ _. p }
 
 pub within_same : {a b : Writer} (u v : List ℕ) (r : Result ⊤ Refusal) → u ≡ v → WroteWithin a u b r → WroteWithin a v b r
 within_same u v r e p = rw e at p
@@ -127,6 +131,7 @@ within_then {a} {b} u v r p q =
     let k : b.len + length v ≡ a.len + length (u ++ v) = omega (arith, p.count, length-append u v) in
     record {
       same = q.same ∙ p.same;
+      kept = q.kept ∙ wrote_length u p;
       answer = q.answer ∙ ap checked k;
       wrote = λ h. wrote_then u v p (q.wrote (omega arith));
     }
@@ -138,13 +143,14 @@ left_within {a} {b} text r l e h =
     within_text text (Ok tt) p (sym (checked_within b.len h))
 
 -- it is too long already
-pub left_over : {a b c : Writer} (text r : List ℕ) (q : Refusal) → c.out.ghost_name ≡ a.out.ghost_name → Left a text b r → Err q ≡ checked b.len → WroteWithin a text c (Err q)
-left_over {a} {b} text r q n l e =
+pub left_over : {a b c : Writer} (text r : List ℕ) (q : Refusal) → c.out.ghost_name ≡ a.out.ghost_name → length c.out.now ≡ length a.out.now → Left a text b r → Err q ≡ checked b.len → WroteWithin a text c (Err q)
+left_over {a} {b} text r q n h l e =
     let k = checked_err b.len q e in
     record {
       same = n;
+      kept = h;
       answer = ap Err k.0 ∙ sym (checked_beyond (a.len + length text) (omega (arith, l.counts, k)));
-      wrote = λ h. absurd (omega (arith, l.counts, k));
+      wrote = λ small. absurd (omega (arith, l.counts, k));
     }
 
 -- the front of what is left is written, within the buffer
@@ -161,6 +167,7 @@ left_stopped {a} {b} text r u v q l e p =
     let w : 65536 < a.len + length text = omega (arith, k, l.counts, ap length e, length-append u v) in
     record {
       same = p.same ∙ l.same;
+      kept = p.kept ∙ left_kept text r l;
       answer = ap Err k.0 ∙ sym (checked_beyond (a.len + length text) w);
       wrote = λ h. absurd (omega arith);
     }
@@ -170,6 +177,7 @@ pub left_rest : {a b c : Writer} (text r : List ℕ) (q : Result ⊤ Refusal) �
 left_rest text r q l p =
     record {
       same = p.same ∙ l.same;
+      kept = p.kept ∙ left_kept text r l;
       answer = p.answer ∙ ap checked (sym l.counts);
       wrote = λ h. left_all text r l (p.wrote (omega (arith, l.counts)));
     }

@@ -31,8 +31,9 @@ pub record Wrote (old : Writer) (text : List ℕ) (new : Writer) : Type 0 where
   pub holds : new.out.now ≡ sets old.out.now old.len text
   pub count : new.len ≡ old.len + length text
 
--- the same of a writer that refuses by 6 past 65536
+-- the same of a writer that refuses by 6 past 65536; the buffer keeps its length then too
 pub record WroteWithin (old : Writer) (text : List ℕ) (new : Writer) (r : Result ⊤ Refusal) : Type 0 where
   pub same : new.out.ghost_name ≡ old.out.ghost_name
+  pub kept : length new.out.now ≡ length old.out.now
   pub answer : r ≡ checked (old.len + length text)
   pub wrote : old.len + length text ≤ 65536 → Wrote old text new

@@ -119,14 +119,18 @@ impl<'a> Writer<'a> {
 }
 
 // src at offset n, as far as the buffer reaches. By a buffer and an offset: the count, which is what a writer adds to them,
-// moves by the length of src whether it fits or not.
-#[tactic(auto, using(crate::proofs::StoreLaws::store_part, crate::proofs::StoreLaws::sets_out))]
+// moves by the length of src whether it fits or not. A byte at a time, with the test in the loop: a copy of a part is compiled to
+// calls of the C library's `memcpy` and `memmove`, which the static library would then need.
+#[tactic(auto, using(crate::proofs::StoreLaws::sets_out, crate::proofs::StoreLaws::stored_turn, crate::proofs::StoreLaws::stored_end, crate::proofs::StoreLaws::store_laws))]
 fn store(out: &mut [u8], n: usize, src: &[u8])
     ensures { out.new ≡ sets out.old n src.now }
 {
     if n < out.len() {
-        let fits = src.len().min(out.len() - n);
-        out[n..n + fits].copy_from_slice(&src[..fits]);
+        for i in 0..src.len() {
+            if n + i < out.len() {
+                out[n + i] = src[i];
+            }
+        }
     }
 }
 

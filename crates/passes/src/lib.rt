@@ -12,7 +12,7 @@ ghost use Rattle.spec.specs.Raise.{action_of};
 
 use assignments::transform_assignments;
 use elsif::transform_elsif;
-use output::{BUFFER_SIZE, fill, within_buffer};
+use output::{BUFFER_SIZE, Writer, fill, within_buffer};
 use quotes::quotes_mapped;
 use raise::transform_raise_statements;
 use requote::requote;
@@ -23,12 +23,15 @@ use spec::{Accepted, Actions, Refusal, RefusalNumbers};
 // The bytes of a lent buffer that a call fills.
 type Buffer = [u8; BUFFER_SIZE];
 
-// The k bytes at the front of `from` go to the front of `out`.
+// The k bytes at the front of `from` go to the front of `out`. By a writer: `copy_from_slice` would be a call of the C library, for the
+// reason at `output::store`.
+#[tactic(auto, using(output::proofs::WriterLaws::wrote_front, output::proofs::StoreLaws::front_stored))]
 fn copy_front(out: &mut Buffer, from: &Buffer, k: usize)
     requires { k ≤ 65536 }
     ensures { take k out.new ≡ take k from.now }
 {
-    out[..k].copy_from_slice(&from[..k]);
+    let mut written = Writer::new(out);
+    written.put_all(&from[..k]);
 }
 
 // How many bytes the output holds with this answer.

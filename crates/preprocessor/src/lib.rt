@@ -2,7 +2,7 @@
 // what they hand the buffers on to take them so.
 #![tactic(auto)]
 
-ghost use Rattle.std.specs.Prelude.{◌≡◌, ◌&&◌, [], ◌≤◌, leb, length};
+ghost use Rattle.std.specs.Prelude.{◌≡◌, ◌&&◌, [], ◌≤◌, leb, length, Err};
 ghost use Rattle.spec.specs.Levels.{table_of, no_table};
 ghost use Rattle.spec.specs.Answers.{zeroed_to, function_result, by_table, body_check, body_answer, body_output, work_exit, function_check, function_answer, function_output, function_text, function_records};
 ghost use Rattle.preprocessor.specs.AnswerRecords.{passed, sizes_of, with_records, if_accepted};
@@ -159,6 +159,34 @@ fn run_function(
     with_records(r, sizes.records)
 }
 
+// The function call that refuses by its table, before the function is looked at any further: zeros in all that a call fills.
+fn refuse_function(
+    text: &[u8],
+    refusal: Refusal,
+    output: &mut [u8],
+    work: &mut [u8],
+    spare: &mut [u8],
+    declared: &mut [u8],
+    records: &mut [u32],
+) -> Result<Accepted, Refusal>
+    requires text_len_bound { length text.now ≤ 16384 }
+    requires output_in_bounds { 65536 ≤ length output.old }
+    requires work_in_bounds { 65536 ≤ length work.old }
+    requires spare_in_bounds { 65536 ≤ length spare.old }
+    requires declared_in_bounds { 65536 ≤ length declared.old }
+    requires records_in_bounds { 5130 ≤ length records.old }
+    ensures value { result ≡ Err refusal }
+    ensures output_after { output.new ≡ zeroed_to 65536 [] output.old }
+    ensures work_after { work.new ≡ zeroed_to 65536 [] work.old }
+    ensures spare_after { spare.new ≡ zeroed_to 65536 [] spare.old }
+    ensures declared_after { declared.new ≡ zeroed_to 65536 [] declared.old }
+    ensures records_after { records.new ≡ zeroed_to 5130 [] records.old }
+{
+    fill(declared, 0, BUFFER_SIZE, 0);
+    fill(records, 0, RECORD_NUMBERS, 0);
+    run_body(text, Err(refusal), output, work, spare)
+}
+
 // The function call with what a table says, once it is read.
 #[tactic(auto, using(crate::proofs::LentLaws::function_lent), unfolding(spec::specs::Answers::function_answer, spec::specs::Answers::function_output, spec::specs::Answers::function_text, spec::specs::Answers::function_records, spec::specs::Answers::work_exit, spec::specs::Answers::function_check, spec::specs::Answers::are_lent, spec::specs::Answers::text_limit, spec::specs::Body::buffer_size, spec::specs::Declarations::record_numbers, spec::specs::Declarations::record_width, spec::specs::Declarations::record_limit))]
 fn preprocess_by_table(
@@ -185,7 +213,10 @@ fn preprocess_by_table(
         records.len(),
     );
     check_texts(TEXT_LIMIT, enough, text, b"")?;
-    run_function(text, table, output, work, spare, declared, records)
+    match table {
+        Ok(_) => run_function(text, table, output, work, spare, declared, records),
+        Err(refusal) => { refuse_function(text, refusal, output, work, spare, declared, records) }
+    }
 }
 
 // The function call: the declarations' records, and the five passes over the body. The output holds the result and then

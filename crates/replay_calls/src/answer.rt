@@ -1,6 +1,6 @@
 // A line `b` or `f` with NUMBER PLACE LENGTH RECORDS: the body call or the function call is made, with a table of levels if the
 // letter is a capital, and its numbers and all lent buffers are compared with what they must be.
-use crate::call::{Buffers, Call, Given, Lent};
+use crate::call::{Buffers, Call, Given, Lent, MoreBuffers};
 use spec::{Accepted, Refusal};
 use stored_list::{Fault, Mark, Numbers, expected, inject, is_filled, is_marked};
 
@@ -80,15 +80,15 @@ fn are_left(untouched: bool, buffers: &Buffers, lent: Lent, results: Results<'_>
 }
 
 // Whether those that the function call takes besides are as they must be.
-fn are_more_left(untouched: bool, buffers: &Buffers, lent: Lent, results: Results<'_>) -> bool {
+fn are_more_left(untouched: bool, more: &MoreBuffers, lent: Lent, results: Results<'_>) -> bool {
     is_left(
-        &buffers.declared,
+        &more.declared,
         lent.declared,
         untouched,
         results.declared,
         SIZE,
     ) && is_left(
-        &buffers.records,
+        &more.records,
         lent.records,
         untouched,
         results.records,
@@ -96,16 +96,44 @@ fn are_more_left(untouched: bool, buffers: &Buffers, lent: Lent, results: Result
     )
 }
 
-// Changes a place of a buffer.
+// Changes a place of a buffer that both calls take.
 fn inject_all(buffers: &mut Buffers, fault: Option<Fault>) {
     inject(&mut buffers.output, OUTPUT, fault);
     inject(&mut buffers.work, WORK, fault);
     inject(&mut buffers.spare, SPARE, fault);
-    inject(&mut buffers.declared, DECLARED, fault);
-    inject(&mut buffers.records, RECORDS, fault);
 }
 
-// The call of a line, and whether its answer is the line's and its buffers are as they must be, after a place was changed.
+// Changes a place of one that the function call takes besides.
+fn inject_more(more: &mut MoreBuffers, fault: Option<Fault>) {
+    inject(&mut more.declared, DECLARED, fault);
+    inject(&mut more.records, RECORDS, fault);
+}
+
+// The function call of a line if there are more buffers for it, or else the body call, and whether its answer is the line's and its
+// buffers are as they must be, after a place was changed.
+fn agrees_with(
+    mut more: Option<&mut MoreBuffers>,
+    line: &[u8],
+    given: Given<'_>,
+    results: Results<'_>,
+    fault: Option<Fault>,
+) -> bool {
+    let mut buffers = Buffers::marked();
+    let answer = buffers.rewrite(more.as_deref_mut(), given);
+    inject_all(&mut buffers, fault);
+    let untouched = writes_nothing(answer);
+    expected(line, NUMBERS) == Some(answer.map_or(NO_CALL, |answer| answer.into()))
+        && are_left(untouched, &buffers, given.lent, results)
+        && match more {
+            Some(more) => {
+                inject_more(more, fault);
+                are_more_left(untouched, more, given.lent, results)
+            }
+            None => true,
+        }
+}
+
+// The same for the call of a line, with more buffers if it takes them.
 pub fn agrees(
     call: Call,
     line: &[u8],
@@ -113,14 +141,11 @@ pub fn agrees(
     results: Results<'_>,
     fault: Option<Fault>,
 ) -> bool {
-    let mut buffers = Buffers::marked();
-    let answer = buffers.rewrite(call, given);
-    inject_all(&mut buffers, fault);
-    let untouched = writes_nothing(answer);
-    expected(line, NUMBERS) == Some(answer.map_or(NO_CALL, |answer| answer.into()))
-        && are_left(untouched, &buffers, given.lent, results)
-        && match call {
-            Call::Body => true,
-            Call::Function => are_more_left(untouched, &buffers, given.lent, results),
+    match call {
+        Call::Body => agrees_with(None, line, given, results, fault),
+        Call::Function => {
+            let mut more = MoreBuffers::marked();
+            agrees_with(Some(&mut more), line, given, results, fault)
         }
+    }
 }

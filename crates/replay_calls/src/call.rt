@@ -27,14 +27,28 @@ pub struct Given<'a> {
     pub lent: Lent,
 }
 
-// The buffers that the body call is lent, and two more for the function call.
+// The buffers that both calls are lent.
 #[derive(Drop)]
 pub struct Buffers {
     pub output: [u8; TEXT_BYTES],
     pub work: [u8; TEXT_BYTES],
     pub spare: [u8; TEXT_BYTES],
+}
+
+// Those that the function call is lent besides. None are made for a body call: to mark them takes as long as to mark the others.
+#[derive(Drop)]
+pub struct MoreBuffers {
     pub declared: [u8; TEXT_BYTES],
     pub records: [u32; START_NUMBERS],
+}
+
+impl MoreBuffers {
+    pub fn marked() -> MoreBuffers {
+        MoreBuffers {
+            declared: marked(),
+            records: marked(),
+        }
+    }
 }
 
 impl Buffers {
@@ -43,25 +57,28 @@ impl Buffers {
             output: marked(),
             work: marked(),
             spare: marked(),
-            declared: marked(),
-            records: marked(),
         }
     }
 
-    // The call, with the table if there is one; none if more is lent than there is.
-    pub fn rewrite(&mut self, call: Call, given: Given<'_>) -> Option<Result<Accepted, Refusal>> {
+    // The function call if there are more buffers, or else the body call, with the table if there is one; none if more is lent than
+    // there is.
+    pub fn rewrite(
+        &mut self,
+        more: Option<&mut MoreBuffers>,
+        given: Given<'_>,
+    ) -> Option<Result<Accepted, Refusal>> {
         let Given { text, table, lent } = given;
         let output = self.output.get_mut(..lent.output)?;
         let work = self.work.get_mut(..lent.work)?;
         let spare = self.spare.get_mut(..lent.spare)?;
-        if matches!(call, Call::Body) {
+        let Some(more) = more else {
             return Some(match table {
                 Some(table) => transform_body_by_levels(text, table, output, work, spare),
                 None => transform_body(text, output, work, spare),
             });
-        }
-        let declared = self.declared.get_mut(..lent.declared)?;
-        let records = self.records.get_mut(..lent.records)?;
+        };
+        let declared = more.declared.get_mut(..lent.declared)?;
+        let records = more.records.get_mut(..lent.records)?;
         Some(match table {
             Some(table) => {
                 preprocess_by_levels(text, table, output, work, spare, declared, records)

@@ -167,35 +167,35 @@ impl<'a> MappedText<'a> {
             && !is_word_byte(byte_at(self.text, i + n))
     }
 
-    // Whether `word` stands live at i, in any letter case, with no byte that passes the test on either side; `before` is the byte before.
-    #[tactic(auto, using(spec::proofs::MapLaws::marked_length, std::proofs::lemmas::List::take_rest, crate::proofs::ByteLaws::live_marked, crate::proofs::KeywordLaws::word_here_lem, crate::proofs::KeywordLaws::prefix_fits))]
-    fn stands_apart<F: Fn(u8) -> bool>(&self, word: &[u8], before: u8, i: usize, test: F) -> bool
+    // Whether `word` stands live at i, in any letter case, with no byte that passes the test on either side. Most places fail at the
+    // comparison.
+    #[tactic(auto, using(spec::proofs::MapLaws::marked_length, std::proofs::lemmas::List::take_rest, crate::proofs::ByteLaws::live_marked, crate::proofs::KeywordLaws::word_here_lem, crate::proofs::KeywordLaws::prefix_fits, crate::proofs::KeywordLaws::byte_behind))]
+    fn stands_apart<F: Fn(u8) -> bool>(&self, word: &[u8], i: usize, test: F) -> bool
         requires callable { F.IsAlwaysCallable test }
         requires i_in_bounds { i < length self.now }
-        ensures { (f : ℕ → Bool) → ((b : ℕ) (r : Bool) → b < 2 ^ 8 → F.post test b r → r ≡ f b) → result ≡ word_here f word.now before (drop i self.now) }
+        ensures { (f : ℕ → Bool) → ((b : ℕ) (r : Bool) → b < 2 ^ 8 → F.post test b r → r ≡ f b) → result ≡ word_here f word.now (front_byte (reverse (take i self.now))) (drop i self.now) }
     {
-        self.is_live(i)
-            && starts_ignoring_case(&self.text[i..], word)
-            && !test(before)
+        starts_ignoring_case(&self.text[i..], word)
+            && self.is_live(i)
+            && !test(byte_before(self.text, i))
             && !test(byte_at(self.text, i + word.len()))
     }
 
     // Whether `word` stands live at i, as a whole word, in any letter case.
-    #[tactic(auto, using(spec::proofs::MapLaws::marked_length, crate::proofs::KeywordLaws::keyword_by_byte))]
+    #[tactic(auto, unfolding(spec::specs::Search::keyword_here))]
     pub fn keyword_at(&self, word: &[u8], i: usize) -> bool
         requires { i < length self.now }
         ensures { result ≡ keyword_here word.now (reverse (take i self.now)) (drop i self.now) }
     {
-        self.stands_apart(word, byte_before(self.text, i), i, is_word_byte)
+        self.stands_apart(word, i, is_word_byte)
     }
 
     // Whether `word` stands live at i, in any letter case, with no identifier byte on either side.
-    #[tactic(auto, using(spec::proofs::MapLaws::marked_length, crate::proofs::KeywordLaws::byte_behind))]
     pub fn word_at(&self, word: &[u8], i: usize) -> bool
         requires { i < length self.now }
         ensures { result ≡ word_here is_ident word.now (front_byte (reverse (take i self.now))) (drop i self.now) }
     {
-        self.stands_apart(word, byte_before(self.text, i), i, is_ident_byte)
+        self.stands_apart(word, i, is_ident_byte)
     }
 
     // The least place at or after `from` where `word` stands live, as a whole word, in any letter case.
@@ -246,12 +246,14 @@ impl<'a> MappedText<'a> {
     }
 
     // Whether `needle` stands at i, its first byte live.
-    #[tactic(auto, using(spec::proofs::MapLaws::marked_length, std::proofs::lemmas::List::take_rest, crate::proofs::ByteLaws::live_marked, crate::proofs::NeedleLaws::needle_at))]
+    #[tactic(auto, using(spec::proofs::MapLaws::marked_length, std::proofs::lemmas::List::take_rest, crate::proofs::ByteLaws::byte_marked, crate::proofs::ByteLaws::live_marked, crate::proofs::NeedleLaws::needle_at, crate::proofs::NeedleLaws::needle_differs))]
     fn needle_at(&self, needle: &[u8], i: usize) -> bool
-        requires { i < length self.now }
+        requires needle_nonempty { 0 < length needle.now }
+        requires i_in_bounds { i < length self.now }
         ensures { result ≡ needle_here needle.now (reverse (take i self.now)) (drop i self.now) }
     {
-        self.is_live(i) && starts_with(&self.text[i..], needle)
+        // Most places fail here.
+        self.byte(i) == needle[0] && self.is_live(i) && starts_with(&self.text[i..], needle)
     }
 
     // The least place at or after `from` where `needle` stands, its first byte live.
@@ -264,7 +266,8 @@ impl<'a> MappedText<'a> {
         }
         (from..self.len()).find(
             |i|
-                requires { i.now < length self.now }
+                requires needle_nonempty { 0 < length needle.now }
+                requires i_in_bounds { i.now < length self.now }
             { self.needle_at(needle, *i) },
         )
     }

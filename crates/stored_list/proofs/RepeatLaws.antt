@@ -1,12 +1,13 @@
 -- Runs one after the other, and the text of a run. Assumes nothing.
 use mathlib.Core.Path.{◌≡◌, refl, sym, ap, ◌∙◌}
 use mathlib.Core.List.{List, [], ◌++◌}
-use Prim.Native.Nat.{ℕ, ◌+◌, ◌-◌, ◌*◌, ◌≤◌, ◌<◌, min}
+use Prim.Native.Nat.{ℕ, zero, suc, ◌+◌, ◌-◌, ◌*◌, ◌≤◌, ◌<◌, min}
 use native.Mathlib.Omega.{arith}
 use borrow.Author.Tests.{leb-true, leb-false, eq-eqb, ne_eqb}
 use lib.Dec.{leb}
 use lib.ListN.{length, take, drop, take-append-drop}
 use lib.Seq.{sets, length-sets, length-take-le, take_all}
+use Rattle.std.proofs.lemmas.List.{nil_from_length}
 use Rattle.output.proofs.StoreLaws.{sets_append, sets_out, front_stored}
 use Rattle.spec.proofs.Choice.{by}
 use Rattle.spec.proofs.ListLaws.{empty_length}
@@ -23,6 +24,12 @@ module _ (n i : ℕ) (xs : List ℕ) where
   pub repeated_end : n ≤ i → repeated (n - i) xs ≡ []
   unfolding repeated
   repeated_end h = let k : n - i ≡ 0 = omega arith in rw k refl
+
+-- of no bytes there are none, however often
+pub repeated_empty : (n : ℕ) (xs : List ℕ) → length xs ≡ 0 → repeated n xs ≡ []
+unfolding repeated
+repeated_empty zero xs e = refl
+repeated_empty (suc n) xs e = ap (λ (l : List ℕ). l ++ repeated n xs) (nil_from_length xs e) ∙ repeated_empty n xs e
 
 -- ---- the runs of a line
 

@@ -21,15 +21,21 @@ fn append(out: &mut [u8], n: usize, bytes: &[u8]) -> usize
     n + k
 }
 
-// The same, `times` times.
-#[tactic(auto, using(crate::proofs::StoringLaws::storing_list, crate::proofs::StoringLaws::stored_all, crate::proofs::RepeatLaws::repeated_step, crate::proofs::RepeatLaws::repeated_end))]
+// The same, `times` times. A line can name far more turns than the buffer has bytes: those that would change nothing are not made.
+#[tactic(auto, using(crate::proofs::StoringLaws::storing_list, crate::proofs::StoringLaws::stored_all, crate::proofs::StoringLaws::stored_full, crate::proofs::RepeatLaws::repeated_step, crate::proofs::RepeatLaws::repeated_end, crate::proofs::RepeatLaws::repeated_empty))]
 fn append_times(out: &mut [u8], n: usize, bytes: &[u8], times: usize) -> usize
     requires { n ≤ length out.old }
     ensures value { result ≡ min (n + length (repeated times bytes.now)) (length out.old) }
     ensures out_after { out.new ≡ sets out.old n (repeated times bytes.now) }
 {
+    if bytes.is_empty() {
+        return n;
+    }
     let mut at = n;
     for _turn in 0..times {
+        if at == out.len() {
+            return at;
+        }
         at = append(out, at, bytes);
     }
     at

@@ -5,10 +5,10 @@ use native.Mathlib.Omega.{arith}
 use mathlib.Core.Path.{◌≡◌, refl, ap, ◌∙◌}
 use Prim.Native.Nat.{◌-◌, ◌+◌}
 use lib.ListN.{length}
-use Rattle.declared_parts.specs.DeclaredParts.{cut_in}
+use Rattle.declared_parts.specs.DeclaredParts.{cut_in, read_of}
 use Rattle.spec.proofs.RefusalBounds.{bytes_length}
 use Rattle.declared_parts.proofs.BetweenLaws.{between_length}
-use Rattle.declared_parts.proofs.ReadLaws.{bytes_read}
+use Rattle.declared_parts.proofs.ReadLaws.{bytes_read, blank_read}
 use Rattle.declared_parts.proofs.read_part.Goals as goal
 use Rattle.declared_parts.proofs.read_part.Goals.{After-part}
 
@@ -16,6 +16,11 @@ trimmed_length : (c : goal.After-part) → length c.part.result ≡ c.trim_end-e
 trimmed_length c =
     let n = between_length c.args.text.now c.run_end_between-start.result c.trim_end-end.result c.trim_end-end.ensures.in_range.0 (omega arith) in
     omega (arith, ap length c.part.ensures, n)
+
+pub returns-then-start-to-clause-map_value : goal.returns-then-start-to-clause-map_value
+unfolding read_of
+returns-then-start-to-clause-map_value c =
+    blank_read c.args.text.now c.text-bytes.result.now c.args.from c.args.to c.run_end_between-start.result c.text-bytes.ensures c.run_end_between-start.ensures.value c.if-start-to.true
 
 pub returns-clause-map_value : goal.returns-clause-map_value
 returns-clause-map_value c =

@@ -5,7 +5,7 @@ use mathlib.Core.Path.{refl, ap}
 use native.Mathlib.Omega.{arith}
 use Prim.Native.Nat.{◌+◌, ◌^◌, ◌≤◌, ◌<◌}
 use lib.ListN.{length}
-use Rattle.output.proofs.WriterLaws.{Left, left_start, left_over, left_within, checked_ok}
+use Rattle.output.proofs.WriterLaws.{Left, left_start, left_kept, left_over, left_within, checked_ok}
 use Rattle.quotes.proofs.ItemLaws.{parts_length, parts_le}
 use Rattle.spec.specs.SelectInto.{listed}
 use Rattle.set_lines.specs.Lines.{lines_text}
@@ -16,7 +16,7 @@ use Rattle.set_lines.proofs.put_set_lines.Goals.{After-text-in-Some, After-put_b
 pub returns-in_err-check : goal.returns-in_err-check
 returns-in_err-check c =
     let r = err_from_is_err_and c.from_residual.result c.from_residual.ensures.1 in
-    rw (r.1, r.2) (left_over _ _ _ refl (left_start _ _) c.in_err-check.ensures)
+    rw (r.1, r.2) (left_over _ _ _ refl refl (left_start _ _) c.in_err-check.ensures)
 
 pub loop-next-init : goal.loop-next-init
 loop-next-init c =
@@ -85,7 +85,7 @@ pub returns-in_err-check-2 : goal.returns-in_err-check-2
 returns-in_err-check-2 c =
     let r = err_from_is_err_and c.from_residual-in_err-check-2.result c.from_residual-in_err-check-2.ensures.1 in
     let l = left (goal.at.returns-in_err-check-2 c).After-put_break in
-    rw (r.1, r.2) (left_over _ _ _ l.same l c.in_err-check-2.ensures)
+    rw (r.1, r.2) (left_over _ _ _ l.same (left_kept _ _ l) l c.in_err-check-2.ensures)
 
 pub returns : goal.returns
 returns c =
