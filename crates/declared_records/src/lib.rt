@@ -136,12 +136,13 @@ pub fn put_part(records: &mut Records, k: usize, front: usize, p: DeclarationPla
     put_numbers(records, k, numbers);
 }
 
-// Whether a and b are the same bytes. Names of one hash may share their front, so the lengths and the last bytes are compared first.
+// Whether a and b are the same bytes. Names of one hash may share their front and some bytes at their end, so the last four bytes are
+// compared first.
 #[tactic(auto, using(declared_parts::proofs::DeclaredNameLaws::same_of_library))]
 fn is_same(a: &[u8], b: &[u8]) -> bool
     ensures { result ≡ is_same a.now b.now }
 {
-    a.len() == b.len() && a.last() == b.last() && a == b
+    a.last_chunk::<4>() == b.last_chunk::<4>() && a == b
 }
 
 // Whether record k has this name; the hashes tell most names apart. The name and its hash are two arguments: the hash is made once

@@ -58,7 +58,7 @@ impl<'a> Writer<'a> {
         requires { self.old.len + length src.now < 2 ^ 63 }
         ensures { Wrote self.old src.now self.new }
     {
-        // Many texts are one byte, which needs no call of a copy.
+        // Many texts are one byte, which needs no loop.
         if let [b] = src {
             self.put(*b);
         } else {
