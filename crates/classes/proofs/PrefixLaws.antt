@@ -6,6 +6,7 @@ use Rattle.std.specs.Prelude.{nat_eq}
 use borrow.Author.Tests.{eqb-true, eqb-false, eq-eqb, ne_eqb}
 use Rattle.std.specs.List.{starts_with}
 use Rattle.spec.proofs.Choice.{by}
+use Rattle.spec.proofs.SpanLaws.{prefix_len}
 use Rattle.spec.specs.Bytes.{is_prefix}
 
 pub eqb_flip : (a b : ℕ) → eqb a b ≡ eqb b a
@@ -23,10 +24,7 @@ is_prefix_of_library (a ∷ p) (x ∷ xs) = rw (eqb_flip x a, is_prefix_of_libra
 
 -- a prefix is no longer than the text
 pub prefix_too_long : (p xs : List ℕ) → length xs < length p → is_prefix p xs ≡ false
-unfolding is_prefix
-prefix_too_long [] xs h = absurd (omega arith)
-prefix_too_long (a ∷ p) [] h = refl
-prefix_too_long (a ∷ p) (x ∷ xs) h = by (eqb x a) (λ e. rw (e, prefix_too_long p xs (omega arith)) refl) (λ e. rw e refl)
+prefix_too_long p xs h = by (is_prefix p xs) (λ e. absurd (omega (arith, prefix_len p xs e))) (λ e. e)
 
 -- of a text that is long enough, it is the library's equality with the front
 pub prefix_of_equal : (p xs : List ℕ) → length p ≤ length xs → is_prefix p xs ≡ pointwise nat_eq (take (length p) xs) p

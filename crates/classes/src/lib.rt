@@ -79,7 +79,7 @@ pub fn byte_before(text: &[u8], i: usize) -> u8
     i.checked_sub(1).map_or(0, |j| byte_at(text, j))
 }
 
-// Whether `pat` stands at the front of `text`. `==` tests the first bytes without a call, which the library's `starts_with` does not.
+// Whether `pat` stands at the front of `text`. By `==`, which tests the first bytes before it calls anything; most places fail there.
 #[tactic(auto, using(crate::proofs::PrefixLaws::prefix_too_long, crate::proofs::PrefixLaws::prefix_of_equal))]
 pub fn starts_with(text: &[u8], pat: &[u8]) -> bool
     ensures { result ≡ is_prefix pat.now text.now }

@@ -35,7 +35,7 @@ pub struct Buffers {
     pub spare: [u8; TEXT_BYTES],
 }
 
-// Those that the function call is lent besides. None are made for a body call: to mark them takes as long as to mark the others.
+// Those that the function call is lent besides. None are made for a body call: they are as many bytes as the others.
 #[derive(Drop)]
 pub struct MoreBuffers {
     pub declared: [u8; TEXT_BYTES],

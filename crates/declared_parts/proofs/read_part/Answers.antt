@@ -1,6 +1,6 @@
 -- `declared_parts::read_part` meets its contract. `bytes_read` proves the reading from what the calls ensure: where the
 -- part, its name, its type and its default begin and end. `trimmed_length` says how long the trimmed part is, which what
--- stands ahead of the default is within. Assumes nothing.
+-- stands ahead of the default is within. That W alone declares nothing is `blank_read`. Assumes nothing.
 use native.Mathlib.Omega.{arith}
 use mathlib.Core.Path.{◌≡◌, refl, ap, ◌∙◌}
 use Prim.Native.Nat.{◌-◌, ◌+◌}

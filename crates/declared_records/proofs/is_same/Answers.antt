@@ -1,17 +1,16 @@
 -- `declared_records::is_same` meets its contract: the same bytes have the same last four, or fewer than four. Assumes nothing.
-use Rattle.std.proofs.Common.{◌≡◌, refl, sym, ap, ◌∙◌, ℕ, ◌-◌, ◌≤◌, ◌<◌, Bool, true, false, nat_eq, List, [], ◌∷◌, length, drop, arith}
+use Rattle.std.proofs.Common.{◌≡◌, refl, sym, ◌∙◌, ℕ, ◌-◌, ◌≤◌, ◌<◌, Bool, true, nat_eq, List, length, drop, arith}
 use Rattle.std.specs.Borrow.{Bor}
 use Rattle.std.specs.Cmp.Lexicographic.{pointwise}
 use Rattle.std.specs.Prelude.{Option, Some, None, MatchOption}
 use Rattle.std.specs.Option.{option_eq}
 use mathlib.Core.Bool.{false≢true}
-use borrow.Author.Tests.{eq-eqb}
-use Rattle.declared_parts.proofs.DeclaredNameLaws.{not_same}
+use Rattle.declared_parts.proofs.DeclaredNameLaws.{not_same, same_of_library}
+use Rattle.spec.proofs.NameOrder.{same_refl}
 use Rattle.declared_records.proofs.is_same.Goals as goal
 
 pointwise_self : (u : List ℕ) → pointwise nat_eq u u ≡ true
-pointwise_self [] = refl
-pointwise_self (a ∷ u) = rw (eq-eqb a a refl, pointwise_self u) refl
+pointwise_self u = sym (same_of_library u u) ∙ same_refl u
 
 -- both are the last four bytes of x, if it has as many
 same_last : (f : List ℕ → List ℕ → Bool) → ((u : List ℕ) → f u u ≡ true) → (x : List ℕ) (W : Bor (List ℕ) → Type 0)
